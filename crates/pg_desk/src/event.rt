@@ -1,0 +1,78 @@
+//! One event of the core is one call of a desk or an engine, with its arguments and its answer.
+
+use bytes::Bytes;
+use pg_types::{Blob, List};
+use pg_wire::BackendMessages;
+
+/// Which command of which handle booked a request, and at which turn. All count from 0.
+#[derive(Clone, Copy, Debug, PartialEq, Eq, Drop)]
+pub struct Stamp {
+    pub owner: u32,
+    pub command: u32,
+    pub turn: u64,
+}
+
+/// A request that was booked: its stamp, and the bytes that go out for it, part by part.
+#[derive(Drop)]
+pub struct Booking {
+    pub stamp: Stamp,
+    pub parts: List<Blob>,
+}
+
+/// Why a call of a desk or an engine is refused.
+#[derive(Clone, Copy, Debug, PartialEq, Eq, Drop)]
+pub enum DeskFault {
+    /// The hub takes no requests any more.
+    Closed,
+    /// A counter is at its last value.
+    Encode,
+    OutOfMemory,
+}
+
+/// What the reader of a request is given.
+#[derive(Drop)]
+pub enum Take {
+    Batch(BackendMessages),
+    /// Nothing has come that wasn't taken.
+    Empty,
+    /// The reply has ended, and all of it was taken.
+    Over,
+    /// The request isn't booked, is hung up, or its hub has failed.
+    Gone,
+}
+
+/// What goes out next.
+#[derive(Drop)]
+pub enum Out {
+    Part(Bytes),
+    /// The next request is a copy that isn't ended, and no part of it waits.
+    CopyWaits,
+    Nothing,
+    /// All has gone out and was answered, and nothing more will be booked.
+    NoMore,
+}
+
+/// What became of a batch that was delivered. Every refusal hands it back.
+#[derive(Drop)]
+pub enum Deliver {
+    Taken,
+    /// Two batches wait for the reader.
+    Full(BackendMessages),
+    /// No request is open.
+    NoRequest(BackendMessages),
+    OutOfMemory(BackendMessages),
+}
+
+/// A call with its arguments and its answer.
+#[derive(Drop)]
+pub enum Event {
+    Book(Stamp, Bytes, bool, Result<u64, DeskFault>),
+    Take(u64, Result<Take, DeskFault>),
+    HangUp(u64, Result<(), DeskFault>),
+    NextStatement(Result<u32, DeskFault>),
+    NextPortal(Result<u32, DeskFault>),
+    NextOut(Result<Out, DeskFault>),
+    Deliver(BackendMessages, bool, Deliver),
+    CloseRequests(Result<(), DeskFault>),
+    Fail(Result<(), DeskFault>),
+}

@@ -1,0 +1,9 @@
+//! The hub as its users see it: its calls as events, the traits whose meaning is a relation by lists of
+//! events, and what such a list stands for.
+#![tactic(auto)]
+
+mod desk_trait;
+mod event;
+
+pub use desk_trait::{Desk, Engine};
+pub use event::{Booking, Deliver, DeskFault, Event, Out, Stamp, Take};

@@ -1,0 +1,12 @@
+-- Faults of the wire as errors: want of memory stays want of memory.
+use Rattle.pg_wire.specs.declared.fault.WireFault.{WireFault}
+use Rattle.pg_wire.specs.declared.fault.WireFault.TheVariants as wire
+use Rattle.pg_errors.specs.declared.cause.Cause.{Cause}
+use Rattle.pg_errors.specs.declared.cause.Cause.TheVariants.{Wire, NotUtf8}
+use Rattle.pg_errors.specs.declared.error.Error.{Error}
+use Rattle.pg_errors.specs.declared.error.Error.TheVariants.{Io, Parse, OutOfMemory}
+
+-- a malformed message, as the error of the command that reads it
+abbrev pub of_wire : WireFault → Error
+of_wire wire.OutOfMemory = OutOfMemory
+of_wire fault = Parse (Wire fault)

@@ -1,0 +1,16 @@
+//! Errors of the client and their causes, errors and notices of the server, and notifications.
+#![tactic(auto)]
+
+mod async_message;
+mod cause;
+mod db_error;
+mod error;
+mod severity;
+mod sql_state;
+
+pub use async_message::{AsyncMessage, Notification};
+pub use cause::{Cause, ScramFault};
+pub use db_error::{DbError, ErrorPosition};
+pub use error::{Error, Source};
+pub use severity::Severity;
+pub use sql_state::SqlState;

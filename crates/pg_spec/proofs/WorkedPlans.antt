@@ -1,0 +1,58 @@
+-- A plan that conforms, and two that don't.
+use Rattle.std.proofs.Common.{◌≡◌, ℕ, zero, suc, ◌+◌, ◌<◌, List, [], refl, subst, sym, ap, arith, codes, length, take, drop}
+use Rattle.std.proofs.lemmas.List.Elements.{All-from_recursion, recursion_from_All}
+use Rattle.std.specs.Prelude.{All, IsTrue, false, ◌||◌}
+use Rattle.std.specs.List.{concat}
+use Rattle.pg_spec.specs.Startup.{Done, used_of}
+use Rattle.std.specs.Str.{is_utf8, chars}
+use lib.Utf8.{encode}
+use Rattle.pg_spec.specs.ConnectionStrings.{only_user}
+use Rattle.pg_spec.specs.Examples.{asked, good_plan, hasty_plan, select_one_sent, with_password, with_password_sent}
+use Rattle.pg_spec.specs.Promises.{Conforms, IsOneReply, dialogue_over}
+use Rattle.pg_spec.specs.RawMessages.{RawMessage, messages, bytes_left, is_async, is_parameter}
+
+only_first : (P : ℕ → Type 0) → P 0 → (i : ℕ) → i < 1 → P i
+only_first P p zero lt = p
+only_first P p (suc i) lt = absurd (omega (arith, lt))
+
+pub conforms : Conforms (asked good_plan) (only_user (codes "a")) good_plan select_one_sent
+unfolding is_utf8 chars encode
+conforms = record {
+  untroubled = refl;
+  entries = omega arith;
+  whole = All-from_recursion (λ entry. bytes_left entry ≡ []) good_plan.entries (refl, (refl, tt));
+  frames = 1;
+  started = (2, refl, All-from_recursion (λ m. IsTrue (is_async m || is_parameter m)) [] tt);
+  each_frame = only_first _ refl;
+  all_frames = refl;
+  replies = All-from_recursion IsOneReply (drop 1 good_plan.entries) ((refl, refl), tt);
+  readable = refl;
+  plain = refl;
+}
+
+-- a message that no request asks for
+abbrev IsAside : RawMessage → Type 0
+IsAside m = IsTrue (is_async m || is_parameter m)
+
+no_reply : IsTrue false → ⊥
+no_reply fact = absurd cc
+
+-- no number of the entries is the startup's: over the first alone two frames are written, and behind the
+-- startup in the first two a reply stands
+by_frames : (frames used : ℕ) → (dialogue_over (asked hasty_plan) with_password hasty_plan frames).outcome ≡ Done used →
+    All IsAside (drop used (messages (concat (take frames hasty_plan.entries)))) →
+    ((i : ℕ) → i < frames → length (dialogue_over (asked hasty_plan) with_password hasty_plan i).frames ≡ i + 1) →
+    length (dialogue_over (asked hasty_plan) with_password hasty_plan frames).frames ≡ frames → ⊥
+unfolding is_utf8 chars encode
+by_frames zero used done aside each all = absurd (omega (arith, all))
+by_frames (suc zero) used done aside each all = absurd (omega (arith, all))
+by_frames (suc (suc zero)) used done aside each all =
+    let behind : List ℕ = concat (take 2 hasty_plan.entries) in
+    let three : used ≡ 3 = ap used_of (sym done) in
+    let asides : All IsAside (drop 3 (messages behind)) = subst (λ k. All IsAside (drop k (messages behind))) three aside in
+    let first = recursion_from_All IsAside (drop 3 (messages behind)) asides in
+    no_reply first.0
+by_frames (suc (suc (suc n))) used done aside each all = absurd (omega (arith, each 2 (omega arith)))
+
+pub not_hasty : Conforms (asked hasty_plan) with_password hasty_plan with_password_sent → ⊥
+not_hasty c = by_frames c.frames c.started.0 c.started.1 c.started.2 c.each_frame c.all_frames

@@ -1,0 +1,206 @@
+-- When a session may answer each failure.
+use Rattle.std.specs.Prelude.{◌≡◌, ◌≢◌, ℕ, ◌≤◌, ◌<◌, ◌⊎◌, Bool, true, false, take, ◌&&◌, ◌||◌, IsTrue, IsFalse, List, [], ◌∷◌, length, count_by, Option, Some, None, is_some, if◌then◌else◌, Result, Ok, Err, IsSome, slice_get, ◌==◌, Contains, ⊤}
+use Rattle.std.specs.List.{concat, list_all}
+use Rattle.std.specs.Str.{byte, is_utf8}
+use Rattle.pg_spec.specs.ConnectionStrings.{Means}
+use Rattle.pg_spec.specs.DbErrors.{db_error_of}
+use Rattle.pg_spec.specs.Faults.{WireFault, BadLength, Cause, Link, Ended, Wire, Fields, NotText, Frame, NoUser, Nonce, NoPassword, NotBuilt, Handshake, Method, Mechanism, BindingRequired, NotAscii, Scram, Syntax, UnknownOption, InvalidValue, Failure, Io, UnexpectedMessage, Tls, Closed, Db, Parse, Encode, Authentication, ConfigParse, Config, Stalled, LimitReached, OutOfMemory}
+use Rattle.pg_spec.specs.Faults as faults
+use Rattle.pg_spec.specs.Frames.{ssl_request}
+use Rattle.pg_spec.specs.Links.{LinkView, Rose, OfBytes}
+use Rattle.pg_spec.specs.Messages.{Message, AuthenticationOk, ReadyForQuery, ErrorResponse, NoticeResponse, NotificationResponse, ParameterStatus, message_of}
+use Rattle.pg_spec.specs.Passwords.{is_nonce_byte}
+use Rattle.pg_spec.specs.RawMessages.{RawMessage, messages, bytes_left, has_bad_header, groups, is_whole_group, is_async, is_parameter}
+use Rattle.pg_spec.specs.Sent.{units, whole_units, said_terminate}
+use Rattle.pg_spec.specs.Report.{Command}
+use Rattle.pg_spec.specs.Settings.{Negotiation, Postgres, Direct, Settings, Require}
+use Rattle.pg_spec.specs.SimpleQuery.{server_error}
+use Rattle.pg_spec.specs.Startup.{Startup, Done, Refused, More, startup, session_part}
+
+-- what a session was asked, and its link before and after
+pub record Call : Type 0 where
+  pub config : List ℕ
+  pub nonce : List ℕ
+  pub scripts : List (List Command)
+  pub turns : List ℕ
+  pub limit : ℕ
+  pub before : LinkView
+  pub after : LinkView
+
+-- a SCRAM nonce of this client: 24 bytes
+abbrev pub is_nonce : List ℕ → Bool
+is_nonce nonce = length nonce == 24 && list_all is_nonce_byte nonce
+
+-- the settings that the text says have P
+abbrev pub WithSettings : Call → (Settings → Type 0) → Type 0
+WithSettings call P = (s : Settings) × Means call.config s × P s
+
+-- P of the settings, and of the bytes given and taken, where the link tells them
+abbrev pub OfDialogue : Call → (Settings → List ℕ → List ℕ → Type 0) → Type 0
+OfDialogue call P = WithSettings call (λ s. OfBytes call.before call.after (P s))
+
+-- how the startup stands after the bytes given
+abbrev pub startup_after : Call → Settings → List ℕ → Startup
+startup_after call s g = startup s call.nonce (messages g)
+
+-- the startup ends so
+abbrev pub InStartup : Failure → Call → Settings → List ℕ → Type 0
+InStartup failure call s g = (startup_after call s g).outcome ≡ Refused failure
+
+-- the messages behind the startup, once it is done
+abbrev pub Behind : Call → Settings → List ℕ → (List RawMessage → Type 0) → Type 0
+Behind call s g P = (used : ℕ) × ((startup_after call s g).outcome ≡ Done used) × P (session_part s call.nonce (messages g))
+
+-- what a message means that comes where no request is open
+abbrev pub unasked : Message → Failure
+unasked (ErrorResponse fields) = server_error fields
+unasked other = UnexpectedMessage
+
+-- the same of a raw message: a malformed one is Parse
+abbrev pub out_of_turn : RawMessage → Failure
+out_of_turn raw = elim (message_of raw) [ Err fault ↦ Parse (Wire fault) | Ok message ↦ unasked message ]
+
+-- the message in front of group j came though at most j requests were sent, and means this failure
+pub record OutOfTurn (failure : Failure) (taken : List ℕ) (later : List RawMessage) : Type 0 where
+  pub before : ℕ
+  pub group : List RawMessage
+  pub first : RawMessage
+  pub stands : slice_get (groups later) before ≡ Some (first ∷ group)
+  pub unasked : length (units taken) ≤ before
+  pub means : out_of_turn first ≡ failure
+
+-- a notice, a notification or a parameter report, which no request asks for, breaks its layout
+abbrev pub AsideBreaks : WireFault → List RawMessage → Type 0
+AsideBreaks fault later = (m : RawMessage) × Contains later m × IsTrue (is_async m || is_parameter m) × (message_of m ≡ Err fault)
+
+-- why such a message can't be read: the fields of a notice, or a text that isn't UTF-8
+abbrev pub aside_fault : Message → Option Cause
+aside_fault (NoticeResponse fields) = if is_some (db_error_of fields) then None else Some Fields
+aside_fault (NotificationResponse process_id channel payload) = if is_utf8 channel && is_utf8 payload then None else Some NotText
+aside_fault (ParameterStatus name value) = if is_utf8 name && is_utf8 value then None else Some NotText
+aside_fault other = None
+
+-- one that was received can't be read, for this cause
+abbrev pub AsideUnreadable : Cause → List RawMessage → Type 0
+AsideUnreadable cause ms = (m : RawMessage) × (message : Message) × Contains ms m × (message_of m ≡ Ok message) × (aside_fault message ≡ Some cause)
+
+-- the input ended inside a message
+abbrev pub EndsInside : List ℕ → Type 0
+EndsInside g = (bytes_left g ≢ []) × IsFalse (has_bad_header (bytes_left g))
+
+-- how many whole groups came
+abbrev pub whole_groups : List RawMessage → ℕ
+whole_groups later = count_by is_whole_group (groups later)
+
+-- Nothing more can come: all that startup writes was taken, or a request was taken whole whose reply isn't.
+abbrev pub IsAwaited : Call → Settings → List ℕ → List ℕ → Type 0
+IsAwaited call s g t =
+    (((startup_after call s g).outcome ≡ More) × (t ≡ concat (startup_after call s g).frames))
+    ⊎ ((t ≡ ssl_request) × (g ≡ []))
+    ⊎ Behind call s g (λ later. whole_groups later < whole_units t)
+
+-- the link had nothing more to give, and what it was to answer was taken
+pub record IsStalled (call : Call) (before after : ℕ) : Type 0 where
+  pub lulls : Rose call.before.lulls call.after.lulls
+  -- the two counts are the link's, in this call
+  pub from : call.before.quiet ≤ before
+  pub to : after ≤ call.after.quiet
+  pub rose : Rose before after
+  pub awaited : IsTrue call.before.steady → (call.after.due ≡ Some []) × OfDialogue call (IsAwaited call)
+
+-- more bytes were given than the limit
+pub record IsPastLimit (call : Call) (given limit : ℕ) : Type 0 where
+  pub asked : limit ≡ call.limit
+  pub more : limit < given
+  pub counted : OfBytes call.before call.after (λ g t. length g ≡ given)
+
+-- why TLS can't be had, over a connector that has none: it is begun at once or after the server's `S`,
+-- and fails; or the server's byte is another
+abbrev pub NoTlsFor : Cause → Negotiation → List ℕ → Type 0
+NoTlsFor cause Direct g = cause ≡ Handshake
+NoTlsFor cause Postgres (b ∷ []) = cause ≡ (if b == byte "S" then Handshake else faults.Refused)
+NoTlsFor cause Postgres other = ⊥
+
+-- what is wrong with a connection string
+abbrev pub IsOfText : Cause → Type 0
+IsOfText Syntax = ⊤
+IsOfText (UnknownOption key) = ⊤
+IsOfText (InvalidValue key) = ⊤
+IsOfText NotText = ⊤
+IsOfText other = ⊥
+
+-- the causes that may stand in each failure, also over a link that tells no bytes: of TLS
+abbrev pub IsOfTls : Cause → Type 0
+IsOfTls faults.Refused = ⊤
+IsOfTls Handshake = ⊤
+IsOfTls other = ⊥
+
+-- of a body
+abbrev pub IsOfBody : Cause → Type 0
+IsOfBody (Wire fault) = ⊤
+IsOfBody Fields = ⊤
+IsOfBody NotText = ⊤
+IsOfBody other = ⊥
+
+-- of a login
+abbrev pub IsOfLogin : Cause → Type 0
+IsOfLogin Method = ⊤
+IsOfLogin Mechanism = ⊤
+IsOfLogin BindingRequired = ⊤
+IsOfLogin NotAscii = ⊤
+IsOfLogin (Scram fault) = ⊤
+IsOfLogin other = ⊥
+
+-- This version reads a connection string of one form only, and a nonce that is in form.
+abbrev pub IsNotBuilt : Call → Type 0
+IsNotBuilt call = (WithSettings call (λ s. ⊤) → ⊥) ⊎ IsFalse (is_nonce call.nonce)
+
+-- the startup messages that this version knows
+abbrev pub is_built_message : Message → Bool
+is_built_message AuthenticationOk = true
+is_built_message (ReadyForQuery status) = true
+is_built_message other = false
+
+-- the same of a raw message
+abbrev pub is_built : RawMessage → Bool
+is_built raw = elim (message_of raw) [ Err fault ↦ false | Ok message ↦ is_built_message message ]
+
+-- the startup's next message is another
+pub record AsksMore (call : Call) (s : Settings) (g : List ℕ) : Type 0 where
+  pub place : ℕ
+  pub message : RawMessage
+  pub stands : slice_get (messages g) place ≡ Some message
+  pub awaited : (startup s call.nonce (take place (messages g))).outcome ≡ More
+  pub other : IsFalse (is_built message)
+
+-- the cause of each failure; no other comes
+abbrev pub HasCause : Call → Failure → Type 0
+HasCause call (ConfigParse cause) = IsOfText cause × ((s : Settings) → Means call.config s → ⊥)
+HasCause call (Config NotBuilt) = IsNotBuilt call ⊎ OfDialogue call (λ s g t. AsksMore call s g)
+HasCause call (Config NoUser) = WithSettings call (λ s. s.user ≡ None)
+HasCause call (Config Nonce) = WithSettings call (λ s. IsSome s.user) × IsFalse (is_nonce call.nonce)
+HasCause call (Config NoPassword) = OfDialogue call (λ s g t. InStartup (Config NoPassword) call s g)
+HasCause call (Tls cause) = IsOfTls cause × OfDialogue call (λ s g t. (s.ssl_mode ≡ Require) × NoTlsFor cause s.ssl_negotiation g)
+HasCause call (Encode (Frame fault)) = OfDialogue call (λ s g t. InStartup (Encode (Frame fault)) call s g)
+HasCause call (Authentication cause) = IsOfLogin cause × OfDialogue call (λ s g t. InStartup (Authentication cause) call s g)
+HasCause call (Db error) = OfDialogue call (λ s g t. InStartup (Db error) call s g ⊎ Behind call s g (OutOfTurn (Db error) t))
+HasCause call UnexpectedMessage = OfDialogue call (λ s g t. InStartup UnexpectedMessage call s g ⊎ Behind call s g (OutOfTurn UnexpectedMessage t))
+HasCause call (Parse cause) = IsOfBody cause × OfDialogue call (λ s g t.
+    InStartup (Parse cause) call s g ⊎ AsideUnreadable cause (messages g) ⊎ Behind call s g (OutOfTurn (Parse cause) t))
+HasCause call (Io Link) = Rose call.before.faults call.after.faults
+HasCause call (Io Ended) = Rose call.before.ends call.after.ends × OfDialogue call (λ s g t. EndsInside g ⊎ ((s.ssl_mode ≡ Require) × (g ≡ [])))
+HasCause call (Io (Wire fault)) = OfDialogue call (λ s g t.
+    ((fault ≡ BadLength) × IsTrue (has_bad_header (bytes_left g)))
+    ⊎ InStartup (Io (Wire fault)) call s g ⊎ Behind call s g (AsideBreaks fault))
+HasCause call Closed = Rose call.before.ends call.after.ends
+    × OfDialogue call (λ s g t. (bytes_left g ≡ []) × IsFalse (said_terminate t))
+HasCause call (Stalled before after) = IsStalled call before after
+HasCause call (LimitReached given limit) = IsPastLimit call given limit
+HasCause call OutOfMemory = ⊤
+HasCause call other = ⊥
+
+-- a result that want of memory alone may replace
+abbrev pub Unless : {R : Type 0} → (Failure → Type 0) → Result R Failure → Type 0
+Unless P (Ok report) = ⊥
+Unless P (Err OutOfMemory) = ⊤
+Unless P (Err failure) = P failure

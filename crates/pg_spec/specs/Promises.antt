@@ -1,0 +1,114 @@
+-- More that a session promises, beside its main theorem: when it must end well, what it sent where it
+-- failed, and that no request is kept back.
+use Rattle.std.specs.Prelude.{◌≡◌, ◌≢◌, ℕ, ◌+◌, ◌≤◌, ◌<◌, ◌⊎◌, Bool, true, false, not, ◌||◌, IsTrue, IsFalse, List, [], ◌∷◌, ◌++◌, length, map, take, drop, filter, filter_map, count_by, Option, Some, None, Result, Ok, Err, All, IsOk, IsSome, is_none, slice_get, ◌==◌, nat_lt, ⊤}
+use Rattle.std.specs.List.{concat, list_all}
+use Rattle.pg_spec.specs.Causes.{Call, OfDialogue, startup_after, is_nonce, aside_fault, is_built}
+use Rattle.pg_spec.specs.ConnectionStrings.{Means}
+use Rattle.pg_spec.specs.Faults.{Failure, OutOfMemory, Stalled}
+use Rattle.pg_spec.specs.Frames.{startup_frame, query_frame, ssl_request, terminate_frame}
+use Rattle.pg_spec.specs.Links.{Plan}
+use Rattle.pg_spec.specs.Messages.{message_of}
+use Rattle.pg_spec.specs.RawMessages.{RawMessage, messages, bytes_left, groups, is_whole_group, is_async, is_parameter}
+use Rattle.pg_spec.specs.Sent.{turns_given, whole_units}
+use Rattle.pg_spec.specs.Book.{Booking, wire}
+use Rattle.pg_spec.specs.Report.{Command, Simple, Report}
+use Rattle.pg_spec.specs.Settings.{Settings, Require, startup_parameters}
+use Rattle.pg_spec.specs.Startup.{Startup, Done, startup}
+
+-- ---- valid input over a conforming link ends well
+
+-- what the caller owes
+pub record IsValid (call : Call) (s : Settings) (plan : Plan) : Type 0 where
+  pub user : IsSome s.user
+  pub nonce : IsTrue (is_nonce call.nonce)
+  pub frame : IsOk (startup_frame (startup_parameters s))
+  pub no_tls : s.ssl_mode ≢ Require
+  pub no_binding : s.channel_binding ≢ Require
+  pub limit : length (concat plan.entries) ≤ call.limit
+
+-- the dialogue over the first entries of the plan
+abbrev pub dialogue_over : Call → Settings → Plan → ℕ → Startup
+dialogue_over call s plan entries = startup s call.nonce (messages (concat (take entries plan.entries)))
+
+-- the messages of an entry are one whole group, and what may stand anywhere
+abbrev pub IsOneReply : List ℕ → Type 0
+IsOneReply entry = (length (groups (messages entry)) ≡ 1) × IsTrue (list_all is_whole_group (groups (messages entry)))
+
+-- a notice, a notification or a parameter report keeps its layout and can be read
+abbrev pub is_readable : RawMessage → Bool
+is_readable raw = elim (message_of raw) [
+  | Ok message ↦ is_none (aside_fault message)
+  | Err fault ↦ not (is_async raw || is_parameter raw)
+]
+
+-- what the server owes: the frames of the startup, `frames` of them, are answered by a startup, and
+-- each later frame that gives it the turn by one reply
+pub record Conforms (call : Call) (s : Settings) (plan : Plan) (taken : List ℕ) : Type 0 where
+  pub untroubled : IsFalse (plan.is_troubled || plan.ends)
+  pub entries : turns_given taken ≤ length plan.entries
+  pub whole : All (λ entry. bytes_left entry ≡ []) plan.entries
+  pub frames : ℕ
+  pub started : (used : ℕ) × ((dialogue_over call s plan frames).outcome ≡ Done used)
+      × All (λ m. IsTrue (is_async m || is_parameter m)) (drop used (messages (concat (take frames plan.entries))))
+  -- each entry but the last ends in the message that the next frame answers, and each frame has its entry
+  pub each_frame : (i : ℕ) → i < frames → length (dialogue_over call s plan i).frames ≡ i + 1
+  pub all_frames : length (dialogue_over call s plan frames).frames ≡ frames
+  -- this version knows the startup's messages
+  pub plain : IsTrue (list_all is_built (take started.0 (messages (concat (take frames plan.entries)))))
+  -- so far as frames were sent, one reply to each
+  pub replies : All IsOneReply (drop frames (take (turns_given taken) plan.entries))
+  pub readable : IsTrue (list_all is_readable (messages (concat plan.entries)))
+
+-- the answer is Ok, or want of memory
+abbrev pub EndsWell : Result Report Failure → Type 0
+EndsWell (Ok report) = ⊤
+EndsWell (Err OutOfMemory) = ⊤
+EndsWell (Err failure) = ⊥
+
+-- valid input over a link that has given nothing yet and conforms ends well
+abbrev pub MustEndWell : Call → Result Report Failure → Type 0
+MustEndWell call result = (plan : Plan) (s : Settings) (taken : List ℕ) →
+    call.before.given ≡ Some [] → call.before.taken ≡ Some [] → call.before.plan ≡ Some plan → call.after.taken ≡ Some taken →
+    Means call.config s → IsValid call s plan → Conforms call s plan taken → EndsWell result
+
+-- ---- what was sent where it failed
+
+-- the one begins the other
+abbrev pub IsFront : List ℕ → List ℕ → Type 0
+IsFront front whole = (rest : List ℕ) × (front ++ rest ≡ whole)
+
+-- the frame of a simple query, where its text isn't refused
+abbrev pub request_frame : Command → Option (List ℕ)
+request_frame (Simple text take) = elim (query_frame text) [ Ok frame ↦ Some frame | Err fault ↦ None ]
+
+-- the requests of each handle are those of its script, from the front
+abbrev pub InScriptOrder : List (List Command) → List Booking → Type 0
+InScriptOrder scripts book = (handle : ℕ) (script : List Command) → slice_get scripts handle ≡ Some script →
+    (later : List (List (List ℕ))) × (map (λ b. b.parts) (filter (λ b. b.stamp.owner == handle) book) ++ later
+    ≡ map (λ frame. frame ∷ []) (filter_map request_frame script))
+
+-- a front of the SSLRequest or of the startup's frames, or, once the startup is done, these and then a
+-- front of requests and Terminate
+pub record SentInOrder (call : Call) (s : Settings) (g t : List ℕ) : Type 0 where
+  pub book : List Booking
+  pub owners : All (λ b. b.stamp.owner < length call.scripts) book
+  pub order : InScriptOrder call.scripts book
+  pub front : IsFront t ssl_request ⊎ IsFront t (concat (startup_after call s g).frames)
+      ⊎ (((used : ℕ) × ((startup_after call s g).outcome ≡ Done used))
+      × IsFront t (concat (startup_after call s g).frames ++ wire book ++ terminate_frame))
+
+-- ---- no request is kept back
+
+-- a simple query without a number, whose text isn't refused
+abbrev pub is_plain : Command → Bool
+is_plain (Simple text None) = elim (query_frame text) [ Ok frame ↦ true | Err fault ↦ false ]
+is_plain (Simple text (Some n)) = false
+
+-- over a steady link an Ok session never waited in vain, and one that stalled had sent a request of each script
+abbrev pub NoneKeptBack : Call → Result Report Failure → Type 0
+NoneKeptBack call (Ok report) = IsTrue call.before.steady → call.after.lulls ≡ call.before.lulls
+NoneKeptBack call (Err (Stalled before after)) = IsTrue call.before.steady →
+    All (λ script. All (λ command. IsTrue (is_plain command)) script) call.scripts →
+    OfDialogue call (λ s g t. ((used : ℕ) × ((startup_after call s g).outcome ≡ Done used)) →
+    count_by (λ script. nat_lt 0 (length script)) call.scripts ≤ whole_units t)
+NoneKeptBack call (Err failure) = ⊤

@@ -1,0 +1,112 @@
+//! The bodies of messages, each with what its layout holds (PostgreSQL documentation, "Message Formats").
+
+use bytes::Bytes;
+
+/// What a server of GSS answers.
+#[derive(Drop)]
+pub struct AuthenticationGssContinueBody {
+    pub(crate) data: Bytes,
+}
+
+/// The salt of an MD5 password.
+#[derive(Drop)]
+pub struct AuthenticationMd5PasswordBody {
+    pub(crate) salt: [u8; 4],
+}
+
+/// The mechanisms of SASL that the server offers.
+#[derive(Drop)]
+pub struct AuthenticationSaslBody {
+    pub(crate) mechanisms: Bytes,
+}
+
+/// The server's challenge.
+#[derive(Drop)]
+pub struct AuthenticationSaslContinueBody {
+    pub(crate) data: Bytes,
+}
+
+/// The server's proof.
+#[derive(Drop)]
+pub struct AuthenticationSaslFinalBody {
+    pub(crate) data: Bytes,
+}
+
+/// By which a query can be cancelled.
+#[derive(Drop)]
+pub struct BackendKeyDataBody {
+    pub(crate) process_id: i32,
+    pub(crate) secret_key: i32,
+}
+
+/// What a command did.
+#[derive(Drop)]
+pub struct CommandCompleteBody {
+    pub(crate) tag: Bytes,
+}
+
+/// A piece of a copy.
+#[derive(Drop)]
+pub struct CopyDataBody {
+    pub(crate) data: Bytes,
+}
+
+/// The formats of a copy to the server. They aren't read.
+#[derive(Drop)]
+pub struct CopyInResponseBody {
+    pub(crate) formats: Bytes,
+}
+
+/// The formats of a copy from the server. They aren't read.
+#[derive(Drop)]
+pub struct CopyOutResponseBody {
+    pub(crate) formats: Bytes,
+}
+
+/// A row: how many cells, and the bytes that hold them.
+#[derive(Drop)]
+pub struct DataRowBody {
+    pub(crate) count: u16,
+    pub(crate) cells: Bytes,
+}
+
+/// The fields of an error or a notice.
+#[derive(Drop)]
+pub struct ErrorResponseBody {
+    pub(crate) fields: Bytes,
+}
+
+/// A notification of another session.
+#[derive(Drop)]
+pub struct NotificationResponseBody {
+    pub(crate) process_id: i32,
+    pub(crate) channel: Bytes,
+    pub(crate) payload: Bytes,
+}
+
+/// The types of a statement's parameters: how many, and the bytes that hold them.
+#[derive(Drop)]
+pub struct ParameterDescriptionBody {
+    pub(crate) count: u16,
+    pub(crate) oids: Bytes,
+}
+
+/// A setting of the server.
+#[derive(Drop)]
+pub struct ParameterStatusBody {
+    pub(crate) name: Bytes,
+    pub(crate) value: Bytes,
+}
+
+/// Whether a transaction is open.
+#[derive(Drop)]
+pub struct ReadyForQueryBody {
+    pub(crate) status: u8,
+}
+
+/// The columns of the rows that follow: how many, and the bytes that hold them.
+#[derive(Drop)]
+pub struct RowDescriptionBody {
+    pub(crate) count: u16,
+    pub(crate) fields: Bytes,
+}

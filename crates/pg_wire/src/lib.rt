@@ -1,0 +1,29 @@
+//! Links to the server, and the frames and messages that cross them. Nothing here does input or
+//! output by itself but the adapters over `Read` and `Write`.
+#![tactic(auto)]
+
+mod backend;
+mod body;
+mod codec;
+mod fault;
+mod frontend;
+mod header;
+mod link;
+mod message;
+mod stream;
+
+pub use backend::BackendMessages;
+pub use body::{
+    AuthenticationGssContinueBody, AuthenticationMd5PasswordBody, AuthenticationSaslBody,
+    AuthenticationSaslContinueBody, AuthenticationSaslFinalBody, BackendKeyDataBody,
+    CommandCompleteBody, CopyDataBody, CopyInResponseBody, CopyOutResponseBody, DataRowBody,
+    ErrorResponseBody, NotificationResponseBody, ParameterDescriptionBody, ParameterStatusBody,
+    ReadyForQueryBody, RowDescriptionBody,
+};
+pub use codec::{BackendMessage, FrontendMessage, PostgresCodec};
+pub use fault::{FrameFault, WireFault};
+pub use frontend::{StartupParams, query, startup_message, terminate};
+pub use header::Header;
+pub use link::{Link, LinkRead, LinkStep, LinkWait, LinkWrite};
+pub use message::Message;
+pub use stream::{Sink, SinkFlush, SinkWrite, Source, SourceRead};
