@@ -9,6 +9,7 @@ mod fault;
 mod frontend;
 mod header;
 mod link;
+mod memory_link;
 mod message;
 mod stream;
 
@@ -25,5 +26,6 @@ pub use fault::{FrameFault, WireFault};
 pub use frontend::{StartupParams, query, startup_message, terminate};
 pub use header::Header;
 pub use link::{Link, LinkRead, LinkStep, LinkWait, LinkWrite};
+pub use memory_link::MemoryLink;
 pub use message::Message;
 pub use stream::{Sink, SinkFlush, SinkWrite, Source, SourceRead};
