@@ -10,3 +10,4 @@ pub mod Fronts
 pub mod Decode
 pub mod Header
 pub mod Writes
+pub mod Steps
