@@ -6,3 +6,5 @@ pub mod Scripts
 pub mod Meaning
 pub mod Cleaners
 pub mod Commands
+pub mod Reading
+pub mod Ones
