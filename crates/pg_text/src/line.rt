@@ -1,5 +1,9 @@
 //! The lines of a session text.
 
+ghost use Rattle.std.specs.Prelude.{◌≡◌, IfOk, IfSome};
+ghost use Rattle.pg_text.specs.Drafts.{HasCut};
+ghost use Rattle.pg_text.specs.Lines.{FirstWord};
+
 use crate::command::Command;
 use crate::word::Words;
 use pg_types::{OutOfMemory, Text};
@@ -23,22 +27,98 @@ pub(crate) enum Line {
 const MOST_BYTES: u64 = 9_223_372_036_854_775_807;
 
 /// Reads a line. None: it breaks the rules.
-pub(crate) fn read_line(alloc: Global, line: &[u8]) -> Result<Option<Line>, OutOfMemory> {
+pub(crate) fn read_line(alloc: Global, line: &[u8]) -> Result<Option<Line>, OutOfMemory>
+    ensures { IfOk result (λ found. IfSome found HasCut) }
+{
     if line.is_empty() || line[0] == b'#' {
         return Ok(Some(Line::Nothing));
     }
     let mut words = Words::new(line);
     let read = match words.word() {
-        Some(b"config") => config_line(alloc, &mut words)?,
-        Some(b"limit") => words.number(MOST_BYTES).map(Line::Limit),
-        Some(b"turns") => turns_line(alloc, &mut words)?,
-        Some(b"handle") => Some(Line::Handle),
-        Some(b"step") => step_line(alloc, &mut words)?,
-        Some(b"cut") => words.number(u64::MAX).filter(|n| *n > 0).map(Line::Cut),
-        Some(b"simple") => simple_line(alloc, &mut words)?,
-        _ => None,
+        Some(word) => match keyword_of(word) {
+            Some(keyword) => read_rest(alloc, keyword, &mut words)?,
+            None => return Ok(None),
+        },
+        None => return Ok(None),
     };
-    Ok(if words.is_done() { read } else { None })
+    if words.is_done() { Ok(read) } else { Ok(None) }
+}
+
+/// How a line begins.
+#[derive(Clone, Copy, Drop)]
+enum Keyword {
+    Config,
+    Limit,
+    Turns,
+    Handle,
+    Step,
+    Cut,
+    Simple,
+}
+
+/// What line begins with this word.
+fn keyword_of(word: &[u8]) -> Option<Keyword>
+    ensures { FirstWord word.now result }
+{
+    if word == b"config".as_slice() {
+        return Some(Keyword::Config);
+    }
+    if word == b"limit".as_slice() {
+        return Some(Keyword::Limit);
+    }
+    if word == b"turns".as_slice() {
+        return Some(Keyword::Turns);
+    }
+    if word == b"handle".as_slice() {
+        return Some(Keyword::Handle);
+    }
+    if word == b"step".as_slice() {
+        return Some(Keyword::Step);
+    }
+    if word == b"cut".as_slice() {
+        return Some(Keyword::Cut);
+    }
+    if word == b"simple".as_slice() {
+        return Some(Keyword::Simple);
+    }
+    None
+}
+
+/// Reads what stands behind the first word.
+fn read_rest(
+    alloc: Global,
+    keyword: Keyword,
+    words: &mut Words,
+) -> Result<Option<Line>, OutOfMemory>
+    ensures { IfOk result (λ found. IfSome found HasCut) }
+{
+    match keyword {
+        Keyword::Config => config_line(alloc, words),
+        Keyword::Limit => Ok(limit_line(words)),
+        Keyword::Turns => turns_line(alloc, words),
+        Keyword::Handle => Ok(Some(Line::Handle)),
+        Keyword::Step => step_line(alloc, words),
+        Keyword::Cut => Ok(cut_line(words)),
+        Keyword::Simple => simple_line(alloc, words),
+    }
+}
+
+fn limit_line(words: &mut Words) -> Option<Line>
+    ensures { IfSome result HasCut }
+{
+    match words.number(MOST_BYTES) {
+        Some(limit) => Some(Line::Limit(limit)),
+        None => None,
+    }
+}
+
+fn cut_line(words: &mut Words) -> Option<Line>
+    ensures { IfSome result HasCut }
+{
+    match words.number(u64::MAX) {
+        Some(cut) if cut > 0 => Some(Line::Cut(cut)),
+        _ => None,
+    }
 }
 
 /// A text in quotes that is UTF-8.
@@ -52,14 +132,18 @@ fn utf8_text(alloc: Global, words: &mut Words) -> Result<Option<Text>, OutOfMemo
     }
 }
 
-fn config_line(alloc: Global, words: &mut Words) -> Result<Option<Line>, OutOfMemory> {
+fn config_line(alloc: Global, words: &mut Words) -> Result<Option<Line>, OutOfMemory>
+    ensures { IfOk result (λ found. IfSome found HasCut) }
+{
     match utf8_text(alloc, words)? {
         Some(text) => Ok(Some(Line::Config(text))),
         None => Ok(None),
     }
 }
 
-fn turns_line(alloc: Global, words: &mut Words) -> Result<Option<Line>, OutOfMemory> {
+fn turns_line(alloc: Global, words: &mut Words) -> Result<Option<Line>, OutOfMemory>
+    ensures { IfOk result (λ found. IfSome found HasCut) }
+{
     let mut turns = Vec::new(alloc);
     while !words.is_done() {
         let Some(turn) = words.number(u32::MAX as u64) else {
@@ -72,7 +156,9 @@ fn turns_line(alloc: Global, words: &mut Words) -> Result<Option<Line>, OutOfMem
     Ok(Some(Line::Turns(turns)))
 }
 
-fn step_line(alloc: Global, words: &mut Words) -> Result<Option<Line>, OutOfMemory> {
+fn step_line(alloc: Global, words: &mut Words) -> Result<Option<Line>, OutOfMemory>
+    ensures { IfOk result (λ found. IfSome found HasCut) }
+{
     let mut entry = Vec::new(alloc);
     while !words.is_done() {
         let Some(bytes) = words.bytes(alloc)? else {
@@ -86,7 +172,9 @@ fn step_line(alloc: Global, words: &mut Words) -> Result<Option<Line>, OutOfMemo
 }
 
 /// `TEXT`, or `TEXT take N`.
-fn simple_line(alloc: Global, words: &mut Words) -> Result<Option<Line>, OutOfMemory> {
+fn simple_line(alloc: Global, words: &mut Words) -> Result<Option<Line>, OutOfMemory>
+    ensures { IfOk result (λ found. IfSome found HasCut) }
+{
     let Some(text) = utf8_text(alloc, words)? else {
         return Ok(None);
     };

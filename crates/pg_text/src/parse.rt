@@ -1,5 +1,8 @@
 //! The text of a session, line by line.
 
+ghost use Rattle.std.specs.Prelude.{◌≡◌, ◌<◌, ◌≤◌, ◌+◌, ◌^◌, ℕ, length, OnOk, ◌↔◌, ◌≢◌, ◌-◌, if◌then◌else◌};
+ghost use Rattle.pg_text.specs.Drafts.{IsWithin, HasCut};
+
 use crate::command::Command;
 use crate::line::{Line, read_line};
 use crate::scripts::Scripts;
@@ -33,7 +36,9 @@ struct Draft {
 
 /// Reads a session text. TooLong comes exactly above 67,108,864 bytes; Line names the first line, from 1,
 /// that breaks the rules, and the one after the last where `config` lacks or there are too many scripts.
-pub fn session_text(alloc: Global, text: &[u8]) -> Result<Session, TextFault> {
+pub fn session_text(alloc: Global, text: &[u8]) -> Result<Session, TextFault>
+    ensures too_long { (result ≡ Err TextFault.TooLong) ↔ (67108864 < length text.now) }
+{
     if text.len() > LONGEST {
         return Err(TextFault::TooLong);
     }
@@ -54,7 +59,10 @@ pub fn session_text(alloc: Global, text: &[u8]) -> Result<Session, TextFault> {
 }
 
 /// The bytes up to the first line feed, and what stands behind it.
-fn cut_line(text: &[u8]) -> (&[u8], &[u8]) {
+fn cut_line(text: &[u8]) -> (&[u8], &[u8])
+    requires { 0 < length text.now }
+    ensures { length result.1.now < length text.now }
+{
     match text.iter().position(|byte| *byte == b'\n') {
         Some(at) => (&text[..at], &text[at + 1..]),
         None => (text, &[]),
@@ -62,7 +70,9 @@ fn cut_line(text: &[u8]) -> (&[u8], &[u8]) {
 }
 
 impl Draft {
-    fn new(alloc: Global) -> Draft {
+    fn new(alloc: Global) -> Draft
+        ensures { IsWithin 0 result }
+    {
         Draft {
             config: None,
             limit: None,
@@ -74,7 +84,9 @@ impl Draft {
     }
 
     /// Reads one more line. `false`: it breaks the rules.
-    fn read(&mut self, alloc: Global, line: &[u8]) -> Result<bool, OutOfMemory> {
+    fn read(&mut self, alloc: Global, line: &[u8]) -> Result<bool, OutOfMemory>
+        ensures { (n : ℕ) → IsWithin n self.old → OnOk result (IsWithin (n + 1) self.new) }
+    {
         let Some(line) = read_line(alloc, line)? else {
             return Ok(false);
         };
@@ -100,7 +112,9 @@ impl Draft {
         }
     }
 
-    fn set_config(&mut self, text: Text) -> bool {
+    fn set_config(&mut self, text: Text) -> bool
+        ensures { self.new ≡ record self.old { config = self.new.config } }
+    {
         if self.config.is_some() {
             return false;
         }
@@ -109,7 +123,9 @@ impl Draft {
     }
 
     /// Adds a command to the last script. `false`: there is none.
-    fn add_command(&mut self, command: Command) -> Result<bool, OutOfMemory> {
+    fn add_command(&mut self, command: Command) -> Result<bool, OutOfMemory>
+        ensures { (n : ℕ) → IsWithin n self.old → OnOk result (IsWithin (n + 1) self.new) }
+    {
         match self.scripts.last_mut() {
             Some(script) => match script.push(command) {
                 Ok(()) => Ok(true),
@@ -120,7 +136,10 @@ impl Draft {
     }
 
     /// The session, where `number` is that of the line after the last.
-    fn finish(self, alloc: Global, number: u64) -> Result<Session, TextFault> {
+    fn finish(self, alloc: Global, number: u64) -> Result<Session, TextFault>
+        requires { IsWithin (2 ^ 32 - 1) self }
+        ensures { result ≢ Err TextFault.TooLong }
+    {
         let Draft {
             config,
             limit,
@@ -154,7 +173,9 @@ impl Draft {
 }
 
 /// Sets what may be set once. `false`: it is set.
-fn set_once(place: &mut Option<u64>, value: u64) -> bool {
+fn set_once(place: &mut Option<u64>, value: u64) -> bool
+    ensures { place.new ≡ (if result then Some value else place.old) }
+{
     if place.is_some() {
         return false;
     }
