@@ -42,6 +42,7 @@ cause_of cause.Fields = spec.Fields
 cause_of cause.FieldCount = spec.FieldCount
 cause_of cause.NotUtf8 = spec.NotText
 cause_of (cause.Frame fault) = or_no_cause spec.Frame (frame_fault fault)
+cause_of cause.Counter = spec.Counter
 cause_of cause.NoUser = spec.NoUser
 cause_of cause.Nonce = spec.Nonce
 cause_of cause.NoPassword = spec.NoPassword

@@ -1,5 +1,6 @@
 //! Messages that no request asked for.
 
+ghost use Rattle.std.specs.Prelude.{◌≡◌};
 ghost use Rattle.pg_errors.specs.Parsing.{ReadsAside};
 
 use crate::db_error::DbError;
@@ -30,5 +31,25 @@ impl AsyncMessage {
         ensures { ReadsAside message.now result }
     {
         Err(Error::OutOfMemory)
+    }
+}
+
+impl Notification {
+    pub fn process_id(&self) -> i32
+        ensures { result ≡ self.now.process_id }
+    {
+        self.process_id
+    }
+
+    pub fn channel(&self) -> &str
+        ensures { result.now ≡ self.now.channel }
+    {
+        self.channel.as_str()
+    }
+
+    pub fn payload(&self) -> &str
+        ensures { result.now ≡ self.now.payload }
+    {
+        self.payload.as_str()
     }
 }

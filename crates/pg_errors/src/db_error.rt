@@ -1,5 +1,6 @@
 //! Errors and notices of the server.
 
+ghost use Rattle.std.specs.Prelude.{◌≡◌};
 ghost use Rattle.pg_errors.specs.Parsing.{ParsesError};
 
 use crate::error::Error;
@@ -47,5 +48,23 @@ impl DbError {
         ensures { ParsesError body.now.fields result }
     {
         Err(Error::OutOfMemory)
+    }
+
+    pub fn severity(&self) -> &str
+        ensures { result.now ≡ self.now.severity }
+    {
+        self.severity.as_str()
+    }
+
+    pub fn code(&self) -> &SqlState
+        ensures { result.now ≡ self.now.code }
+    {
+        &self.code
+    }
+
+    pub fn message(&self) -> &str
+        ensures { result.now ≡ self.now.message }
+    {
+        self.message.as_str()
     }
 }

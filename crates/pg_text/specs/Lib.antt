@@ -1,0 +1,4 @@
+pub mod Drafts
+pub mod Scripts
+pub mod Words
+pub mod Lines

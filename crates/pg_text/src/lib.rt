@@ -1,0 +1,22 @@
+//! Scripts of commands, the report on a session, and both as texts.
+#![tactic(auto)]
+
+mod command;
+mod line;
+mod parse;
+mod print;
+mod put;
+mod report;
+mod scripts;
+mod session;
+#[cfg(test)]
+mod tests;
+mod word;
+
+pub use command::{Answer, Command};
+pub use parse::session_text;
+pub use pg_query::{Cells, SimpleMessage};
+pub use print::{error_text, report_text};
+pub use report::{Pair, Report, TurnMark};
+pub use scripts::Scripts;
+pub use session::{Session, TextFault};

@@ -1,0 +1,52 @@
+//! Scripts: for each handle the commands that it runs one after another.
+
+ghost use Rattle.std.specs.Prelude.{◌≡◌, IfOk, IfErr};
+ghost use Rattle.pg_text.specs.Scripts.{AreScripts, AreShort, AreTooMany};
+
+use crate::command::Command;
+use pg_errors::{Cause, Error};
+use pg_types::List;
+use std::marker::Model;
+
+/// The most scripts of a session.
+const MOST: usize = 1024;
+
+/// The scripts of a session, at most 1,024 of them, each of fewer than 4,294,967,296 commands.
+#[derive(Drop)]
+pub struct Scripts {
+    scripts: List<List<Command>>,
+}
+
+impl Model for Scripts {
+    ghost use Rattle.std.specs.Prelude.{List as Items};
+    ghost use Rattle.pg_text.specs.declared.command.Command.{Command};
+
+    ghost Value = { Items (Items Command) };
+
+    ghost use Rattle.pg_text.specs.Scripts.{AreScripts};
+
+    ghost view = { λ s. s.scripts };
+
+    ghost invariant = { λ s. AreScripts s.scripts };
+}
+
+impl Scripts {
+    /// Config(Scripts) comes exactly where there are more than 1,024 scripts.
+    pub fn new(scripts: List<List<Command>>) -> Result<Scripts, Error>
+        requires { AreShort scripts }
+        ensures ok { IfOk result (λ s. s ≡ scripts) }
+        ensures refused { IfErr result (λ e. AreTooMany scripts e) }
+    {
+        if scripts.as_slice().len() > MOST {
+            return Err(Error::Config(Cause::Scripts));
+        }
+        Ok(Scripts { scripts })
+    }
+
+    pub fn as_slice(&self) -> &[List<Command>]
+        ensures scripts { result.now ≡ self.now }
+        ensures bounds { AreScripts self.now }
+    {
+        self.scripts.as_slice()
+    }
+}
