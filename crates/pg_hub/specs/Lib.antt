@@ -4,3 +4,4 @@ pub mod Fits
 pub mod Becomes
 pub mod Waiting
 pub mod Reading
+pub mod Errors

@@ -4,11 +4,11 @@
 
 mod hub;
 mod mailbox;
-//mod responses;
+mod responses;
 #[cfg(test)]
 mod tests;
 
 pub use hub::Hub;
 pub use mailbox::Mailbox;
 pub use pg_desk::{Booking, Deliver, Desk, DeskFault, Engine, Event, Out, Stamp, Take};
-//pub use responses::Responses;
+pub use responses::Responses;

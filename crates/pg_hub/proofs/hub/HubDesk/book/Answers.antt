@@ -11,13 +11,13 @@ use Rattle.pg_hub.proofs.hub.HubDesk.book.Goals as goal
 pub returns-clause-event : goal.returns-clause-event
 returns-clause-event c = record {
   stands = λ s f.
-    let g : Fits s (standing c.self.inside) = subst (λ (h : Standing). Fits s h) (sym c.self.view_is) f in
-    let book : c.push.new.self ≡ c.self.inside.book ++ record { stamp = c.args.stamp; parts = c.args.part ∷ [] } ∷ [] = grind (arith, common_steps) in
-    let mail : c.push_reserved.new.self.items ≡ c.self.inside.mail.items ++ Empty ∷ [] = grind (arith, common_steps) in
-    let out : c.push_back.new.self.items ≡ c.self.inside.outgoing.items ++ c.args.part ∷ [] = grind (arith, common_steps) in (
-      ((neither s.closed s.failed (sym g.closed ∙ c.if-self.false) (sym g.failed ∙ c.if-self-2.false), grind (arith, common_steps, g)), tt, tt),
-      booked s (standing c.self.inside) c.args.stamp c.args.part c.args.copying _ _ _ g book mail out,
-    );
+      let g : Fits s (standing c.self.inside) = subst (λ (h : Standing). Fits s h) (sym c.self.view_is) f in
+      let book : c.push.new.self ≡ c.self.inside.book ++ record { stamp = c.args.stamp; parts = c.args.part ∷ [] } ∷ [] = grind (arith, common_steps) in
+      let mail : c.push_reserved.new.self.items ≡ c.self.inside.mail.items ++ Empty ∷ [] = grind (arith, common_steps) in
+      let out : c.push_back.new.self.items ≡ c.self.inside.outgoing.items ++ c.args.part ∷ [] = grind (arith, common_steps) in (
+        ((neither s.closed s.failed (sym g.closed ∙ c.if-self.false) (sym g.failed ∙ c.if-self-2.false), grind (arith, common_steps, g)), tt, tt),
+        booked s (standing c.self.inside) c.args.stamp c.args.part c.args.copying _ _ _ g book mail out,
+      );
   touched = refl;
 }
 

@@ -30,11 +30,11 @@ step c s finished' f ef bound =
 pub returns-after-complete-clause-event : goal.returns-after-complete-clause-event
 returns-after-complete-clause-event c = record {
   stands = λ s f.
-    let Goes : Standing → Type 0 = λ h. (Allows s (call.Deliver c.args.batch c.args.complete delivering.Taken) × Unit {0} × Unit {0}) × Fits (after s (call.Deliver c.args.batch c.args.complete delivering.Taken)) h in
-    let open_ = c.if-self.false in
-    elim c.if-complete.branch [
-      | then-complete w ↦ subst Goes (sym w.self-is) (step c s _ f (add_comm c.self.inside.finished 1 ∙ ap (λ (b : Bool). (if b then 1 else 0) + c.self.inside.finished) (sym w.if-complete.true)) (omega arith))
-      | else-complete w ↦ subst Goes (sym w.self-is) (step c s _ f (grind (arith, w.if-complete.false)) (omega arith))
-    ];
+      let Goes : Standing → Type 0 = λ h. (Allows s (call.Deliver c.args.batch c.args.complete delivering.Taken) × Unit {0} × Unit {0}) × Fits (after s (call.Deliver c.args.batch c.args.complete delivering.Taken)) h in
+      let open_ = c.if-self.false in
+      elim c.if-complete.branch [
+        | then-complete w ↦ subst Goes (sym w.self-is) (step c s _ f (add_comm c.self.inside.finished 1 ∙ ap (λ (b : Bool). (if b then 1 else 0) + c.self.inside.finished) (sym w.if-complete.true)) (omega arith))
+        | else-complete w ↦ subst Goes (sym w.self-is) (step c s _ f (grind (arith, w.if-complete.false)) (omega arith))
+      ];
   touched = elim c.if-complete.branch [ then-complete w ↦ ap (λ (h : Standing). h.touched) w.self-is | else-complete w ↦ ap (λ (h : Standing). h.touched) w.self-is ];
 }
