@@ -13,6 +13,7 @@ mod header;
 mod layout;
 mod link;
 mod message;
+mod row_fields;
 mod stream;
 mod texts;
 
@@ -31,4 +32,5 @@ pub use frontend::{StartupParams, query, startup_message, terminate};
 pub use header::Header;
 pub use link::{Link, LinkRead, LinkStep, LinkWait, LinkWrite};
 pub use message::Message;
+pub use row_fields::{Field, Fields};
 pub use stream::{Sink, SinkFlush, SinkWrite, Source, SourceRead};
