@@ -14,6 +14,7 @@ mod layout;
 mod link;
 mod memory_link;
 mod message;
+mod row_fields;
 mod stream;
 mod texts;
 
@@ -33,4 +34,5 @@ pub use header::Header;
 pub use link::{Link, LinkRead, LinkStep, LinkWait, LinkWrite};
 pub use memory_link::MemoryLink;
 pub use message::Message;
+pub use row_fields::{Field, Fields};
 pub use stream::{Sink, SinkFlush, SinkWrite, Source, SourceRead};
