@@ -1,0 +1,6 @@
+pub mod Pieces
+pub mod Cuts
+pub mod ZeroEnded
+pub mod Asides
+pub mod Taken
+pub mod ErrorSteps

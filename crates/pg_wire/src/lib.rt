@@ -5,12 +5,16 @@
 mod backend;
 mod body;
 mod codec;
+mod error_fields;
 mod fault;
+mod front;
 mod frontend;
 mod header;
+mod layout;
 mod link;
 mod message;
 mod stream;
+mod texts;
 
 pub use backend::BackendMessages;
 pub use body::{
@@ -21,6 +25,7 @@ pub use body::{
     ReadyForQueryBody, RowDescriptionBody,
 };
 pub use codec::{BackendMessage, FrontendMessage, PostgresCodec};
+pub use error_fields::{ErrorField, ErrorFields};
 pub use fault::{FrameFault, WireFault};
 pub use frontend::{StartupParams, query, startup_message, terminate};
 pub use header::Header;
