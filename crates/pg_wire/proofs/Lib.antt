@@ -1,0 +1,5 @@
+pub mod Pieces
+pub mod Cuts
+pub mod ZeroEnded
+pub mod Asides
+pub mod Taken

@@ -1,8 +1,12 @@
 pub mod LinkCalls
 pub mod Streams
 pub mod Faults
+pub mod Bodies
 pub mod Messages
+pub mod Layouts
+pub mod Parse
 pub mod Backend
+pub mod Fronts
 pub mod Decode
 pub mod Header
 pub mod Writes

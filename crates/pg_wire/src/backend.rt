@@ -49,7 +49,6 @@ impl BackendMessages {
     pub fn next(&mut self) -> Result<Option<Message>, WireFault>
         ensures { Nexts self.old self.new result }
     {
-        let _ = &self.bytes;
-        Err(WireFault::OutOfMemory)
+        Message::parse(&mut self.bytes)
     }
 }

@@ -1,6 +1,8 @@
 //! The bodies of messages, each with what its layout holds (PostgreSQL documentation, "Message Formats").
 
+use crate::texts::TextPair;
 use bytes::Bytes;
+use std::marker::Model;
 
 /// What a server of GSS answers.
 #[derive(Drop)]
@@ -80,8 +82,15 @@ pub struct ErrorResponseBody {
 #[derive(Drop)]
 pub struct NotificationResponseBody {
     pub(crate) process_id: i32,
-    pub(crate) channel: Bytes,
-    pub(crate) payload: Bytes,
+    pub(crate) texts: TextPair,
+}
+
+impl Model for NotificationResponseBody {
+    ghost use Rattle.pg_wire.specs.Bodies.{Notified};
+
+    ghost Value = { Notified };
+
+    ghost view = { λ b. record { process_id = b.process_id; channel = b.texts.first; payload = b.texts.second } };
 }
 
 /// The types of a statement's parameters: how many, and the bytes that hold them.
@@ -94,8 +103,15 @@ pub struct ParameterDescriptionBody {
 /// A setting of the server.
 #[derive(Drop)]
 pub struct ParameterStatusBody {
-    pub(crate) name: Bytes,
-    pub(crate) value: Bytes,
+    pub(crate) texts: TextPair,
+}
+
+impl Model for ParameterStatusBody {
+    ghost use Rattle.pg_wire.specs.Bodies.{Setting};
+
+    ghost Value = { Setting };
+
+    ghost view = { λ b. record { name = b.texts.first; value = b.texts.second } };
 }
 
 /// Whether a transaction is open.

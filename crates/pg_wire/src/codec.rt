@@ -1,9 +1,13 @@
 //! Cuts the bytes of the server into batches of messages that answer one request, and messages aside.
 
+ghost use Rattle.std.specs.Prelude.{◌≡◌, true, slice_index};
 ghost use Rattle.pg_wire.specs.Decode.{Decodes};
+ghost use Rattle.pg_wire.specs.Fronts.{IsWhole, is_aside_tag};
 
 use crate::backend::BackendMessages;
 use crate::fault::WireFault;
+use crate::front::{Found, batch_end, front, is_aside};
+use crate::layout::{is_laid_out, message_of};
 use crate::message::Message;
 use bytes::{Bytes, BytesMut};
 
@@ -37,7 +41,43 @@ impl PostgresCodec {
     pub fn decode(buf: &mut BytesMut) -> Result<Option<BackendMessage>, WireFault>
         ensures { Decodes buf.old.items buf.new.items result }
     {
-        let _ = buf.len();
-        Err(WireFault::OutOfMemory)
+        let n = match front(buf.as_slice()) {
+            Found::Whole(n) => n,
+            Found::Short => return Ok(None),
+            Found::Bad => return Err(WireFault::BadLength),
+        };
+        if is_aside(buf.as_slice()[0]) {
+            return cut_aside(buf, n);
+        }
+        let cut = batch_end(buf.as_slice());
+        match buf.freeze_to(cut.at) {
+            Ok(bytes) => Ok(Some(BackendMessage::Normal {
+                messages: BackendMessages::new(bytes),
+                request_complete: cut.complete,
+            })),
+            Err(_) => Err(WireFault::OutOfMemory),
+        }
+    }
+}
+
+/// Cuts the message aside off whose `n` bytes stand in front.
+fn cut_aside(buf: &mut BytesMut, n: usize) -> Result<Option<BackendMessage>, WireFault>
+    requires whole { IsWhole buf.old.items n }
+    requires aside { is_aside_tag (slice_index buf.old.items 0) ≡ true }
+    ensures { Decodes buf.old.items buf.new.items result }
+{
+    let tag = buf.as_slice()[0];
+    // The body is looked at before anything is cut, so that a refused message stays.
+    if !is_laid_out(tag, &buf.as_slice()[5..n]) {
+        return Err(WireFault::Layout);
+    }
+    let mut body = match buf.freeze_to(n) {
+        Ok(body) => body,
+        Err(_) => return Err(WireFault::OutOfMemory),
+    };
+    body.advance(5);
+    match message_of(tag, body) {
+        Ok(message) => Ok(Some(BackendMessage::Async(message))),
+        Err(_) => unreachable!(),
     }
 }

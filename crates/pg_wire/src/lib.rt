@@ -6,11 +6,14 @@ mod backend;
 mod body;
 mod codec;
 mod fault;
+mod front;
 mod frontend;
 mod header;
+mod layout;
 mod link;
 mod message;
 mod stream;
+mod texts;
 
 pub use backend::BackendMessages;
 pub use body::{
