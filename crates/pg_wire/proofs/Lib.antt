@@ -3,3 +3,4 @@ pub mod Cuts
 pub mod ZeroEnded
 pub mod Asides
 pub mod Taken
+pub mod Counts
