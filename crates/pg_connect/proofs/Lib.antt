@@ -1,0 +1,5 @@
+pub mod Keeping
+pub mod Joining
+pub mod Sends
+pub mod Parts
+pub mod Closing

@@ -1,0 +1,5 @@
+pub mod Faults
+pub mod Kept
+pub mod Passed
+pub mod Passes
+pub mod Ends

@@ -1,0 +1,13 @@
+//! The startup and the connection: each poll reads, writes and flushes, over any link and any hub.
+#![tactic(auto)]
+
+mod ends;
+mod fault;
+mod parameters;
+mod sending;
+mod streams;
+
+pub use ends::{PartsEnd, WriteEnd};
+pub use fault::ConnectionFault;
+pub use parameters::Parameters;
+pub use streams::{Held, Streams};
