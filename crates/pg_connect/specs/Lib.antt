@@ -3,3 +3,5 @@ pub mod Kept
 pub mod Passed
 pub mod Passes
 pub mod Ends
+pub mod Startups
+pub mod StartupPolls

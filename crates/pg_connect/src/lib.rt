@@ -5,9 +5,11 @@ mod ends;
 mod fault;
 mod parameters;
 mod sending;
+mod startup;
 mod streams;
 
 pub use ends::{PartsEnd, WriteEnd};
 pub use fault::ConnectionFault;
 pub use parameters::Parameters;
+pub use startup::{Heard, Phase, Startup};
 pub use streams::{Held, Streams};
