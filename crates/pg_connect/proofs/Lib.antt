@@ -3,3 +3,4 @@ pub mod Joining
 pub mod Sends
 pub mod Parts
 pub mod Closing
+pub mod Sizes

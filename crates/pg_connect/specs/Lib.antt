@@ -3,3 +3,4 @@ pub mod Kept
 pub mod Passed
 pub mod Passes
 pub mod Ends
+pub mod Reads
