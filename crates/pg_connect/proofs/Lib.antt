@@ -4,3 +4,4 @@ pub mod Sends
 pub mod Parts
 pub mod Closing
 pub mod Starting
+pub mod Sizes

@@ -5,3 +5,4 @@ pub mod Passes
 pub mod Ends
 pub mod Startups
 pub mod StartupPolls
+pub mod Reads

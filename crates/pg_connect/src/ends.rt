@@ -1,5 +1,7 @@
 //! How a step of a poll may end.
 
+use pg_errors::AsyncMessage;
+
 /// How the parts of the hub were sent.
 #[derive(Clone, Copy, Debug, PartialEq, Eq, Drop)]
 pub enum PartsEnd {
@@ -18,4 +20,39 @@ pub enum WriteEnd {
     Blocked,
     /// Nothing is unsent.
     AllTaken,
+}
+
+/// What was taken off the front of the bytes.
+#[derive(Drop)]
+pub enum Off {
+    /// A batch, which is held now.
+    Held,
+    /// A parameter report, which is kept.
+    Kept,
+    /// A message to hand out.
+    Handed(AsyncMessage),
+    /// No whole message is there.
+    Nothing,
+}
+
+/// Where passing on stopped.
+#[derive(Drop)]
+pub enum Step {
+    /// At a message to hand out.
+    Handed(AsyncMessage),
+    /// At a mailbox that is full.
+    Full,
+    /// Where no whole message was left.
+    Nothing,
+}
+
+/// How a read step ended.
+#[derive(Drop)]
+pub enum ReadEnd {
+    /// At a message to hand out.
+    Handed(AsyncMessage),
+    /// At a mailbox that is full.
+    Full,
+    /// At a link that isn't ready.
+    Dry,
 }
