@@ -5,3 +5,7 @@ pub mod Parts
 pub mod Closing
 pub mod Starting
 pub mod Sizes
+pub mod ReadyTags
+pub mod Hearing
+pub mod Offering
+pub mod Opening
