@@ -18,7 +18,7 @@ use Rattle.pg_wire.specs.Steps.{Step, ItemsLeft, counted_step}
 
 -- ---- numbers and texts
 
-bytes_at_all : (n : ℕ) (s : List ℕ) → n ≤ length s → bytes_at n s ≡ Some (take n s, drop n s)
+pub bytes_at_all : (n : ℕ) (s : List ℕ) → n ≤ length s → bytes_at n s ≡ Some (take n s, drop n s)
 bytes_at_all n s fits = ap (λ b. cond b (Some (take n s, drop n s)) None) (le-leb n (length s) fits)
 
 -- what `number_at` makes of the digits
@@ -43,7 +43,7 @@ signed_taken w s rest z fits is took =
     ap or_layout (ap (option_and_then (λ (n : ℕ × List ℕ). Some (cast_signed w n.0, n.1))) (number_is w s rest number refl took)
     ∙ ap (λ (x : ℤ). Some (x, rest)) same)
 
-rest_is : (s : List ℕ) (at : ℕ) → take (length s - at) (drop at s) ≡ drop at s
+pub rest_is : (s : List ℕ) (at : ℕ) → take (length s - at) (drop at s) ≡ drop at s
 rest_is s at = ap (λ k. take k (drop at s)) (sym (length-drop at s)) ∙ take-length (drop at s)
 
 -- what `utf8_at` makes of a text

@@ -5,3 +5,4 @@ pub mod Asides
 pub mod Taken
 pub mod ErrorSteps
 pub mod Items
+pub mod Cells
