@@ -79,7 +79,7 @@ pub fn startup_message(params: &StartupParams, out: &mut BytesMut) -> Result<(),
     out.extend_reserved(&len.to_be_bytes());
     out.extend_reserved(&VERSION);
     put_pairs(pairs, out);
-    out.extend_reserved(b"\0");
+    out.extend_reserved(&[0]);
     Ok(())
 }
 
@@ -149,8 +149,7 @@ pub fn query(text: &str, out: &mut BytesMut) -> Result<(), FrameFault>
     }
     out.extend_reserved(b"Q");
     out.extend_reserved(&len.to_be_bytes());
-    out.extend_reserved(text.as_bytes());
-    out.extend_reserved(b"\0");
+    put_text(text, out);
     Ok(())
 }
 

@@ -16,6 +16,8 @@ mod message;
 mod ranges;
 mod row_fields;
 mod stream;
+#[cfg(test)]
+mod tests;
 mod texts;
 
 pub use backend::BackendMessages;
