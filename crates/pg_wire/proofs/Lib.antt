@@ -6,3 +6,5 @@ pub mod Taken
 pub mod ErrorSteps
 pub mod Items
 pub mod Counts
+pub mod Cells
+pub mod Pairs

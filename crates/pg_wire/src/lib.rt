@@ -14,8 +14,11 @@ mod layout;
 mod link;
 mod memory_link;
 mod message;
+mod ranges;
 mod row_fields;
 mod stream;
+#[cfg(test)]
+mod tests;
 mod texts;
 
 pub use backend::BackendMessages;
@@ -29,10 +32,11 @@ pub use body::{
 pub use codec::{BackendMessage, FrontendMessage, PostgresCodec};
 pub use error_fields::{ErrorField, ErrorFields};
 pub use fault::{FrameFault, WireFault};
-pub use frontend::{StartupParams, query, startup_message, terminate};
+pub use frontend::{StartupParams, copy_data, query, startup_message, terminate};
 pub use header::Header;
 pub use link::{Link, LinkRead, LinkStep, LinkWait, LinkWrite};
 pub use memory_link::MemoryLink;
 pub use message::Message;
+pub use ranges::DataRowRanges;
 pub use row_fields::{Field, Fields};
 pub use stream::{Sink, SinkFlush, SinkWrite, Source, SourceRead};
