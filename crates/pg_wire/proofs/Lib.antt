@@ -4,3 +4,4 @@ pub mod ZeroEnded
 pub mod Asides
 pub mod Taken
 pub mod ErrorSteps
+pub mod TurnCounts

@@ -16,6 +16,7 @@ mod memory_link;
 mod message;
 mod stream;
 mod texts;
+mod turning;
 
 pub use backend::BackendMessages;
 pub use body::{
