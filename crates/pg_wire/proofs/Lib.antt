@@ -5,3 +5,6 @@ pub mod Asides
 pub mod Taken
 pub mod ErrorSteps
 pub mod TurnCounts
+pub mod Plans
+pub mod GivingLaws
+pub mod MemoryLaws

@@ -1,22 +1,15 @@
 -- The turns that bytes give, frame by frame.
-use Rattle.std.proofs.Common.{◌≡◌, ℕ, ◌+◌, ◌-◌, ◌<◌, ◌≤◌, ◌^◌, ◌⊎◌, inl, inr, Bool, true, false, cond, List, [], ◌∷◌, ◌++◌, length, take, drop, get_or, count_by, Option, Some, None, refl, sym, ap, subst, ◌∙◌, append_assoc, append-nil, arith, if◌then◌else◌, ltb, leb, nat_eq}
-use Rattle.std.specs.Int.{w32, from_be_bytes}
-use Rattle.std.specs.Option.{option_and_then}
-use Rattle.std.specs.Cmp.Lexicographic.{pointwise}
+use Rattle.std.proofs.Common.{◌≡◌, ℕ, ◌+◌, ◌-◌, ◌<◌, ◌≤◌, inl, inr, Bool, true, cond, List, [], ◌++◌, length, take, drop, count_by, Option, Some, None, refl, sym, ap, subst, ◌∙◌, append_assoc, append-nil, arith, if◌then◌else◌}
 use Rattle.std.proofs.lemmas.List.Sums.{sum_by-cons}
 use Rattle.std.proofs.lemmas.Bool.{true≢false}
-use Rattle.std.proofs.lemmas.Bool.Decides.{Decides-eqb}
-use Rattle.std.proofs.lemmas.List.{length-append, length-drop, take-append-le, drop-append-le, drop-drop}
+use Rattle.std.proofs.lemmas.List.{length-append, length-drop, drop-append-le, drop-drop}
 use Rattle.std.proofs.Math.Seq.{take-length}
-use Rattle.pg_spec.specs.Bytes.{bytes_at, number_at}
-use Rattle.pg_spec.specs.Frames.{ssl_request}
-use Rattle.pg_spec.specs.RawMessages.{RawMessage, message_at, messages}
-use Rattle.pg_spec.specs.Sent.{asked_for_tls, after_ssl_request, behind_length, gives_turn, turns_given}
-use Rattle.pg_spec.proofs.Readers.{number_at-Reader}
+use Rattle.pg_spec.specs.RawMessages.{message_at, messages}
+use Rattle.pg_spec.specs.Sent.{asked_for_tls, gives_turn, turns_given}
 use Rattle.pg_spec.proofs.MessageLaws.{message_at-Reader}
 use Rattle.pg_wire.specs.Fronts.{IsWhole, message_of_bytes}
 use Rattle.pg_wire.specs.declared.turning.Stage.{Stage}
-use Rattle.pg_wire.specs.declared.turning.Stage.TheVariants.{Start, Startup, Frames}
+use Rattle.pg_wire.specs.declared.turning.Stage.TheVariants.{Start, Startup}
 use Rattle.pg_wire.specs.declared.turning.Turning.{Turning}
 use Rattle.pg_wire.specs.Turning.{counted, started, most_turns, stages_left, steps_of, turns_of, Counts, AsksForTls, IsNext}
 use Rattle.pg_wire.proofs.Cuts.{messages_of_one, messages_of_none}
@@ -26,7 +19,7 @@ pub frame_whole : (bytes more : List ℕ) (n : ℕ) → IsWhole bytes n →
     counted (bytes ++ more) ≡ (if gives_turn (message_of_bytes n bytes) then 1 else 0) + counted (drop n (bytes ++ more))
 frame_whole bytes more n whole =
     ap (count_by gives_turn) (messages_of_one (bytes ++ more) (message_of_bytes n bytes) (drop n bytes ++ more)
-        (message_at-Reader bytes (message_of_bytes n bytes) (drop n bytes) more whole.front))
+    (message_at-Reader bytes (message_of_bytes n bytes) (drop n bytes) more whole.front))
     ∙ sum_by-cons (λ m. cond (gives_turn m) 1 0) (message_of_bytes n bytes) (messages (drop n bytes ++ more))
     ∙ ap (λ l. (if gives_turn (message_of_bytes n bytes) then 1 else 0) + counted l) (sym (drop-append-le n bytes more whole.fits))
 
@@ -51,7 +44,7 @@ counts-next sent t next k n c fits at turns few step =
           ap (drop n) (sym same) ∙ drop-drop n t.at (sent ++ more) ∙ ap (λ (j : ℕ). drop j (sent ++ more)) (sym at) in
           let all : turns_given (sent ++ more) ≡ t.turns + (k + turns_of next.stage (drop next.at (sent ++ more))) =
           c.turns more ∙ ap (λ (x : List ℕ). t.turns + turns_of t.stage x) same ∙ ap (λ (x : ℕ). t.turns + x) (step more)
-              ∙ ap (λ (x : List ℕ). t.turns + (k + turns_of next.stage x)) behind in
+          ∙ ap (λ (x : List ℕ). t.turns + (k + turns_of next.stage x)) behind in
           omega arith;
     }
 

@@ -12,3 +12,6 @@ pub mod Header
 pub mod Writes
 pub mod Steps
 pub mod Turning
+pub mod Giving
+pub mod Memory
+pub mod MemoryLinks

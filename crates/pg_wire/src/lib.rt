@@ -9,6 +9,7 @@ mod error_fields;
 mod fault;
 mod front;
 mod frontend;
+mod giving;
 mod header;
 mod layout;
 mod link;

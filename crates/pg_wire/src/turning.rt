@@ -93,7 +93,8 @@ fn front_frame(bytes: &[u8]) -> Option<Frame>
 impl Turning {
     /// Nothing has come.
     pub fn new() -> Turning
-        ensures { Counts [] result }
+        ensures counts { Counts [] result }
+        ensures turns { result.turns ≡ turns_given [] }
     {
         Turning {
             stage: Stage::Start,

@@ -1,4 +1,4 @@
-use Rattle.std.proofs.Common.{◌≡◌, ◌+◌, ◌++◌, Bool, cond, drop, ap, ◌∙◌, sym, arith}
+use Rattle.std.proofs.Common.{◌+◌, ◌++◌, Bool, cond, drop, ap, ◌∙◌, sym, arith}
 use Rattle.pg_wire.proofs.TurnCounts.{frame_whole}
 use Rattle.pg_wire.specs.Turning.{counted}
 use Rattle.pg_wire.specs.Fronts.{IsWhole}
