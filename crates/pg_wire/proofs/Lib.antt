@@ -8,3 +8,4 @@ pub mod TurnCounts
 pub mod Plans
 pub mod GivingLaws
 pub mod MemoryLaws
+pub mod StreamLaws

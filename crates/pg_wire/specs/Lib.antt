@@ -15,3 +15,4 @@ pub mod Turning
 pub mod Giving
 pub mod Memory
 pub mod MemoryLinks
+pub mod MemoryStreams

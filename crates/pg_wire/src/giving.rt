@@ -62,7 +62,7 @@ fn first_due(plan: &[Vec<u8>], turns: usize, entry: usize) -> usize
 }
 
 /// Copies as much as fits. How many bytes that were.
-fn copy_front(from: &[u8], out: &mut [u8]) -> usize
+pub(crate) fn copy_front(from: &[u8], out: &mut [u8]) -> usize
     ensures count { result ≡ min (length from.now) (length out.old) }
     ensures front { take result out.new ≡ take result from.now }
 {
