@@ -8,3 +8,5 @@ pub mod Cleaners
 pub mod Commands
 pub mod Reading
 pub mod Ones
+pub mod Lives
+pub mod Requests

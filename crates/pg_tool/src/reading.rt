@@ -1,7 +1,7 @@
 //! Reads a source to its end.
 
-ghost use Rattle.std.specs.Prelude.{◌≡◌, ◌<◌, length};
-ghost use Rattle.pg_tool.specs.Reading.{ReadsAll, longest_text};
+ghost use Rattle.std.specs.Prelude.{MatchResult, Ok, Err};
+ghost use Rattle.pg_tool.specs.Reading.{ReadsAll};
 
 use pg_wire::{Source, SourceRead};
 use std::alloc::Global;
@@ -14,7 +14,7 @@ const PIECE: usize = 8192;
 
 /// Why a source isn't read to its end.
 #[derive(Clone, Copy, Debug, PartialEq, Eq, Drop)]
-pub(crate) enum ReadFault {
+pub enum ReadFault {
     /// A call of the source failed.
     Failed,
     /// More than 64 MiB came.
@@ -23,8 +23,8 @@ pub(crate) enum ReadFault {
 }
 
 /// All bytes of a source. It stops where more than 64 MiB came.
-pub(crate) fn read_all<S: Source>(alloc: Global, source: &mut S) -> Result<Vec<u8>, ReadFault>
-    ensures { ReadsAll (S.state source.old) (S.state source.new) result }
+pub fn read_all<S: Source>(alloc: Global, source: &mut S) -> Result<Vec<u8>, ReadFault>
+    ensures { MatchResult result (λ text. ReadsAll (S.state source.old) (S.state source.new) (Ok text.items)) (λ fault. ReadsAll (S.state source.old) (S.state source.new) (Err fault)) }
 {
     let mut text = Vec::new(alloc);
     let mut piece = [0u8; PIECE];

@@ -6,14 +6,14 @@ use pg_wire::{Sink, SinkFlush, SinkWrite};
 
 /// Why a text isn't written whole.
 #[derive(Clone, Copy, Debug, PartialEq, Eq, Drop)]
-pub(crate) enum WriteFault {
+pub enum WriteFault {
     /// A call of the sink failed.
     Failed,
     OutOfMemory,
 }
 
 /// Writes a text whole and flushes it.
-pub(crate) fn write_all<K: Sink>(sink: &mut K, text: &[u8]) -> Result<(), WriteFault>
+pub fn write_all<K: Sink>(sink: &mut K, text: &[u8]) -> Result<(), WriteFault>
     ensures { WritesAll (K.state sink.old) (K.state sink.new) text.now result }
 {
     let mut at = 0;

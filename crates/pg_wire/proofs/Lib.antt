@@ -9,3 +9,5 @@ pub mod Plans
 pub mod GivingLaws
 pub mod MemoryLaws
 pub mod StreamLaws
+pub mod Items
+pub mod Counts

@@ -1,10 +1,11 @@
 -- The readers of bodies, one item at a time (PostgreSQL documentation, "Message Formats" and "Error
 -- and Notice Message Fields").
-use Rattle.std.specs.Prelude.{◌≡◌, ℕ, List, [], ◌∷◌, Option, Some, None, Result, Ok, Err, if◌then◌else◌}
+use Rattle.std.specs.Prelude.{◌≡◌, ℕ, zero, suc, List, [], ◌∷◌, Option, Some, None, Result, Ok, Err, if◌then◌else◌}
 use Rattle.std.specs.Str.{bytes_eq}
 use Rattle.pg_spec.specs.Faults as spec
 use Rattle.pg_spec.specs.Faults.{◌>>=◌}
 use Rattle.pg_spec.specs.DbErrors.{ErrorField, error_field_at}
+use Rattle.pg_spec.specs.Bodies.{Field, field_at}
 use Rattle.pg_wire.specs.declared.fault.WireFault.{WireFault}
 use Rattle.pg_wire.specs.Faults.{wire_fault}
 
@@ -24,3 +25,26 @@ error_step bytes = elim (error_field_at bytes) [
   | Some read ↦ Ok (Some read)
   | None ↦ if bytes_eq bytes (0 ∷ []) then Ok None else Err spec.Layout
 ]
+
+-- items that are counted: how many are left, and the bytes that hold them
+pub record ItemsLeft : Type 0 where
+  pub count : ℕ
+  pub bytes : List ℕ
+
+-- the next of n items, behind the last of which nothing is left
+abbrev pub counted_step : {A : Type 0} → (List ℕ → Result (A × List ℕ) spec.WireFault) → ℕ → List ℕ → Step A ItemsLeft
+counted_step item zero [] = Ok None
+counted_step item zero (b ∷ rest) = Err spec.Layout
+counted_step item (suc n) bytes = item bytes >>= λ read. Ok (Some (read.0, record { count = n; bytes = read.1 }))
+
+-- the next column of a RowDescription
+abbrev pub field_step : ItemsLeft → Step Field ItemsLeft
+field_step left = counted_step field_at left.count left.bytes
+
+-- a read of an item and of what is left behind it
+abbrev pub Reads : {A Left : Type 0} → Result (A × Left) spec.WireFault → A → Left → Type 0
+Reads read item rest = read ≡ Ok (item, rest)
+
+-- the read is refused by this fault
+abbrev pub Refuses : {A : Type 0} → Result A spec.WireFault → WireFault → Type 0
+Refuses read fault = (cause : spec.WireFault) × (wire_fault fault ≡ Some cause) × (read ≡ Err cause)

@@ -1,8 +1,13 @@
 //! The bodies of messages, each with what its layout holds (PostgreSQL documentation, "Message Formats").
 
+ghost use Rattle.std.specs.Prelude.{◌≡◌, IfOk, IfErr, is_ok};
+ghost use Rattle.std.specs.Str.{is_utf8};
+
+use crate::fault::WireFault;
 use crate::texts::TextPair;
 use bytes::Bytes;
 use std::marker::Model;
+use std::str;
 
 /// What a server of GSS answers.
 #[derive(Drop)]
@@ -112,6 +117,38 @@ impl Model for ParameterStatusBody {
     ghost Value = { Setting };
 
     ghost view = { λ b. record { name = b.texts.first; value = b.texts.second } };
+}
+
+impl ParameterStatusBody {
+    /// The setting's name. NotUtf8 comes exactly where it isn't UTF-8.
+    pub fn name(&self) -> Result<&str, WireFault>
+        ensures text { IfOk result (λ text. text.now ≡ self.now.name) }
+        ensures utf8 { is_ok result ≡ is_utf8 self.now.name }
+        ensures fault { IfErr result (λ fault. fault ≡ WireFault.NotUtf8) }
+    {
+        text_of(self.texts.first())
+    }
+
+    /// Its value. NotUtf8 comes exactly where it isn't UTF-8.
+    pub fn value(&self) -> Result<&str, WireFault>
+        ensures text { IfOk result (λ text. text.now ≡ self.now.value) }
+        ensures utf8 { is_ok result ≡ is_utf8 self.now.value }
+        ensures fault { IfErr result (λ fault. fault ≡ WireFault.NotUtf8) }
+    {
+        text_of(self.texts.second())
+    }
+}
+
+/// The bytes as a text.
+fn text_of(bytes: &[u8]) -> Result<&str, WireFault>
+    ensures text { IfOk result (λ text. text.now ≡ bytes.now) }
+    ensures utf8 { is_ok result ≡ is_utf8 bytes.now }
+    ensures fault { IfErr result (λ fault. fault ≡ WireFault.NotUtf8) }
+{
+    match str::from_utf8(bytes) {
+        Ok(text) => Ok(text),
+        Err(_) => Err(WireFault::NotUtf8),
+    }
 }
 
 /// Whether a transaction is open.

@@ -1,6 +1,7 @@
 //! The whole message in front of received bytes, and where the batch in front of them ends.
 
 ghost use Rattle.std.specs.Prelude.{◌≡◌, true, false, length};
+ghost use Rattle.pg_spec.specs.RawMessages.{messages};
 ghost use Rattle.pg_wire.specs.Fronts.{FrontIs, IsCut, is_aside_tag};
 
 use crate::header::Header;
@@ -45,6 +46,23 @@ pub(crate) fn is_aside(tag: u8) -> bool
 pub(crate) struct Cut {
     pub at: usize,
     pub complete: bool,
+}
+
+/// How many whole messages stand in front.
+pub(crate) fn count(s: &[u8]) -> usize
+    ensures { result ≡ length (messages s.now) }
+{
+    let mut at = 0;
+    let mut n = 0;
+    loop {
+        match front(&s[at..]) {
+            Found::Whole(len) => {
+                at += len;
+                n += 1;
+            }
+            _ => return n,
+        }
+    }
 }
 
 /// Where the batch in front ends: behind its ReadyForQuery, before a message aside, or where whole
