@@ -12,3 +12,8 @@ pub mod Header
 pub mod Writes
 pub mod Steps
 pub mod Encode
+pub mod Turning
+pub mod Giving
+pub mod Memory
+pub mod MemoryLinks
+pub mod MemoryStreams

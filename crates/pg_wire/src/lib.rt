@@ -9,17 +9,21 @@ mod error_fields;
 mod fault;
 mod front;
 mod frontend;
+mod giving;
 mod header;
 mod layout;
 mod link;
 mod memory_link;
+mod memory_stream;
 mod message;
 mod ranges;
 mod row_fields;
+mod std_stream;
 mod stream;
 #[cfg(test)]
 mod tests;
 mod texts;
+mod turning;
 
 pub use backend::BackendMessages;
 pub use body::{
@@ -36,7 +40,12 @@ pub use frontend::{StartupParams, copy_data, query, startup_message, terminate};
 pub use header::Header;
 pub use link::{Link, LinkRead, LinkStep, LinkWait, LinkWrite};
 pub use memory_link::MemoryLink;
+pub use memory_stream::{MemorySink, MemorySource};
 pub use message::Message;
+<<<<<<< HEAD
 pub use ranges::DataRowRanges;
+=======
+pub use std_stream::{ReadSource, WriteSink};
+>>>>>>> 99f37aef7efaedfda9860dfa41a4199d53320735
 pub use row_fields::{Field, Fields};
 pub use stream::{Sink, SinkFlush, SinkWrite, Source, SourceRead};
