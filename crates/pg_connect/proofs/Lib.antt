@@ -4,3 +4,9 @@ pub mod Sends
 pub mod Parts
 pub mod Closing
 pub mod Sizes
+pub mod Reports
+pub mod Sorting
+pub mod Arriving
+pub mod Taking
+pub mod Passing
+pub mod Delivering

@@ -52,7 +52,7 @@ Sorts old new message (Err e) = IsUnreadable message e × (new ≡ old)
 -- the same where it was taken off the bytes: what is refused stays unread
 abbrev pub TakesAside : Streams → Streams → Message → Result Off ConnectionFault → Type 0
 TakesAside old new message (Ok off.Kept) = KeepsReport old new message
-TakesAside old new message (Ok (off.Handed handed)) = (async_message (message_view message) ≡ Some (async_of handed)) × (new ≡ old)
+TakesAside old new message (Ok (off.Handed handed)) = (async_message (message_view message) ≡ Some (async_of handed)) × (new ≡ record old { moved = true })
 TakesAside old new message (Ok _) = ⊥
 TakesAside old new message (Err e) = IsUnreadable message e × (new ≡ record old { unread = Some message })
 

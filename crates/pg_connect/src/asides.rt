@@ -1,6 +1,6 @@
 //! Messages that no request asked for, and those that come where no request is open.
 
-ghost use Rattle.std.specs.Prelude.{◌≡◌, ◌<◌, Some, length, IfOk, IfErr, is_ok, OnOk};
+ghost use Rattle.std.specs.Prelude.{◌≡◌, ◌<◌, true, Some, length, IfOk, IfErr, is_ok, OnOk};
 ghost use Rattle.pg_connect.specs.Kept.{keep};
 ghost use Rattle.pg_connect.specs.Reads.{IsUnreadable, Sorts, TakesAside, MeansUnasked, IsUnasked};
 
@@ -66,6 +66,15 @@ impl Streams {
         self.unread = Some(message);
     }
 
+    /// Hands a message out.
+    fn hand_out(&mut self, handed: AsyncMessage) -> Off
+        ensures off { result ≡ Off.Handed handed }
+        ensures moved { self.new ≡ record self.old { moved = true } }
+    {
+        self.moved = true;
+        Off::Handed(handed)
+    }
+
     /// Passes on a message that came off the bytes, or leaves it unread.
     pub(crate) fn take_aside(
         &mut self,
@@ -75,7 +84,7 @@ impl Streams {
         ensures { TakesAside self.old self.new message result }
     {
         match self.sort(alloc, &message) {
-            Ok(Some(handed)) => Ok(Off::Handed(handed)),
+            Ok(Some(handed)) => Ok(self.hand_out(handed)),
             Ok(None) => Ok(Off::Kept),
             Err(e) => {
                 self.refuse(message);
