@@ -203,4 +203,65 @@ impl Streams {
             LinkRead::Failed => Err(ConnectionFault::Link),
         }
     }
+
+    /// Reads piece after piece, with all that came passed on before the next read.
+    pub(crate) fn read_link<L: Link, E: Engine>(
+        &mut self,
+        alloc: Global,
+        link: &mut L,
+        hub: &mut E,
+    ) -> Result<ReadEnd, ConnectionFault>
+        requires limit { self.old.max_bytes < 2 ^ 63 }
+        requires given { self.old.given ≤ self.old.max_bytes }
+        requires held { self.old.held ≡ None }
+        requires delayed { self.old.delayed.items ≡ [] }
+        requires unread { self.old.unread ≡ None }
+        ensures goes { Hands E.becomes hub.old hub.new self.old self.new (L.view link.old) (L.view link.new) (HandedBy result)
+            (ReadEnds self.new (L.view link.old) (L.view link.new) result) }
+        ensures only { OnlyReads self.old self.new (L.view link.old) (L.view link.new) }
+        ensures unread { OnOk result (self.new.unread ≡ None) }
+        ensures within { OnOk result (self.new.given ≤ self.new.max_bytes) }
+    {
+        'pieces: loop {
+            match self.pass_all(alloc, hub) {
+                Ok(Step::Nothing) => {}
+                Ok(Step::Full) => return Ok(ReadEnd::Full),
+                Ok(Step::Handed(message)) => return Ok(ReadEnd::Handed(message)),
+                Err(e) => return Err(e),
+            }
+            match self.read_piece(link) {
+                Ok(true) => {}
+                Ok(false) => return Ok(ReadEnd::Dry),
+                Err(e) => return Err(e),
+            }
+        }
+    }
+
+    /// The read step: what is delayed and held first, then the link.
+    pub(crate) fn read_step<L: Link, E: Engine>(
+        &mut self,
+        alloc: Global,
+        link: &mut L,
+        hub: &mut E,
+    ) -> Result<ReadEnd, ConnectionFault>
+        requires limit { self.old.max_bytes < 2 ^ 63 }
+        requires given { self.old.given ≤ self.old.max_bytes }
+        requires unread { self.old.unread ≡ None }
+        ensures goes { Hands E.becomes hub.old hub.new self.old self.new (L.view link.old) (L.view link.new) (HandedBy result)
+            (ReadEnds self.new (L.view link.old) (L.view link.new) result) }
+        ensures only { OnlyReads self.old self.new (L.view link.old) (L.view link.new) }
+        ensures unread { OnOk result (self.new.unread ≡ None) }
+        ensures within { OnOk result (self.new.given ≤ self.new.max_bytes) }
+    {
+        match self.hand_delayed(alloc) {
+            Ok(None) => {}
+            Ok(Some(message)) => return Ok(ReadEnd::Handed(message)),
+            Err(e) => return Err(e),
+        }
+        match self.deliver_held(alloc, hub) {
+            Ok(true) => self.read_link(alloc, link, hub),
+            Ok(false) => Ok(ReadEnd::Full),
+            Err(e) => Err(e),
+        }
+    }
 }
