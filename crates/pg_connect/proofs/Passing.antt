@@ -14,7 +14,7 @@ use Rattle.pg_connect.specs.declared.ends.ReadEnd.TheVariants as ending
 use Rattle.pg_connect.specs.declared.streams.Streams.{Streams}
 use Rattle.pg_connect.specs.Passes.{Passes, PassesOn, Goes, Hands}
 use Rattle.pg_connect.specs.Ends.{last_is}
-use Rattle.pg_connect.specs.Reads.{HandedOff, OffEnds, DeliverEnds, PassEnds, AllEnds, PieceEnds, ReadEnds, HandedIn, HandedAll, AllDecoded, WasDry, EndsInside}
+use Rattle.pg_connect.specs.Reads.{HandedOff, OffEnds, DeliverEnds, PassEnds, AllEnds, PieceEnds, ReadEnds, HandedIn, HandedAll, AllDecoded, WasDry, EndsInside, RefusesFirst}
 use Rattle.pg_connect.proofs.Joining.{passes-joined, rose_later}
 use Rattle.pg_connect.proofs.Parts.{Joins}
 
@@ -243,3 +243,14 @@ ends_behind t a b (Err fault.Layout) es fs is = is
 ends_behind t a b (Err (fault.Unreadable c)) es fs is = is
 ends_behind t a b (Err (fault.LimitReached given most)) es fs is = is
 ends_behind t a b (Err fault.OutOfMemory) es fs is = tt
+
+pub late_refused : (t : Streams) (a b : LinkView) (e : ConnectionFault) (events : List Event) → RefusesFirst t e → ReadEnds t a b (Err e) events
+late_refused t a b (fault.Unreadable c) events is = inr is
+late_refused t a b fault.OutOfMemory events is = tt
+late_refused t a b fault.BadLength events is = absurd is
+late_refused t a b fault.Layout events is = absurd is
+late_refused t a b (fault.Unasked e) events is = absurd is
+late_refused t a b fault.Link events is = absurd is
+late_refused t a b fault.Closed events is = absurd is
+late_refused t a b fault.Ended events is = absurd is
+late_refused t a b (fault.LimitReached given most) events is = absurd is
