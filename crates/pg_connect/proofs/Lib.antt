@@ -10,3 +10,4 @@ pub mod Arriving
 pub mod Taking
 pub mod Passing
 pub mod Delivering
+pub mod Rounds

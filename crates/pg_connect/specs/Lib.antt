@@ -4,3 +4,4 @@ pub mod Passed
 pub mod Passes
 pub mod Ends
 pub mod Reads
+pub mod Polls

@@ -4,12 +4,14 @@
 mod asides;
 mod ends;
 mod fault;
+mod flushing;
 mod parameters;
 mod reading;
 mod sending;
 mod streams;
+mod turning;
 
-pub use ends::{Off, PartsEnd, ReadEnd, Step, WriteEnd};
+pub use ends::{FlushEnd, Off, PartsEnd, ReadEnd, SendEnd, Step, TurnEnd, WriteEnd};
 pub use fault::ConnectionFault;
 pub use parameters::Parameters;
 pub use streams::{Held, Streams};
