@@ -9,3 +9,10 @@ pub mod ReadyTags
 pub mod Hearing
 pub mod Offering
 pub mod Opening
+pub mod Reports
+pub mod Sorting
+pub mod Arriving
+pub mod Taking
+pub mod Passing
+pub mod Delivering
+pub mod Rounds

@@ -6,3 +6,4 @@ pub mod Ends
 pub mod Startups
 pub mod StartupPolls
 pub mod Reads
+pub mod Polls

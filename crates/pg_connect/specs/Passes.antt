@@ -91,6 +91,12 @@ pub record Passes (old new : Streams) (before after : LinkView) (events : List E
   pub ended : over ≡ true → Rose before.ends after.ends
   pub link : Keeps before after
 
+-- the same, and what was handed out is so
+pub record PassesOn (old new : Streams) (before after : LinkView) (events : List Event) (which : List RawMessage → Type 0) : Type 0 where
+  pub handed : List RawMessage
+  pub is : which handed
+  pub passes : Passes old new before after events handed
+
 -- By some events the hub became another, these passed on what they did, and they ended so.
 pub record Goes {H : Type 0} (becomes : H → List Event → H → Type 0) (a b : H) (old new : Streams) (before after : LinkView)
     (handed : List RawMessage) (ends : List Event → Type 0) : Type 0 where

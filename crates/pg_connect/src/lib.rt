@@ -4,13 +4,15 @@
 mod asides;
 mod ends;
 mod fault;
+mod flushing;
 mod parameters;
 mod reading;
 mod sending;
 mod startup;
 mod streams;
+mod turning;
 
-pub use ends::{Off, PartsEnd, ReadEnd, Step, WriteEnd};
+pub use ends::{FlushEnd, Off, PartsEnd, ReadEnd, SendEnd, Step, TurnEnd, WriteEnd};
 pub use fault::ConnectionFault;
 pub use parameters::Parameters;
 pub use startup::{Heard, Phase, Startup};
