@@ -4,3 +4,5 @@ pub mod ZeroEnded
 pub mod Asides
 pub mod Taken
 pub mod ErrorSteps
+pub mod Items
+pub mod Cells

@@ -13,6 +13,8 @@ mod header;
 mod layout;
 mod link;
 mod message;
+mod ranges;
+mod row_fields;
 mod stream;
 mod texts;
 
@@ -31,4 +33,6 @@ pub use frontend::{StartupParams, query, startup_message, terminate};
 pub use header::Header;
 pub use link::{Link, LinkRead, LinkStep, LinkWait, LinkWrite};
 pub use message::Message;
+pub use ranges::DataRowRanges;
+pub use row_fields::{Field, Fields};
 pub use stream::{Sink, SinkFlush, SinkWrite, Source, SourceRead};
