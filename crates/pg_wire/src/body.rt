@@ -1,6 +1,10 @@
 //! The bodies of messages, each with what its layout holds (PostgreSQL documentation, "Message Formats").
 
-use crate::texts::TextPair;
+ghost use Rattle.std.specs.Prelude.{◌≡◌, true, false, MatchResult};
+ghost use Rattle.std.specs.Str.{is_utf8};
+
+use crate::fault::WireFault;
+use crate::texts::{TextPair, utf8};
 use bytes::Bytes;
 use std::marker::Model;
 
@@ -125,4 +129,137 @@ pub struct ReadyForQueryBody {
 pub struct RowDescriptionBody {
     pub(crate) count: u16,
     pub(crate) fields: Bytes,
+}
+
+impl AuthenticationGssContinueBody {
+    /// What is passed on to GSS.
+    pub fn data(&self) -> &[u8]
+        ensures { result.now ≡ self.now.data }
+    {
+        self.data.as_slice()
+    }
+}
+
+impl AuthenticationMd5PasswordBody {
+    pub fn salt(&self) -> [u8; 4]
+        ensures { result ≡ self.now.salt }
+    {
+        self.salt
+    }
+}
+
+impl AuthenticationSaslContinueBody {
+    /// The challenge as the server wrote it.
+    pub fn data(&self) -> &[u8]
+        ensures { result.now ≡ self.now.data }
+    {
+        self.data.as_slice()
+    }
+}
+
+impl AuthenticationSaslFinalBody {
+    /// The proof as the server wrote it.
+    pub fn data(&self) -> &[u8]
+        ensures { result.now ≡ self.now.data }
+    {
+        self.data.as_slice()
+    }
+}
+
+impl BackendKeyDataBody {
+    pub fn process_id(&self) -> i32
+        ensures { result ≡ self.now.process_id }
+    {
+        self.process_id
+    }
+
+    pub fn secret_key(&self) -> i32
+        ensures { result ≡ self.now.secret_key }
+    {
+        self.secret_key
+    }
+}
+
+impl CommandCompleteBody {
+    /// What the command was and on how many rows it acted. NotUtf8 comes where it isn't UTF-8.
+    pub fn tag(&self) -> Result<&str, WireFault>
+        ensures { MatchResult result
+            (λ text. (text.now ≡ self.now.tag) × (is_utf8 self.now.tag ≡ true))
+            (λ fault. (fault ≡ WireFault.NotUtf8) × (is_utf8 self.now.tag ≡ false)) }
+    {
+        utf8(self.tag.as_slice())
+    }
+}
+
+impl CopyDataBody {
+    /// The piece.
+    pub fn data(&self) -> &[u8]
+        ensures { result.now ≡ self.now.data }
+    {
+        self.data.as_slice()
+    }
+
+    /// The piece, in the bytes that were received.
+    pub fn into_bytes(self) -> Bytes
+        ensures { result ≡ self.data }
+    {
+        let CopyDataBody { data } = self;
+        data
+    }
+}
+
+impl NotificationResponseBody {
+    /// The process of the session that notified.
+    pub fn process_id(&self) -> i32
+        ensures { result ≡ self.now.process_id }
+    {
+        self.process_id
+    }
+
+    /// The channel's name. NotUtf8 comes where it isn't UTF-8.
+    pub fn channel(&self) -> Result<&str, WireFault>
+        ensures { MatchResult result
+            (λ text. (text.now ≡ self.now.channel) × (is_utf8 self.now.channel ≡ true))
+            (λ fault. (fault ≡ WireFault.NotUtf8) × (is_utf8 self.now.channel ≡ false)) }
+    {
+        utf8(self.texts.first())
+    }
+
+    /// The payload. NotUtf8 comes where it isn't UTF-8.
+    pub fn message(&self) -> Result<&str, WireFault>
+        ensures { MatchResult result
+            (λ text. (text.now ≡ self.now.payload) × (is_utf8 self.now.payload ≡ true))
+            (λ fault. (fault ≡ WireFault.NotUtf8) × (is_utf8 self.now.payload ≡ false)) }
+    {
+        utf8(self.texts.second())
+    }
+}
+
+impl ParameterStatusBody {
+    /// The setting's name. NotUtf8 comes where it isn't UTF-8.
+    pub fn name(&self) -> Result<&str, WireFault>
+        ensures { MatchResult result
+            (λ text. (text.now ≡ self.now.name) × (is_utf8 self.now.name ≡ true))
+            (λ fault. (fault ≡ WireFault.NotUtf8) × (is_utf8 self.now.name ≡ false)) }
+    {
+        utf8(self.texts.first())
+    }
+
+    /// Its value. NotUtf8 comes where it isn't UTF-8.
+    pub fn value(&self) -> Result<&str, WireFault>
+        ensures { MatchResult result
+            (λ text. (text.now ≡ self.now.value) × (is_utf8 self.now.value ≡ true))
+            (λ fault. (fault ≡ WireFault.NotUtf8) × (is_utf8 self.now.value ≡ false)) }
+    {
+        utf8(self.texts.second())
+    }
+}
+
+impl ReadyForQueryBody {
+    /// `I` outside a transaction, `T` in one, `E` in one that failed.
+    pub fn status(&self) -> u8
+        ensures { result ≡ self.now.status }
+    {
+        self.status
+    }
 }

@@ -6,7 +6,7 @@ ghost use Rattle.pg_wire.specs.Steps.{Steps, Refuses, field_step};
 
 use crate::body::RowDescriptionBody;
 use crate::fault::WireFault;
-use crate::texts::text_end;
+use crate::texts::{text_end, utf8};
 use bytes::Buf;
 use std::marker::Model;
 
@@ -124,9 +124,9 @@ fn text(bytes: &[u8]) -> Result<(&str, &[u8]), WireFault>
         Some(end) => end,
         None => return Err(WireFault::Layout),
     };
-    match str::from_utf8(&bytes[..end]) {
+    match utf8(&bytes[..end]) {
         Ok(text) => Ok((text, &bytes[end + 1..])),
-        Err(_) => Err(WireFault::NotUtf8),
+        Err(fault) => Err(fault),
     }
 }
 
