@@ -3,7 +3,7 @@ use Rattle.std.proofs.Common.{◌≡◌, ℕ, zero, suc, ◌<◌, List, [], ◌�
 use Rattle.pg_spec.specs.Bodies.{exactly}
 use Rattle.pg_spec.specs.Faults as spec
 use Rattle.pg_spec.specs.Faults.{◌>>=◌}
-use Rattle.pg_wire.specs.Steps.{ItemsLeft, counted_step}
+use Rattle.pg_wire.specs.Steps.{Step, ItemsLeft, counted_step}
 
 -- items that were read, and what the rest reads
 abbrev pub behind : {A : Type 0} → List A → Result (List A) spec.WireFault → Result (List A) spec.WireFault
@@ -17,9 +17,13 @@ behind-more : {A : Type 0} (done : List A) (x : A) (rest : Result (List A) spec.
 behind-more done x (Ok items) = ap (λ l. Ok l) (append_assoc done (x ∷ []) items)
 behind-more done x (Err e) = refl
 
+-- a step that read an item
+abbrev one_of : {A : Type 0} → ℕ → A × List ℕ → Step A ItemsLeft
+one_of n r = Ok (Some (r.0, record { count = n; bytes = r.1 }))
+
 -- what a step says of the whole, by what the item's reader gave
 reads-none : {A : Type 0} (n : ℕ) (item : List ℕ → Result (A × List ℕ) spec.WireFault) (read : Result (A × List ℕ) spec.WireFault) →
-    (read >>= λ r. Ok (Some {A × ItemsLeft} (r.0, record { count = n; bytes = r.1 }))) ≡ Ok None → ⊥
+    (read >>= λ r. one_of n r) ≡ Ok None → ⊥
 reads-none n item (Ok r) h = cc
 reads-none n item (Err e) h = cc
 
@@ -29,7 +33,7 @@ ends-there item zero (b ∷ rest) h = absurd cc
 ends-there item (suc n) bytes h = absurd (reads-none n item (item bytes) h)
 
 refused-read : {A : Type 0} (n : ℕ) (item : List ℕ → Result (A × List ℕ) spec.WireFault) (read : Result (A × List ℕ) spec.WireFault) (cause : spec.WireFault) →
-    (read >>= λ r. Ok (Some {A × ItemsLeft} (r.0, record { count = n; bytes = r.1 }))) ≡ Err cause →
+    (read >>= λ r. one_of n r) ≡ Err cause →
     (read >>= λ first. exactly n item first.1 >>= λ others. Ok (first.0 ∷ others)) ≡ Err cause
 refused-read n item (Ok r) cause h = absurd cc
 refused-read n item (Err e) cause h = let same : e ≡ cause = cc in ap (λ x. Err x) same
@@ -45,11 +49,10 @@ pub record ReadsOne {A : Type 0} (item : List ℕ → Result (A × List ℕ) spe
   pub is : exactly n item bytes ≡ (exactly left.count item left.bytes >>= λ items. Ok (x ∷ items))
 
 one-read : {A : Type 0} (n : ℕ) (item : List ℕ → Result (A × List ℕ) spec.WireFault) (read : Result (A × List ℕ) spec.WireFault) (x : A) (left : ItemsLeft) →
-    (read >>= λ r. Ok (Some {A × ItemsLeft} (r.0, record { count = n; bytes = r.1 }))) ≡ Ok (Some (x, left)) →
+    (read >>= λ r. one_of n r) ≡ Ok (Some (x, left)) →
     (left.count ≡ n) × ((read >>= λ first. exactly n item first.1 >>= λ others. Ok (first.0 ∷ others)) ≡ (exactly left.count item left.bytes >>= λ items. Ok (x ∷ items)))
 one-read {A} n item (Ok r) x left h =
-    let pair : ◌≡◌ {A = A × ItemsLeft} (r.0, record { count = n; bytes = r.1 }) (x, left) = cc in
-    (
+    let pair : ◌≡◌ {A = A × ItemsLeft} (r.0, record { count = n; bytes = r.1 }) (x, left) = cc in (
       sym (ap (λ (p : A × ItemsLeft). p.1.count) pair),
       ap (λ (p : A × ItemsLeft). exactly p.1.count item p.1.bytes >>= λ items. Ok (p.0 ∷ items)) pair,
     )
