@@ -1,11 +1,13 @@
 -- A simple query: what it asks and answers (PostgreSQL documentation, "Simple Query").
-use Rattle.std.specs.Prelude.{◌≡◌, ℕ, Bool, List, [], map, Option, Some, None, is_some, option_map, Result, Ok, Err}
+use Rattle.std.specs.Prelude.{◌≡◌, ◌⊎◌, ℕ, List, map, Option, is_some, option_map, Result, Ok, Err}
 use Rattle.pg_spec.specs.Faults as spec
 use Rattle.pg_spec.specs.Frames.{query_frame}
 use Rattle.pg_spec.specs.RawMessages.{RawMessage}
-use Rattle.pg_spec.specs.Readings.{Next, GoesOn, Answers, decision}
-use Rattle.pg_spec.specs.SimpleQuery.{Item, Columns, Row, Complete, SimpleAnswer, SimpleState, SimpleNext, has_enough, simple_next, simple_reading}
+use Rattle.pg_spec.specs.Readings.{GoesOn, Answers, decision}
+use Rattle.pg_spec.specs.SimpleQuery.{Item, Columns, Row, Complete, SimpleAnswer, SimpleState, SimpleNext, has_enough, simple_next, simple_message, simple_reading}
+use Rattle.pg_spec.specs.Messages.{CommandComplete, DataRow}
 use Rattle.pg_errors.specs.declared.error.Error.{Error}
+use Rattle.pg_errors.specs.declared.error.Error.TheVariants.{OutOfMemory}
 use Rattle.pg_errors.specs.Meanings.{error_of}
 use Rattle.pg_errors.specs.Views.{failure_of}
 use Rattle.pg_query.specs.Dialogue.{Dialogue, Answer}
@@ -54,11 +56,24 @@ state_of r = record { columns = r.columns; items = map item_of r.items }
 abbrev pub reading_of : SimpleReading → List RawMessage → Option (Result (List SimpleMessage) Error)
 reading_of r = told_from r.take (state_of r)
 
+-- it is the answer, by this error
+abbrev pub FailsBy : SimpleNext → Error → Type 0
+FailsBy (Answers (Err failure)) e = e ≡ error_of failure
+FailsBy _ e = ⊥
+
 -- what was seen of a message, by what it does to the reading
 abbrev pub IsSeen : SimpleNext → Seen → SimpleState → Type 0
 IsSeen next More new = next ≡ GoesOn new
 IsSeen next Ends new = next ≡ Answers (Ok new.items)
-IsSeen next (Fails e) new = (failure : spec.Failure) × (next ≡ Answers (Err failure)) × (e ≡ error_of failure)
+IsSeen next (Fails e) new = FailsBy next e
+
+-- what a CommandComplete does
+abbrev pub next_of_complete : SimpleState → List ℕ → SimpleNext
+next_of_complete state tag = simple_message state (CommandComplete tag)
+
+-- what a DataRow does
+abbrev pub next_of_row : SimpleState → ℕ → List ℕ → SimpleNext
+next_of_row state count cells = simple_message state (DataRow count cells)
 
 -- a frame that can't be written is the answer
 abbrev pub asks_by : (take : Option ℕ) → Result (List ℕ) spec.FrameFault → Dialogue (List SimpleMessage)
@@ -69,3 +84,12 @@ asks_by take (Ok frame) = asks (is_some take) frame (told take)
 -- the request is hung up once they are there.
 abbrev pub simple_query : (text : List ℕ) → (take : Option ℕ) → Dialogue (List SimpleMessage)
 simple_query text take = asks_by take (query_frame text)
+
+-- the frame of a text, or the error of one that can't be sent; want of memory may come anywhere
+abbrev pub FramesQuery : List ℕ → Result (List ℕ) Error → Type 0
+FramesQuery text (Ok frame) = query_frame text ≡ Ok frame
+FramesQuery text (Err e) = (e ≡ OutOfMemory) ⊎ ((fault : spec.FrameFault) × (query_frame text ≡ Err fault) × (e ≡ error_of (spec.Encode (spec.Frame fault))))
+
+-- it asks as a simple query does, unless memory lacked for the frame
+abbrev pub AsksQuery : (text : List ℕ) → (take : Option ℕ) → Dialogue (List SimpleMessage) → Type 0
+AsksQuery text take dialogue = (dialogue ≡ simple_query text take) ⊎ (dialogue ≡ Answer (Err OutOfMemory))

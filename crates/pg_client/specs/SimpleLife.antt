@@ -1,7 +1,6 @@
 -- The whole life of a simple query.
 use Rattle.std.specs.Prelude.{◌≡◌, ◌⊎◌, ℕ, List, [], Option, Some, None, Result, Ok, Err}
 use Rattle.pg_spec.specs.Faults as spec
-use Rattle.pg_spec.specs.Frames.{query_frame}
 use Rattle.pg_spec.specs.RawMessages.{RawMessage}
 use Rattle.pg_spec.specs.SimpleQuery.{simple_reading}
 use Rattle.pg_desk.specs.History.{IsFrontOf}

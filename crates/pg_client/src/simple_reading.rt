@@ -1,11 +1,15 @@
 //! The reply to a simple query, read message by message (PostgreSQL documentation, "Simple Query").
 
-ghost use Rattle.std.specs.Prelude.{◌≡◌, ◌++◌, ◌∷◌, [], None, is_some, IfOk, OnOk, ℕ, List};
+ghost use Rattle.std.specs.Prelude.{◌≡◌, ◌++◌, ◌∷◌, [], None, is_some, IfOk, OnOk};
 ghost use Rattle.pg_spec.specs.SimpleQuery as spec;
 ghost use Rattle.pg_wire.specs.Messages.{message_view};
-ghost use Rattle.pg_client.specs.Simple.{state_of, item_of, IsSeen, told};
+ghost use Rattle.pg_spec.specs.Bodies.{fields_of};
+ghost use Rattle.pg_spec.specs.RawMessages.{RawMessage};
+ghost use Rattle.pg_query.specs.Messages.{Means};
+ghost use Rattle.pg_query.specs.Reading.{ReadsOn, TellsAtFault};
+ghost use Rattle.pg_client.specs.Simple.{reading_of, state_of, item_of, IsSeen, next_of_complete, next_of_row};
 
-use pg_errors::Error;
+use pg_errors::{Cause, Error};
 use pg_query::{
     Reading, SimpleMessage, column_names, extract_row_affected, malformed, row_cells, server_error,
     unreadable,
@@ -25,6 +29,7 @@ pub struct SimpleReading {
 }
 
 /// What a message does to the reading.
+#[derive(Drop)]
 pub(crate) enum Seen {
     More,
     /// The reply ends.
@@ -74,14 +79,127 @@ impl SimpleReading {
 
     fn complete(&mut self, body: &CommandCompleteBody) -> Result<Seen, AllocError>
         ensures take { self.new.take ≡ self.old.take }
-        ensures seen { IfOk result (λ seen. IsSeen (spec.complete_next (state_of self.old) body.now.tag) seen (state_of self.new)) }
+        ensures seen { IfOk result (λ seen. IsSeen (next_of_complete (state_of self.old) body.now.tag) seen (state_of self.new)) }
     {
         match extract_row_affected(body) {
-            Ok(affected) => {
-                self.add(SimpleMessage::Complete(affected))?;
-                Ok(Seen::More)
-            }
+            Ok(affected) => match self.add(SimpleMessage::Complete(affected)) {
+                Ok(()) => Ok(Seen::More),
+                Err(_) => Err(AllocError),
+            },
             Err(error) => Ok(Seen::Fails(error)),
         }
+    }
+
+    fn describe(&mut self, alloc: Global, body: &RowDescriptionBody) -> Result<Seen, AllocError>
+        ensures take { self.new.take ≡ self.old.take }
+        ensures seen { IfOk result (λ seen. IsSeen (spec.reads_columns (state_of self.old) (fields_of body.now.count body.now.fields)) seen (state_of self.new)) }
+    {
+        match column_names(alloc, body) {
+            Ok(names) => {
+                self.columns = Some(names.as_slice().len());
+                match self.add(SimpleMessage::Columns(names)) {
+                    Ok(()) => Ok(Seen::More),
+                    Err(_) => Err(AllocError),
+                }
+            }
+            Err(fault) => match unreadable(fault) {
+                Some(error) => Ok(Seen::Fails(error)),
+                None => Err(AllocError),
+            },
+        }
+    }
+
+    fn row(&mut self, alloc: Global, body: &DataRowBody) -> Result<Seen, AllocError>
+        ensures take { self.new.take ≡ self.old.take }
+        ensures seen { IfOk result (λ seen. IsSeen (next_of_row (state_of self.old) body.now.count body.now.cells) seen (state_of self.new)) }
+    {
+        let Some(columns) = self.columns else {
+            return Ok(Seen::Fails(Error::UnexpectedMessage));
+        };
+        match row_cells(alloc, body) {
+            Ok(cells) => {
+                if cells.as_slice().len() != columns {
+                    return Ok(Seen::Fails(Error::Parse(Cause::FieldCount)));
+                }
+                match self.add(SimpleMessage::Row(cells)) {
+                    Ok(()) => Ok(Seen::More),
+                    Err(_) => Err(AllocError),
+                }
+            }
+            Err(fault) => match unreadable(fault) {
+                Some(error) => Ok(Seen::Fails(error)),
+                None => Err(AllocError),
+            },
+        }
+    }
+
+    /// What a message does.
+    fn see(&mut self, alloc: Global, message: &Message) -> Result<Seen, AllocError>
+        ensures take { self.new.take ≡ self.old.take }
+        ensures seen { IfOk result (λ seen. IsSeen (spec.simple_message (state_of self.old) (message_view message.now)) seen (state_of self.new)) }
+    {
+        match message {
+            Message::CommandComplete(body) => self.complete(body),
+            Message::EmptyQueryResponse => match self.add(SimpleMessage::Complete(0)) {
+                Ok(()) => Ok(Seen::More),
+                Err(_) => Err(AllocError),
+            },
+            Message::RowDescription(body) => self.describe(alloc, body),
+            Message::DataRow(body) => self.row(alloc, body),
+            Message::ReadyForQuery(_) => Ok(Seen::Ends),
+            Message::ErrorResponse(body) => match server_error(alloc, body) {
+                Ok(error) => Ok(Seen::Fails(error)),
+                Err(_) => Err(AllocError),
+            },
+            _ => Ok(Seen::Fails(Error::UnexpectedMessage)),
+        }
+    }
+
+    /// The answer, once the message tells it.
+    fn tell(
+        &mut self,
+        alloc: Global,
+        message: &Result<Message, WireFault>,
+    ) -> Result<Option<Result<List<SimpleMessage>, Error>>, AllocError>
+        ensures reads { (raw : RawMessage) → Means raw message.now → IfOk result (λ told. ReadsOn reading_of self.old raw told self.new) }
+        ensures tells { IfOk result (λ told. TellsAtFault message.now told) }
+    {
+        if self.has_enough() {
+            return Ok(Some(Ok(self.give(alloc))));
+        }
+        let message = match message {
+            Ok(message) => message,
+            Err(fault) => {
+                return match malformed(*fault) {
+                    Some(error) => Ok(Some(Err(error))),
+                    None => Err(AllocError),
+                };
+            }
+        };
+        match self.see(alloc, message) {
+            Ok(Seen::Fails(error)) => Ok(Some(Err(error))),
+            Ok(Seen::Ends) => Ok(Some(Ok(self.give(alloc)))),
+            Ok(Seen::More) => {
+                if self.has_enough() {
+                    return Ok(Some(Ok(self.give(alloc))));
+                }
+                Ok(None)
+            }
+            Err(_) => Err(AllocError),
+        }
+    }
+}
+
+impl Reading for SimpleReading {
+    type Output = List<SimpleMessage>;
+
+    ghost reading = { reading_of };
+
+    fn message(
+        &mut self,
+        alloc: Global,
+        message: Result<Message, WireFault>,
+    ) -> Result<Option<Result<List<SimpleMessage>, Error>>, AllocError> {
+        self.tell(alloc, &message)
     }
 }
