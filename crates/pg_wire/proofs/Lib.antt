@@ -6,3 +6,4 @@ pub mod Taken
 pub mod ErrorSteps
 pub mod Items
 pub mod Cells
+pub mod Pairs

@@ -11,3 +11,4 @@ pub mod Decode
 pub mod Header
 pub mod Writes
 pub mod Steps
+pub mod Encode

@@ -29,7 +29,7 @@ pub use body::{
 pub use codec::{BackendMessage, FrontendMessage, PostgresCodec};
 pub use error_fields::{ErrorField, ErrorFields};
 pub use fault::{FrameFault, WireFault};
-pub use frontend::{StartupParams, query, startup_message, terminate};
+pub use frontend::{StartupParams, copy_data, query, startup_message, terminate};
 pub use header::Header;
 pub use link::{Link, LinkRead, LinkStep, LinkWait, LinkWrite};
 pub use message::Message;
