@@ -1,5 +1,5 @@
 -- How far the words of a line were read.
-use Rattle.std.specs.Prelude.{◌≡◌, ◌<◌, ◌≤◌, ℕ, suc, List, length, Option, Some, None, Result, Ok, Err}
+use Rattle.std.specs.Prelude.{◌<◌, ◌≤◌, ℕ, suc, List, length, Option, Some, None, Result, Ok, Err}
 use Rattle.pg_text.specs.declared.word.Item.{Item}
 use Rattle.pg_text.specs.declared.word.Item.TheVariants.{Byte, End, Broken}
 
