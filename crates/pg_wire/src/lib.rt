@@ -42,10 +42,7 @@ pub use link::{Link, LinkRead, LinkStep, LinkWait, LinkWrite};
 pub use memory_link::MemoryLink;
 pub use memory_stream::{MemorySink, MemorySource};
 pub use message::Message;
-<<<<<<< HEAD
 pub use ranges::DataRowRanges;
-=======
 pub use std_stream::{ReadSource, WriteSink};
->>>>>>> 99f37aef7efaedfda9860dfa41a4199d53320735
 pub use row_fields::{Field, Fields};
 pub use stream::{Sink, SinkFlush, SinkWrite, Source, SourceRead};
