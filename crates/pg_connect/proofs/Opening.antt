@@ -98,14 +98,84 @@ opening-done name nonce begin a s t o same sent within h =
     }
 
 -- it failed there
-pub opening-failed : (name nonce : List ℕ) (begin a : LinkView) (s : Startup) (e : Error) → (o : Opening name nonce begin a s) → FailsBy name nonce begin a o.got s e → Failed name nonce begin a s e
-opening-failed name nonce begin a s e o fails = record {
+pub opening-failed : (name nonce : List ℕ) (begin a : LinkView) (s t : Startup) (e : Error) → (o : Opening name nonce begin a s) →
+    t.opening.items ≡ s.opening.items → FailsBy name nonce begin a o.got t e → Failed name nonce begin a t e
+opening-failed name nonce begin a s t e o same fails = record {
   got = o.got;
   sent = o.sent;
   given = o.given;
   taken = o.taken;
-  front = (s.unsent, o.out);
-  frame = o.frame;
+  front = (s.unsent, o.out ∙ sym same);
+  frame = o.frame ∙ ap (λ (l : List ℕ). Ok l) (sym same);
   link = o.link;
   fails = fails;
+}
+
+meets_more : (name nonce : List ℕ) (read ms all : List RawMessage) → all ≡ read ++ ms → MeetsMore name nonce read ms → MeetsMore name nonce [] all
+meets_more name nonce read ms all is m = record {
+  front = read ++ m.front;
+  message = m.message;
+  rest = m.rest;
+  stands = is ∙ ap (λ (l : List RawMessage). read ++ l) m.stands ∙ sym (append_assoc read m.front (m.message ∷ m.rest));
+  at = m.at;
+  leads = m.leads;
+  other = m.other;
+}
+
+meets_refused : (name nonce : List ℕ) (read ms all : List RawMessage) → all ≡ read ++ ms → MeetsRefused name nonce read ms → MeetsRefused name nonce [] all
+meets_refused name nonce read ms all is m = record {
+  front = read ++ m.front;
+  rest = m.rest;
+  stands = is ∙ ap (λ (l : List RawMessage). read ++ l) m.stands ∙ sym (append_assoc read m.front m.rest);
+  refused = m.refused;
+}
+
+-- a message that ends it was heard
+pub heard-fails : (name nonce : List ℕ) (begin a : LinkView) (s t : Startup) (e : Error) → (o : Opening name nonce begin a s) →
+    HearsAll name nonce o.read s.buffer.items t.buffer.items t.phase (Err e) → FailsBy name nonce begin a o.got t e
+heard-fails name nonce begin a s t (error.Io (cause.Wire wire.BadLength)) o h = ap has_bad_header o.came.left ∙ h
+heard-fails name nonce begin a s t (error.Config cause.NotBuilt) o h = meets_more name nonce o.read (messages s.buffer.items) (messages o.got) o.came.messages h.1
+heard-fails name nonce begin a s t error.UnexpectedMessage o h = meets_refused name nonce o.read (messages s.buffer.items) (messages o.got) o.came.messages h.1
+heard-fails name nonce begin a s t error.OutOfMemory o h = tt
+heard-fails name nonce begin a s t _ o h = absurd h.1
+
+-- the frame couldn't be sent
+pub offer-fails : (name nonce : List ℕ) (begin a b : LinkView) (got : List ℕ) (t u : Startup) (e : Error) → Keeps begin a → OfferEnds t a b (Err e) → FailsBy name nonce begin b got u e
+offer-fails name nonce begin a b got t u (error.Io cause.Link) keeps was = rose_later begin.faults a.faults b.faults keeps.counts.faults was
+offer-fails name nonce begin a b got t u error.OutOfMemory keeps was = tt
+offer-fails name nonce begin a b got t u _ keeps was = absurd was
+
+not_none : (l : List ℕ) → 0 < length l → l ≢ []
+not_none [] some = λ e. omega (arith, some)
+not_none (x ∷ xs) some = λ e. absurd cc
+
+-- no piece could be read
+pub piece-fails : (name nonce : List ℕ) (begin a b : LinkView) (s t : Startup) (e : Error) → (o : Opening name nonce begin b t) → Keeps begin a →
+    bytes_left s.buffer.items ≡ s.buffer.items → has_bad_header s.buffer.items ≡ false → PieceEnds s t a b (Err e) → FailsBy name nonce begin b o.got t e
+piece-fails name nonce begin a b s t (error.Io cause.Link) o keeps whole header was = rose_later begin.faults a.faults b.faults keeps.counts.faults was
+piece-fails name nonce begin a b s t error.Closed o keeps whole header was =
+    (rose_later begin.ends a.ends b.ends keeps.counts.ends was.0, o.came.left ∙ ap bytes_left was.1)
+piece-fails name nonce begin a b s t (error.Io cause.Ended) o keeps whole header was =
+    let left : bytes_left o.got ≡ t.buffer.items = o.came.left ∙ ap bytes_left was.2 ∙ whole ∙ sym was.2 in
+    (rose_later begin.ends a.ends b.ends keeps.counts.ends was.0,
+    subst (λ (l : List ℕ). l ≢ []) (sym left) (not_none t.buffer.items was.1),
+    ap has_bad_header (left ∙ was.2) ∙ header)
+piece-fails name nonce begin a b s t (error.LimitReached given limit) o keeps whole header was = (was.0 ∙ o.count, was.1, was.2)
+piece-fails name nonce begin a b s t error.OutOfMemory o keeps whole header was = tt
+piece-fails name nonce begin a b s t _ o keeps whole header was = absurd was
+
+-- a poll begins
+pub opening-again : (name nonce : List ℕ) (begin a : LinkView) (s : Startup) → Opening name nonce begin a s → Opening name nonce begin a (record s { moved = false })
+opening-again name nonce begin a s o = record {
+  got = o.got;
+  sent = o.sent;
+  read = o.read;
+  given = o.given;
+  taken = o.taken;
+  came = o.came;
+  out = o.out;
+  frame = o.frame;
+  leads = o.leads;
+  count = o.count;
+  link = o.link;
 }
