@@ -81,15 +81,13 @@ some_cell buffer rest at z fits is took within low enough =
     let fits' : at + 4 + n ≤ length buffer = omega (arith, length-drop (at + 4) buffer, enough', read.fits) in
     let size : at + 4 + n - (at + 4) ≡ n = omega arith in
     let both : ◌≡◌ {A = Option (List ℕ) × List ℕ} (Some (take n behind), drop n behind) (Some (slice_range buffer (at + 4) (at + 4 + n)), drop (at + 4 + n) buffer) =
-    λ i. (Some (take (sym size i) behind), drop-drop n (at + 4) buffer i) in (
-      (omega arith, fits'),
-      fits',
-      read.by_length
-          ∙ ap (λ b. behind_length b (of_z w32 z) behind) (as_asked z false fits low)
-          ∙ ap (λ (k : ℕ). behind_length false k behind) (sym (as_number z fits (as_asked z false fits low)))
-          ∙ ap (λ r. or_layout r >>= λ cell. Ok (Some cell.0, cell.1)) (bytes_at_all n behind enough')
-          ∙ ap (λ p. Ok p) both,
-    )
+    λ i. (Some (take (sym size i) behind), drop-drop n (at + 4) buffer i) in
+    let counted : cell_at (drop at buffer) ≡ behind_length false n behind =
+    read.by_length ∙ ap (λ b. behind_length b (of_z w32 z) behind) (as_asked z false fits low)
+    ∙ ap (λ (k : ℕ). behind_length false k behind) (sym (as_number z fits (as_asked z false fits low))) in
+    let cut : behind_length false n behind ≡ Ok (Some (take n behind), drop n behind) =
+    ap (λ r. or_layout r >>= λ cell. Ok (Some cell.0, cell.1)) (bytes_at_all n behind enough') in
+    ((omega arith, fits'), fits', counted ∙ cut ∙ ap (λ p. Ok p) both)
 
 -- bytes are left behind the last cell
 pub cells_go_on : (count at : ℕ) (buffer : List ℕ) (left : CellsLeft) → ◌≡◌ {A = CellsLeft} (record { count = count; at = at; buffer = buffer }) left →

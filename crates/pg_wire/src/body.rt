@@ -142,6 +142,7 @@ impl AuthenticationGssContinueBody {
 }
 
 impl AuthenticationMd5PasswordBody {
+    /// What the password's digest is mixed with.
     pub fn salt(&self) -> [u8; 4]
         ensures { result ≡ self.now.salt }
     {
@@ -168,12 +169,14 @@ impl AuthenticationSaslFinalBody {
 }
 
 impl BackendKeyDataBody {
+    /// The process that serves this session.
     pub fn process_id(&self) -> i32
         ensures { result ≡ self.now.process_id }
     {
         self.process_id
     }
 
+    /// The key without which the server cancels nothing.
     pub fn secret_key(&self) -> i32
         ensures { result ≡ self.now.secret_key }
     {

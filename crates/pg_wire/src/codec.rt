@@ -17,7 +17,9 @@ use bytes::{Bytes, BytesMut};
 /// What is written to the server.
 #[derive(Drop)]
 pub enum FrontendMessage {
+    /// Frames as they are.
     Raw(Bytes),
+    /// A piece of a copy, which a CopyData frame is put around.
     CopyData(Bytes),
 }
 

@@ -31,6 +31,7 @@ impl<'a> Model for Field<'a> {
 }
 
 impl<'a> Field<'a> {
+    /// Its name, without the zero byte that ends it.
     pub fn name(&self) -> &'a str
         ensures { result.now ≡ self.now.name }
     {
@@ -51,6 +52,7 @@ impl<'a> Field<'a> {
         self.column_id
     }
 
+    /// The type of its values.
     pub fn type_oid(&self) -> u32
         ensures { result ≡ self.now.type_oid }
     {
@@ -64,6 +66,7 @@ impl<'a> Field<'a> {
         self.type_size
     }
 
+    /// What the type makes of it is the type's own, -1 for none.
     pub fn type_modifier(&self) -> i32
         ensures { result ≡ self.now.type_modifier }
     {
