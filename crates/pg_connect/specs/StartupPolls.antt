@@ -1,5 +1,5 @@
 -- How the steps of a startup's poll may end.
-use Rattle.std.specs.Prelude.{◌≡◌, ℕ, ◌+◌, ◌<◌, ◌≤◌, Bool, true, false, List, [], ◌++◌, length, Result, Ok, Err, ◌⊎◌}
+use Rattle.std.specs.Prelude.{◌≡◌, ℕ, ◌+◌, ◌<◌, ◌≤◌, Bool, true, false, List, [], ◌++◌, length, None, Result, Ok, Err, ◌⊎◌}
 use Rattle.pg_spec.specs.Links.{LinkView, Grew, Rose}
 use Rattle.futures.specs.declared.task.Poll.{Poll}
 use Rattle.futures.specs.declared.task.Poll.TheVariants.{Ready, Pending}
@@ -9,6 +9,7 @@ use Rattle.pg_errors.specs.declared.cause.Cause.TheVariants as cause
 use Rattle.pg_errors.specs.declared.error.Error.{Error}
 use Rattle.pg_errors.specs.declared.error.Error.TheVariants as error
 use Rattle.pg_connect.specs.declared.startup.Startup.{Startup}
+use Rattle.pg_connect.specs.declared.streams.Streams.{Streams}
 
 -- Bytes of the frame were taken, and nothing else happened.
 pub record Sends (old new : Startup) (before after : LinkView) : Type 0 where
@@ -59,3 +60,19 @@ StartupAnswers name nonce begin now s Pending = Opening name nonce begin now s
 pub record SameStart (old new : Startup) : Type 0 where
   pub opening : new.opening.items ≡ old.opening.items
   pub limit : new.max_bytes ≡ old.max_bytes
+
+-- The streams of a connection behind its startup: nothing was delivered, and nothing is unsent.
+pub record IsFresh (s : Startup) (opening : List ℕ) (t : Streams) : Type 0 where
+  pub frame : opening ≡ s.opening.items
+  pub buffer : t.buffer.items ≡ s.buffer.items
+  pub held : t.held ≡ None
+  pub unread : t.unread ≡ None
+  pub delayed : t.delayed.items ≡ []
+  pub parameters : t.parameters ≡ []
+  pub given : t.given ≡ s.given
+  pub limit : t.max_bytes ≡ s.max_bytes
+  pub unsent : t.unsent ≡ []
+  pub active : t.closing ≡ false
+  pub goes_on : t.ended ≡ false
+  pub unmoved : t.moved ≡ false
+  pub delivered : t.delivered ≡ 0

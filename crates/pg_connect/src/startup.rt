@@ -3,7 +3,7 @@
 
 ghost use Rattle.std.specs.Prelude.{◌≡◌, ◌≤◌, ◌<◌, ◌^◌, ◌++◌, ◌∷◌, [], ℕ, List, Ok, Err, length, true, MatchResult, OnOk};
 ghost use Rattle.std.specs.Prelude.{Bool, drop, ◌+◌};
-ghost use Rattle.pg_connect.specs.StartupPolls.{Sends, OfferEnds, Reads, PieceEnds, StartupAnswers, SameStart};
+ghost use Rattle.pg_connect.specs.StartupPolls.{Sends, OfferEnds, Reads, PieceEnds, StartupAnswers, SameStart, IsFresh};
 ghost use Rattle.pg_spec.specs.Batches.{is_batch};
 ghost use Rattle.pg_spec.specs.Links.{LinkView, Rose};
 ghost use Rattle.futures.specs.Poll.{OnPending};
@@ -13,6 +13,7 @@ ghost use Rattle.pg_wire.specs.Messages.{message_view};
 ghost use Rattle.pg_connect.specs.Startups.{Made, Leads, Hears, HearsAll, refusal_of, stop_of, Judges, IsLast, WasLast, Opening, Opened, Failed, phase_of};
 
 
+use crate::{Parameters, Streams};
 use bytes::{Bytes, BytesMut};
 use futures::task::Poll;
 use pg_errors::{Cause, Error};
@@ -22,6 +23,7 @@ use pg_wire::{
     PostgresCodec, StartupParams, WireFault, startup_message,
 };
 use std::alloc::Global;
+use std::collections::VecDeque;
 
 /// How many bytes are read at a time.
 const PIECE: usize = 8192;
@@ -327,6 +329,38 @@ impl Startup {
             Err(error) => return Poll::Ready(Err(error)),
         }
         self.listen(link)
+    }
+
+    /// What a startup that is done leaves: its frame, and the streams of a connection that goes on with
+    /// the bytes that weren't decoded. It takes no memory.
+    pub fn into_streams(self, alloc: Global) -> (Vec<u8>, Streams)
+        ensures { IsFresh self result.0.items result.1 }
+    {
+        let Startup {
+            buffer,
+            unsent: _,
+            opening,
+            phase: _,
+            given,
+            max_bytes,
+            flushed: _,
+            moved: _,
+        } = self;
+        let streams = Streams {
+            buffer,
+            held: None,
+            unread: None,
+            delayed: VecDeque::new(alloc),
+            parameters: Parameters::new(alloc),
+            given,
+            max_bytes,
+            unsent: Bytes::new(),
+            closing: false,
+            ended: false,
+            moved: false,
+            delivered: 0,
+        };
+        (opening, streams)
     }
 
     /// Whether the link gave or took a byte, or gave its end, in the last poll.
