@@ -5,3 +5,5 @@ pub mod Passes
 pub mod Ends
 pub mod Reads
 pub mod Polls
+pub mod Answers
+pub mod Histories
