@@ -26,6 +26,7 @@ pub record SameWay (s t : Streams) : Type 0 where
   pub unsent : t.unsent ≡ s.unsent
   pub closing : t.closing ≡ s.closing
   pub limit : t.max_bytes ≡ s.max_bytes
+  pub ended : t.ended ≡ s.ended
 
 -- calls that send nothing
 pub reads : (s t : Streams) (before after : LinkView) (got : List ℕ) (read lost : List RawMessage) (over : Bool) (events : List Event) (handed : List RawMessage) →
@@ -60,6 +61,7 @@ reads s t before after got read lost over events handed all_read unread given ta
   count = count;
   delivered_count = counted;
   limit = same.limit;
+  flag = same.ended;
   moved = moved;
   ended = ended;
   link = link;

@@ -16,3 +16,5 @@ pub mod Taking
 pub mod Passing
 pub mod Delivering
 pub mod Rounds
+pub mod Turned
+pub mod Standing

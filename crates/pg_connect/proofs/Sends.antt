@@ -51,6 +51,7 @@ sends s unsent closing moved before after sent events read given taken none out 
   count = omega arith;
   delivered_count = omega (arith, ap length none);
   limit = refl;
+  flag = refl;
   moved = moves;
   ended = λ is. absurd cc;
   link = link;

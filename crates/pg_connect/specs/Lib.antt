@@ -7,3 +7,5 @@ pub mod Startups
 pub mod StartupPolls
 pub mod Reads
 pub mod Polls
+pub mod Answers
+pub mod Histories

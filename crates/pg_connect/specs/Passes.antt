@@ -87,6 +87,7 @@ pub record Passes (old new : Streams) (before after : LinkView) (events : List E
   pub count : new.given ≡ old.given + length got
   pub delivered_count : new.delivered ≡ risen old.delivered (length (delivered_by events))
   pub limit : new.max_bytes ≡ old.max_bytes
+  pub flag : new.ended ≡ old.ended
   pub moved : new.moved ≡ (old.moved || (moves got sent handed events || over))
   pub ended : over ≡ true → Rose before.ends after.ends
   pub link : Keeps before after

@@ -19,7 +19,7 @@ returns-in-None-clause-goes g c = λ l. record {
   became = g.met.E.Desk.stays c.args.hub.now;
   passes = reads_nothing c.args.self.now _ l l c.requires (record { given = refl; taken = refl; due = refl })
       (record { buffer = refl; unread = c.requires; held = ap waiting (c.take.ensures.after ∙ c.in-None.ensures.value); delayed = refl; parameters = refl; given = refl; delivered = refl })
-      (record { unsent = refl; closing = refl; limit = refl }) refl (keeps_same l);
+      (record { unsent = refl; closing = refl; limit = refl; ended = refl }) refl (keeps_same l);
   ended = c.take.ensures.after;
 }
 

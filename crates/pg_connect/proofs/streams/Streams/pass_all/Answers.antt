@@ -11,7 +11,7 @@ front-init g c = record {
   goes = λ v. goes-quietly _ _ (g.met.E.Desk.stays c.args.hub.now) c.args.self.now c.args.self.now v v [] Anything
       (reads_nothing c.args.self.now c.args.self.now v v c.requires.unread (record { given = refl; taken = refl; due = refl })
       (record { buffer = refl; unread = c.requires.unread; held = refl; delayed = refl; parameters = refl; given = refl; delivered = refl })
-      (record { unsent = refl; closing = refl; limit = refl }) refl (keeps_same v)) tt;
+      (record { unsent = refl; closing = refl; limit = refl; ended = refl }) refl (keeps_same v)) tt;
   held = c.requires.held;
   delayed = c.requires.delayed;
   unread = c.requires.unread;

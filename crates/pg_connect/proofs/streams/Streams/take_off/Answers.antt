@@ -24,7 +24,7 @@ returns-in-Ok-None-clause-passes c =
       is = refl;
       passes = reads_nothing c.args.self.now _ l l c.requires.unread (record { given = refl; taken = refl; due = refl })
           (record { buffer = cut.same; unread = c.requires.unread; held = refl; delayed = refl; parameters = refl; given = refl; delivered = refl })
-          (record { unsent = refl; closing = refl; limit = refl }) refl (keeps_same l);
+          (record { unsent = refl; closing = refl; limit = refl; ended = refl }) refl (keeps_same l);
     }
 
 pub returns-in-Err-BadLength-clause-passes : goal.returns-in-Err-BadLength-clause-passes
@@ -35,7 +35,7 @@ returns-in-Err-BadLength-clause-passes c =
       is = refl;
       passes = reads_nothing c.args.self.now _ l l c.requires.unread (record { given = refl; taken = refl; due = refl })
           (record { buffer = cut.same; unread = c.requires.unread; held = refl; delayed = refl; parameters = refl; given = refl; delivered = refl })
-          (record { unsent = refl; closing = refl; limit = refl }) refl (keeps_same l);
+          (record { unsent = refl; closing = refl; limit = refl; ended = refl }) refl (keeps_same l);
     }
 
 pub returns-in-Err-Layout-clause-passes : goal.returns-in-Err-Layout-clause-passes
@@ -46,7 +46,7 @@ returns-in-Err-Layout-clause-passes c =
       is = refl;
       passes = reads_nothing c.args.self.now _ l l c.requires.unread (record { given = refl; taken = refl; due = refl })
           (record { buffer = cut.same; unread = c.requires.unread; held = refl; delayed = refl; parameters = refl; given = refl; delivered = refl })
-          (record { unsent = refl; closing = refl; limit = refl }) refl (keeps_same l);
+          (record { unsent = refl; closing = refl; limit = refl; ended = refl }) refl (keeps_same l);
     }
 
 pub returns-in-Ok-Some-Async-clause-passes : goal.returns-in-Ok-Some-Async-clause-passes
@@ -68,7 +68,7 @@ returns-in-Ok-Some-Normal-clause-passes c =
       is = refl;
       passes = subst (λ (x : Streams). Passes s x l l [] []) (sym c.hold.ensures.same)
           (reads_batch s mid l w.messages w.request_complete c.requires.unread c.requires.unread cut (ap waiting c.requires.held) c.hold.ensures.held
-          refl refl refl refl (record { unsent = refl; closing = refl; limit = refl }) refl);
+          refl refl refl refl (record { unsent = refl; closing = refl; limit = refl; ended = refl }) refl);
     }
 
 pub returns-in-Err : goal.returns-in-Err
@@ -86,7 +86,7 @@ returns-in-Err c = record {
           given = refl;
           delivered = refl;
         })
-        (record { unsent = refl; closing = refl; limit = refl }) refl (keeps_same l);
+        (record { unsent = refl; closing = refl; limit = refl; ended = refl }) refl (keeps_same l);
   };
   end = tt;
   delayed = c.requires.delayed;
