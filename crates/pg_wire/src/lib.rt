@@ -13,6 +13,8 @@ mod giving;
 mod header;
 mod layout;
 mod link;
+#[cfg(test)]
+mod link_tests;
 mod memory_link;
 mod memory_stream;
 mod message;
@@ -39,6 +41,6 @@ pub use link::{Link, LinkRead, LinkStep, LinkWait, LinkWrite};
 pub use memory_link::MemoryLink;
 pub use memory_stream::{MemorySink, MemorySource};
 pub use message::Message;
-pub use std_stream::{ReadSource, WriteSink};
 pub use row_fields::{Field, Fields};
+pub use std_stream::{ReadSource, WriteSink};
 pub use stream::{Sink, SinkFlush, SinkWrite, Source, SourceRead};
