@@ -3,12 +3,14 @@
 #![tactic(auto)]
 
 mod hub;
+mod laws;
 mod mailbox;
 mod responses;
 #[cfg(test)]
 mod tests;
 
 pub use hub::Hub;
+pub use laws::every_hub;
 pub use mailbox::Mailbox;
 pub use pg_desk::{Booking, Deliver, Desk, DeskFault, Engine, Event, Out, Stamp, Take};
 pub use responses::Responses;
