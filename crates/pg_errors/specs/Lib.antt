@@ -2,3 +2,5 @@ pub mod Views
 pub mod Faults
 pub mod Parsing
 pub mod Meanings
+pub mod Fields
+pub mod Parts

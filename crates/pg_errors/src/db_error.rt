@@ -3,7 +3,12 @@
 ghost use Rattle.std.specs.Prelude.{◌≡◌};
 ghost use Rattle.pg_errors.specs.Parsing.{ParsesError};
 
+use crate::cause::Cause;
 use crate::error::Error;
+use crate::error_fields::{
+    Names, Origin, are_in_form, are_laid_out, parsed_severity, position, read_names, read_origin,
+    text,
+};
 use crate::severity::Severity;
 use crate::sql_state::SqlState;
 use pg_types::Text;
@@ -47,7 +52,53 @@ impl DbError {
     pub fn parse(alloc: Global, body: &ErrorResponseBody) -> Result<DbError, Error>
         ensures { ParsesError body.now.fields result }
     {
-        Err(Error::OutOfMemory)
+        if !are_laid_out(body) || !are_in_form(alloc, body)? {
+            return Err(Error::Parse(Cause::Fields));
+        }
+        let Some(severity) = text(alloc, body, b'S')? else {
+            return Err(Error::Parse(Cause::Fields));
+        };
+        let Some(code) = text(alloc, body, b'C')? else {
+            return Err(Error::Parse(Cause::Fields));
+        };
+        let Some(message) = text(alloc, body, b'M')? else {
+            return Err(Error::Parse(Cause::Fields));
+        };
+        let parsed_severity = parsed_severity(alloc, body)?;
+        let detail = text(alloc, body, b'D')?;
+        let hint = text(alloc, body, b'H')?;
+        let position = position(alloc, body)?;
+        let where_ = text(alloc, body, b'W')?;
+        let Names {
+            schema,
+            table,
+            column,
+            datatype,
+            constraint,
+        } = read_names(alloc, body)?;
+        let Origin {
+            file,
+            line,
+            routine,
+        } = read_origin(alloc, body)?;
+        Ok(DbError {
+            severity,
+            parsed_severity,
+            code: SqlState::new(code),
+            message,
+            detail,
+            hint,
+            position,
+            where_,
+            schema,
+            table,
+            column,
+            datatype,
+            constraint,
+            file,
+            line,
+            routine,
+        })
     }
 
     pub fn severity(&self) -> &str
