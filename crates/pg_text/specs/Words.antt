@@ -1,7 +1,5 @@
 -- How far the words of a line were read.
 use Rattle.std.specs.Prelude.{◌<◌, ◌≤◌, ℕ, suc, List, length, Option, Some, None, Result, Ok, Err}
-use Rattle.pg_text.specs.declared.word.Item.{Item}
-use Rattle.pg_text.specs.declared.word.Item.TheVariants.{Byte, End, Broken}
 
 -- how much of a line is left: nothing, or the words behind a space
 abbrev pub left_of : Option (List ℕ) → ℕ
@@ -13,9 +11,3 @@ abbrev pub Advances : {A E : Type 0} → Option (List ℕ) → Option (List ℕ)
 Advances old new (Ok (Some x)) = left_of new < left_of old
 Advances old new (Ok None) = Unit {0}
 Advances old new (Err e) = Unit {0}
-
--- what stands next takes some of the n bytes that are there
-abbrev pub StaysWithin : ℕ → Item → Type 0
-StaysWithin n (Byte byte used) = (0 < used) × (used ≤ n)
-StaysWithin n End = 0 < n
-StaysWithin n Broken = Unit {0}

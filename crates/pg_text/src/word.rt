@@ -1,8 +1,9 @@
 //! The words of a line, which single spaces separate.
 
 ghost use Rattle.std.specs.Prelude.{◌≡◌, ◌≤◌, ◌<◌, length, IfOk, IfSome, OnSome, is_none};
-ghost use Rattle.pg_text.specs.Words.{left_of, Advances, StaysWithin};
+ghost use Rattle.pg_text.specs.Words.{left_of, Advances};
 
+use crate::quoted::{Quoted, read_quoted};
 use pg_types::OutOfMemory;
 use std::alloc::Global;
 use std::marker::Model;
@@ -19,22 +20,6 @@ impl<'a> Model for Words<'a> {
     ghost Value = { Option (List ℕ) };
 
     ghost view = { λ w. option_map (λ rest. rest.now) w.rest };
-}
-
-/// A text in quotes: its bytes, and how many bytes it takes in its line.
-#[derive(Drop)]
-struct Quoted {
-    bytes: Vec<u8>,
-    used: usize,
-}
-
-/// What stands next inside quotes.
-#[derive(Drop)]
-enum Item {
-    /// A byte, and how many bytes it takes.
-    Byte(u8, usize),
-    End,
-    Broken,
 }
 
 impl<'a> Words<'a> {
@@ -152,61 +137,4 @@ fn hex_bytes(alloc: Global, digits: &[u8]) -> Result<Option<Vec<u8>>, OutOfMemor
         Err(hex::FromHexError::OutOfMemory) => Err(OutOfMemory),
         Err(_) => Ok(None),
     }
-}
-
-/// The value of a hex digit of either case.
-fn hex_digit(digit: u8) -> Option<u8>
-    ensures { IfSome result (λ value. value < 16) }
-{
-    match digit {
-        b'0'..=b'9' => Some(digit - b'0'),
-        b'a'..=b'f' => Some(digit - b'a' + 10),
-        b'A'..=b'F' => Some(digit - b'A' + 10),
-        _ => None,
-    }
-}
-
-/// The next item inside quotes: a byte as it is, behind a backslash, or in two hex digits.
-fn next_item(s: &[u8]) -> Item
-    ensures { StaysWithin (length s.now) result }
-{
-    match s {
-        [] => Item::Broken,
-        [b'"', ..] => Item::End,
-        [b'\\', b'"', ..] => Item::Byte(b'"', 2),
-        [b'\\', b'\\', ..] => Item::Byte(b'\\', 2),
-        [b'\\', b'x', high, low, ..] => match (hex_digit(*high), hex_digit(*low)) {
-            (Some(high), Some(low)) => Item::Byte(16 * high + low, 4),
-            _ => Item::Broken,
-        },
-        [b'\\', ..] => Item::Broken,
-        [byte, ..] => Item::Byte(*byte, 1),
-    }
-}
-
-/// The text in quotes at the front.
-fn read_quoted(alloc: Global, s: &[u8]) -> Result<Option<Quoted>, OutOfMemory>
-    ensures { IfOk result (λ found. IfSome found (λ q. q.used ≤ length s.now)) }
-{
-    if s.first() != Some(&b'"') {
-        return Ok(None);
-    }
-    let mut bytes = Vec::new(alloc);
-    let mut at = 1;
-    while at < s.len() {
-        match next_item(&s[at..]) {
-            Item::Byte(byte, used) => {
-                if bytes.push(byte).is_err() {
-                    return Err(OutOfMemory);
-                }
-                at += used;
-            }
-            Item::End => return Ok(Some(Quoted {
-                bytes,
-                used: at + 1,
-            })),
-            Item::Broken => return Ok(None),
-        }
-    }
-    Ok(None)
 }
