@@ -1,7 +1,9 @@
 //! The words of a line, which single spaces separate.
 
-ghost use Rattle.std.specs.Prelude.{◌≡◌, ◌≤◌, ◌<◌, length, IfOk, IfSome, OnSome, is_none};
-ghost use Rattle.pg_text.specs.Words.{left_of, Advances};
+ghost use Rattle.std.specs.Prelude.{◌≡◌, ◌≢◌, ◌<◌, ◌≤◌, ◌↔◌, ℕ, length, drop, slice_index, EachIndex, IfOk, IfSome, MatchOption, IsTrue, is_none, option_map};
+ghost use Rattle.std.specs.Int.{IsInRange};
+ghost use Rattle.pg_spec.specs.SessionText.{IsBytes, IsNumber, IsQuoted};
+ghost use Rattle.pg_text.specs.Words.{BeginsWithQuote, IsHexWord, IsWord, LeavesBehind, Means, Takes};
 
 use crate::quoted::{Quoted, read_quoted};
 use pg_types::OutOfMemory;
@@ -37,40 +39,31 @@ impl<'a> Words<'a> {
 
     /// Takes the bytes up to the next space or the end.
     pub(crate) fn word(&mut self) -> Option<&'a [u8]>
-        ensures { OnSome result (left_of self.new < left_of self.old) }
+        ensures { Takes IsWord self.old (option_map (λ word. word.now) result) self.new }
     {
-        let rest = self.rest?;
-        match rest.iter().position(|byte| *byte == b' ') {
-            Some(at) => {
-                self.rest = Some(&rest[at + 1..]);
-                Some(&rest[..at])
+        match self.rest {
+            Some(rest) => {
+                let (word, left) = split_word(rest);
+                self.rest = left;
+                Some(word)
             }
-            None => {
-                self.rest = None;
-                Some(rest)
-            }
+            None => None,
         }
     }
 
     /// Takes a number in decimal digits, of at most `most`.
     pub(crate) fn number(&mut self, most: u64) -> Option<u64>
-        ensures within { IfSome result (λ n. n ≤ most) }
-        ensures advances { OnSome result (left_of self.new < left_of self.old) }
+        ensures { Takes (IsNumber most) self.old result self.new }
     {
-        let digits = self.word()?;
-        if !digits.iter().all(|byte| byte.is_ascii_digit()) {
-            return None;
-        }
-        let text = str::from_utf8(digits).ok()?;
-        match text.parse::<u64>() {
-            Ok(number) if number <= most => Some(number),
-            _ => None,
+        match self.word() {
+            Some(digits) => number_of(digits, most),
+            None => None,
         }
     }
 
     /// Takes a text in quotes.
     pub(crate) fn text(&mut self, alloc: Global) -> Result<Option<Vec<u8>>, OutOfMemory>
-        ensures { Advances self.old self.new result }
+        ensures { IfOk result (λ found. Takes IsQuoted self.old (option_map (λ bytes. bytes.items) found) self.new) }
     {
         let Some(rest) = self.rest else {
             return Ok(None);
@@ -78,7 +71,7 @@ impl<'a> Words<'a> {
         match read_quoted(alloc, rest)? {
             Some(quoted) => {
                 let Quoted { bytes, used } = quoted;
-                if self.step_over(rest, used) {
+                if self.step_to(&rest[used..]) {
                     Ok(Some(bytes))
                 } else {
                     Ok(None)
@@ -90,26 +83,43 @@ impl<'a> Words<'a> {
 
     /// Takes bytes as hex, of which there is at least one, or as a text in quotes.
     pub(crate) fn bytes(&mut self, alloc: Global) -> Result<Option<Vec<u8>>, OutOfMemory>
-        ensures { Advances self.old self.new result }
+        ensures { IfOk result (λ found. Takes IsBytes self.old (option_map (λ bytes. bytes.items) found) self.new) }
     {
-        let Some(rest) = self.rest else {
-            return Ok(None);
-        };
-        if rest.first() == Some(&b'"') {
-            return self.text(alloc);
+        if self.is_at_quote() {
+            let found = self.text(alloc)?;
+            return Ok(found);
         }
+        let found = self.hex(alloc)?;
+        Ok(found)
+    }
+
+    /// The next word begins with a quote.
+    fn is_at_quote(&self) -> bool
+        ensures { IsTrue result ↔ BeginsWithQuote self.now }
+    {
+        match self.rest {
+            Some([b'"', ..]) => true,
+            _ => false,
+        }
+    }
+
+    /// Takes bytes as hex, of which there is at least one.
+    fn hex(&mut self, alloc: Global) -> Result<Option<Vec<u8>>, OutOfMemory>
+        ensures { IfOk result (λ found. Takes IsHexWord self.old (option_map (λ bytes. bytes.items) found) self.new) }
+    {
         match self.word() {
-            Some(digits) => hex_bytes(alloc, digits),
+            Some(digits) => {
+                let found = hex_bytes(alloc, digits)?;
+                Ok(found)
+            }
             None => Ok(None),
         }
     }
 
-    /// Goes on behind a word of `used` bytes, which the end or a space must follow.
-    fn step_over(&mut self, rest: &'a [u8], used: usize) -> bool
-        requires { used ≤ length rest.now }
-        ensures { left_of self.new ≤ length rest.now }
+    /// Goes on where a word has ended, which the end or a space must follow.
+    fn step_to(&mut self, behind: &'a [u8]) -> bool
+        ensures { LeavesBehind behind.now result self.new }
     {
-        let behind = &rest[used..];
         match behind {
             [] => {
                 self.rest = None;
@@ -119,22 +129,64 @@ impl<'a> Words<'a> {
                 self.rest = Some(words);
                 true
             }
-            _ => {
-                self.rest = None;
-                false
-            }
+            _ => false,
         }
     }
 }
 
+/// The bytes up to the first space, and what stands behind it.
+fn split_word(bytes: &[u8]) -> (&[u8], Option<&[u8]>)
+    ensures { Takes IsWord (Some bytes.now) (Some result.0.now) (option_map (λ left. left.now) result.1) }
+{
+    match space_in(bytes) {
+        Some(at) => (&bytes[..at], Some(&bytes[at + 1..])),
+        None => (bytes, None),
+    }
+}
+
+/// Where the first space is.
+fn space_in(bytes: &[u8]) -> Option<usize>
+    ensures { MatchOption result
+        (EachIndex bytes.now (λ k. slice_index bytes.now k ≢ 32))
+        (λ at. (at < length bytes.now) × (slice_index bytes.now at ≡ 32) × ((k : ℕ) → k < at → slice_index bytes.now k ≢ 32)) }
+{
+    bytes.iter().position(|byte| *byte == b' ')
+}
+
+/// The number that decimal digits spell, of at most `most`.
+fn number_of(digits: &[u8], most: u64) -> Option<u64>
+    ensures { Means (IsNumber most) digits.now result }
+{
+    if !are_digits(digits) {
+        return None;
+    }
+    let Ok(text) = str::from_utf8(digits) else {
+        return None;
+    };
+    match text.parse::<u64>() {
+        Ok(number) if number <= most => Some(number),
+        _ => None,
+    }
+}
+
+fn are_digits(bytes: &[u8]) -> bool
+    ensures { IsTrue result ↔ EachIndex bytes.now (λ k. IsInRange 48 57 (slice_index bytes.now k)) }
+{
+    bytes.iter().all(|byte| byte.is_ascii_digit())
+}
+
 /// The bytes that hex digits of either case spell.
-fn hex_bytes(alloc: Global, digits: &[u8]) -> Result<Option<Vec<u8>>, OutOfMemory> {
+fn hex_bytes(alloc: Global, digits: &[u8]) -> Result<Option<Vec<u8>>, OutOfMemory>
+    ensures { IfOk result (λ found. Means IsHexWord digits.now (option_map (λ bytes. bytes.items) found)) }
+{
     if digits.is_empty() {
         return Ok(None);
     }
     match hex::decode(alloc, digits) {
         Ok(bytes) => Ok(Some(bytes)),
-        Err(hex::FromHexError::OutOfMemory) => Err(OutOfMemory),
-        Err(_) => Ok(None),
+        Err(fault) => match fault {
+            hex::FromHexError::OutOfMemory => Err(OutOfMemory),
+            _ => Ok(None),
+        },
     }
 }
