@@ -1,5 +1,6 @@
 -- Words are told from what stands behind them.
-use Rattle.std.proofs.Common.{◌≡◌, ◌≢◌, ◌<◌, ◌≤◌, ◌+◌, ◌*◌, ◌%◌, ◌⊎◌, ℕ, zero, suc, Bool, true, false, cond, List, [], ◌∷◌, ◌++◌, length, get_or, take, drop, Option, Some, None, Result, Ok, Err, IfOk, IfSome, refl, sym, ap, subst, ◌∙◌, append_assoc, append-nil, lt-ltb, ltb-true, inl, inr, arith, nat_lt}
+use Rattle.std.proofs.Common.{◌≡◌, ◌≢◌, ◌<◌, ◌≤◌, ◌+◌, ◌*◌, ◌%◌, ◌⊎◌, ℕ, zero, suc, Bool, true, false, cond, List, [], ◌∷◌, ◌++◌, length, get_or, take, drop, Option, Some, None, Result, Ok, Err, IfOk, IfSome, refl, sym, ap, subst, ◌∙◌, append_assoc, append-nil, lt-ltb, ltb-true, eq-eqb, eqb, ◌&&◌, inl, inr, arith, nat_lt}
+use lib.Pointwise.{pointwise}
 use Rattle.std.specs.Prelude.{EachIndex, IsUtf8}
 use Rattle.std.specs.Int.{IsInRange}
 use Rattle.std.proofs.lemmas.Str.{IsUtf8-from_ascii}
@@ -44,7 +45,7 @@ word_before old rest at behind is goes_on fits here none = (
   take at rest,
   (refl, no_space-take rest at (omega arith) none),
   ap left_text is ∙ ap (λ t. 32 ∷ t) (sym (take-append-drop at rest) ∙ ap (λ t. take at rest ++ t) (drop_more rest at 0 fits
-  ∙ (λ i. here i ∷ sym goes_on i))),
+      ∙ (λ i. here i ∷ sym goes_on i))),
 )
 
 all_no_space : (rest : List ℕ) → ((k : ℕ) → k < length rest → get_or rest k 0 ≢ 32) → NoSpace rest
@@ -63,7 +64,7 @@ word_none new x word left is e = cc e
 abbrev pub Ends : {A : Type 0} → (A → List ℕ → Type 0) → Type 0
 Ends {A} Is = (x y : A) (v w : List ℕ) (l k : Option (List ℕ)) → Is x v → Is y w → v ++ left_text l ≡ w ++ left_text k → (x ≡ y) × (v ≡ w) × (l ≡ k)
 
-word_ends : (v w : List ℕ) (l k : Option (List ℕ)) → NoSpace v → NoSpace w → v ++ left_text l ≡ w ++ left_text k → (v ≡ w) × (l ≡ k)
+pub word_ends : (v w : List ℕ) (l k : Option (List ℕ)) → NoSpace v → NoSpace w → v ++ left_text l ≡ w ++ left_text k → (v ≡ w) × (l ≡ k)
 word_ends [] [] l k p q e = (refl, left_same l k e)
 word_ends [] (c ∷ w) None k p q e = absurd cc
 word_ends [] (c ∷ w) (Some words) k p q e = let same : 32 ≡ c = cc in absurd (q.0 (sym same))
@@ -252,9 +253,9 @@ bytes_quoted old new (Some x) begins (word, is, e) = (word, inr is, e)
 bytes_quoted None new None begins none = absurd begins
 bytes_quoted (Some []) new None begins none = absurd begins
 bytes_quoted (Some (b ∷ rest)) new None begins none = λ x word left means e. elim means [
-    | inl hex ↦ hex_begins x word rest left hex (ap (λ c. c ∷ rest) (sym begins) ∙ cc_tail e)
-    | inr quoted ↦ none x word left quoted e
-  ]
+  | inl hex ↦ hex_begins x word rest left hex (ap (λ c. c ∷ rest) (sym begins) ∙ cc_tail e)
+  | inr quoted ↦ none x word left quoted e
+]
 
 begins : (old : Option (List ℕ)) (x word : List ℕ) (left : Option (List ℕ)) → IsQuoted x word → left_text old ≡ 32 ∷ word ++ left_text left → BeginsWithQuote old
 begins None x word left means e = cc e
@@ -264,9 +265,18 @@ begins (Some (b ∷ rest)) x word left (items, each, is) e = cc_head (cc_tail e 
 pub bytes_hex : (old new : Option (List ℕ)) (r : Option (List ℕ)) → (BeginsWithQuote old → ⊥) → Takes IsHexWord old r new → Takes IsBytes old r new
 bytes_hex old new (Some x) other (word, is, e) = (word, inl is, e)
 bytes_hex old new None other none = λ x word left means e. elim means [
-    | inl hex ↦ none x word left hex e
-    | inr quoted ↦ other (begins old x word left quoted e)
-  ]
+  | inl hex ↦ none x word left hex e
+  | inr quoted ↦ other (begins old x word left quoted e)
+]
 
 pub hex_means : (w bytes : List ℕ) → 0 < length w → decode_of w ≡ Ok bytes → IsHexWord bytes w
 hex_means w bytes some e = (hex_sound w bytes e, λ none. omega (arith, some, ap (λ (t : List ℕ). length t) none))
+
+-- texts that were told apart
+pub other_text : (v w : List ℕ) → pointwise eqb v w ≡ false → v ≡ w → ⊥
+other_text [] [] e same = cc e
+other_text [] (c ∷ w) e same = cc same
+other_text (b ∷ v) [] e same = cc same
+other_text (b ∷ v) (c ∷ w) e same =
+    let rest : v ≡ w = cc in
+    other_text v w (sym (ap (λ t. t && pointwise eqb v w) (eq-eqb b c (cc_head same))) ∙ e) rest

@@ -1,6 +1,7 @@
 -- The words of a line, which single spaces separate.
-use Rattle.std.specs.Prelude.{◌≡◌, ◌≢◌, ℕ, Bool, true, false, List, [], ◌∷◌, ◌++◌, Option, Some, None, IsUtf8}
-use Rattle.pg_spec.specs.SessionText.{IsHex, IsQuoted}
+use Rattle.std.specs.Prelude.{◌≡◌, ◌≢◌, ℕ, Bool, true, false, List, [], ◌∷◌, ◌++◌, flat_map, Option, Some, None, IsUtf8, codes}
+use Rattle.std.specs.List.{AllZip, concat}
+use Rattle.pg_spec.specs.SessionText.{IsBytes, IsHex, IsNumber, IsQuoted}
 
 -- what is left of a line, where words that aren't read yet stand behind a space
 abbrev pub left_text : Option (List ℕ) → List ℕ
@@ -45,3 +46,36 @@ abbrev pub BeginsWithQuote : Option (List ℕ) → Type 0
 BeginsWithQuote None = ⊥
 BeginsWithQuote (Some []) = ⊥
 BeginsWithQuote (Some (b ∷ rest)) = b ≡ 34
+
+-- words with a space before each
+abbrev pub behind : List (List ℕ) → List ℕ
+behind words = flat_map (λ word. 32 ∷ word) words
+
+-- one word stands there and nothing behind it, and this is its meaning; None: it isn't so
+abbrev pub OneWord : {A : Type 0} → (A → List ℕ → Type 0) → Option (List ℕ) → Option A → Type 0
+OneWord {A} Is old None = (x : A) (word : List ℕ) → Is x word → left_text old ≡ behind (word ∷ []) → ⊥
+OneWord {A} Is old (Some x) = (word : List ℕ) × Is x word × (left_text old ≡ behind (word ∷ []))
+
+-- words with these meanings were taken one after another
+abbrev pub TookAll : {A : Type 0} → (A → List ℕ → Type 0) → List A → Option (List ℕ) → Option (List ℕ) → Type 0
+TookAll Is items old new = (words : List (List ℕ)) × AllZip Is items words × (left_text old ≡ behind words ++ left_text new)
+
+-- all words that stand there have these meanings; None: not all have such a meaning
+abbrev pub AllWords : {A : Type 0} → (A → List ℕ → Type 0) → Option (List ℕ) → Option (List A) → Type 0
+AllWords {A} Is old None = (items : List A) (words : List (List ℕ)) → AllZip Is items words → left_text old ≡ behind words → ⊥
+AllWords {A} Is old (Some items) = (words : List (List ℕ)) × AllZip Is items words × (left_text old ≡ behind words)
+
+-- all words are bytes, and these are they, joined; None: it isn't so
+abbrev pub AllBytes : Option (List ℕ) → Option (List ℕ) → Type 0
+AllBytes old None = (pieces : List (List ℕ)) (words : List (List ℕ)) → AllZip IsBytes pieces words → left_text old ≡ behind words → ⊥
+AllBytes old (Some entry) = (pieces : List (List ℕ)) × (words : List (List ℕ)) × AllZip IsBytes pieces words × (left_text old ≡ behind words) × (entry ≡ concat pieces)
+
+-- `take` and a number stand there, and nothing behind them; None: it isn't so
+abbrev pub TakesNumber : Option (List ℕ) → Option ℕ → Type 0
+TakesNumber old None = (n : ℕ) (number : List ℕ) → IsNumber 18446744073709551615 n number → left_text old ≡ behind (codes "take" ∷ number ∷ []) → ⊥
+TakesNumber old (Some n) = (number : List ℕ) × IsNumber 18446744073709551615 n number × (left_text old ≡ behind (codes "take" ∷ number ∷ []))
+
+-- a text has these bytes, which are UTF-8; None: they aren't
+abbrev pub IsTextOf : List ℕ → Option (List ℕ) → Type 0
+IsTextOf bytes None = IsUtf8 bytes → ⊥
+IsTextOf bytes (Some text) = (text ≡ bytes) × IsUtf8 bytes

@@ -26,7 +26,9 @@ impl<'a> Model for Words<'a> {
 
 impl<'a> Words<'a> {
     /// The words of a line.
-    pub(crate) fn new(line: &'a [u8]) -> Words<'a> {
+    pub(crate) fn new(line: &'a [u8]) -> Words<'a>
+        ensures { result ≡ Some line.now }
+    {
         Words { rest: Some(line) }
     }
 

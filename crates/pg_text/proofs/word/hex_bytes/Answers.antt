@@ -7,6 +7,6 @@ returns-in-Ok c = hex_means c.args.digits.now c.in-Ok.bytes.items (grind arith) 
 
 pub returns-in_default : goal.returns-in_default
 returns-in_default c = λ x h. elim c.in-Err.ensures.err [
-    | inl memory ↦ c.in_default.not-OutOfMemory memory
-    | inr fault ↦ hex_refused c.args.digits.now c.in-Err.fault fault x h.0
-  ]
+  | inl memory ↦ c.in_default.not-OutOfMemory memory
+  | inr fault ↦ hex_refused c.args.digits.now c.in-Err.fault fault x h.0
+]
