@@ -4,3 +4,4 @@ pub mod Words
 pub mod Lines
 pub mod Views
 pub mod Written
+pub mod Quotes
