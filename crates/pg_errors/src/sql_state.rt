@@ -1,15 +1,9 @@
 //! Codes of SQL states.
 
-<<<<<<< HEAD
-ghost use Rattle.std.specs.Prelude.{◌≡◌};
-
-use pg_types::Text;
-=======
 ghost use Rattle.std.specs.Prelude.{◌≡◌, IfOk};
 
 use pg_types::{OutOfMemory, Text};
 use std::alloc::Global;
->>>>>>> abfaec4a814e883c7b2078a6fb5d1fe69e0d39d0
 
 /// A code that says what kind of error it is (PostgreSQL documentation, "PostgreSQL Error Codes").
 #[derive(Debug, Drop, PartialEq, Eq)]
@@ -18,8 +12,6 @@ pub struct SqlState {
 }
 
 impl SqlState {
-<<<<<<< HEAD
-=======
     /// `undefined_table`.
     pub const UNDEFINED_TABLE: &'static str = "42P01";
 
@@ -42,7 +34,6 @@ impl SqlState {
         }
     }
 
->>>>>>> abfaec4a814e883c7b2078a6fb5d1fe69e0d39d0
     pub fn code(&self) -> &str
         ensures { result.now ≡ self.now.code }
     {

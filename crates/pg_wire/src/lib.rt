@@ -44,11 +44,7 @@ pub use link::{Link, LinkRead, LinkStep, LinkWait, LinkWrite};
 pub use memory_link::MemoryLink;
 pub use memory_stream::{MemorySink, MemorySource};
 pub use message::Message;
-<<<<<<< HEAD
 pub use ranges::DataRowRanges;
 pub use std_stream::{ReadSource, WriteSink};
-=======
->>>>>>> 20cf53de0b624c7be23edbdfab6e7d3198edddb7
 pub use row_fields::{Field, Fields};
-pub use std_stream::{ReadSource, WriteSink};
 pub use stream::{Sink, SinkFlush, SinkWrite, Source, SourceRead};
