@@ -4,3 +4,5 @@ pub mod Parsing
 pub mod Meanings
 pub mod Fields
 pub mod Parts
+pub mod Sources
+pub mod Notices

@@ -4,6 +4,8 @@ ghost use Rattle.std.specs.Prelude.{◌≡◌, option_map};
 ghost use Rattle.pg_spec.specs.DbErrors.{severity_named};
 ghost use Rattle.pg_errors.specs.Views.{severity_of};
 
+use std::fmt;
+
 /// How grave an error or a notice is (PostgreSQL documentation, "Error and Notice Message Fields",
 /// field V).
 #[derive(Clone, Copy, Debug, PartialEq, Eq, Drop)]
@@ -48,5 +50,20 @@ impl Severity {
             return Some(Severity::Log);
         }
         None
+    }
+}
+
+impl fmt::Display for Severity {
+    fn fmt<W: fmt::Write>(&self, f: &mut fmt::Formatter<W>) -> fmt::Result {
+        f.write_str(match self {
+            Severity::Panic => "PANIC",
+            Severity::Fatal => "FATAL",
+            Severity::Error => "ERROR",
+            Severity::Warning => "WARNING",
+            Severity::Notice => "NOTICE",
+            Severity::Debug => "DEBUG",
+            Severity::Info => "INFO",
+            Severity::Log => "LOG",
+        })
     }
 }

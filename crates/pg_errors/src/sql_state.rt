@@ -39,4 +39,14 @@ impl SqlState {
     {
         self.code.as_str()
     }
+
+    /// An equal state.
+    pub fn copy(&self, alloc: Global) -> Result<SqlState, OutOfMemory>
+        ensures { IfOk result (λ state. state ≡ self.now) }
+    {
+        match self.code.copy(alloc) {
+            Ok(code) => Ok(SqlState { code }),
+            Err(memory) => Err(memory),
+        }
+    }
 }
