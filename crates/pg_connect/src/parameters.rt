@@ -1,6 +1,6 @@
 //! The server's settings as last reported (PostgreSQL documentation, "Asynchronous Operations").
 
-ghost use Rattle.std.specs.Prelude.{◌≡◌, [], string_bytes, MatchResult, option_map, slice_get};
+ghost use Rattle.std.specs.Prelude.{◌≡◌, [], string_bytes, MatchResult, map, option_map, slice_get};
 ghost use Rattle.pg_connect.specs.Kept.{keep, value_of};
 
 use pg_types::OutOfMemory;
@@ -40,6 +40,13 @@ impl Parameters {
             Ok(_) => Ok(()),
             Err(_) => Err(OutOfMemory),
         }
+    }
+
+    /// The names and their values, ascending by the name's bytes.
+    pub fn as_map(&self) -> &BTreeMap<String, String>
+        ensures { map (λ entry. (string_bytes entry.0, string_bytes entry.1)) result.now.entries ≡ self.now }
+    {
+        &self.last
     }
 
     /// The value of a name.

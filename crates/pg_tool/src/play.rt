@@ -247,13 +247,11 @@ fn answers_of(alloc: Global, handles: Vec<Handle>) -> Result<List<List<Answer>>,
 /// The server's settings as last reported.
 fn parameters_of(alloc: Global, streams: &Streams) -> Result<List<Pair>, Error> {
     let mut pairs = Vec::new(alloc);
-    let mut place = 0;
-    while let Some((name, value)) = streams.parameters.at(place) {
-        let pair = pair_of(alloc, name, value)?;
+    for (name, value) in streams.parameters.as_map() {
+        let pair = pair_of(alloc, name.as_str(), value.as_str())?;
         if pairs.push(pair).is_err() {
             return Err(Error::OutOfMemory);
         }
-        place += 1;
     }
     Ok(List::new(pairs))
 }

@@ -105,7 +105,7 @@ fn play_session<K: Sink>(alloc: Global, session: Session, sink: &mut K) -> Outco
         max_bytes,
         &mut link,
     );
-    let status = write_result(alloc, &result, sink);
+    let status = write_answer(alloc, &result, sink);
     Outcome {
         status,
         result: Some(result),
@@ -113,8 +113,8 @@ fn play_session<K: Sink>(alloc: Global, session: Session, sink: &mut K) -> Outco
 }
 
 /// Writes the report or the error, and gives the status.
-fn write_result<K: Sink>(alloc: Global, result: &Result<Report, Error>, sink: &mut K) -> u8 {
-    match result {
+fn write_answer<K: Sink>(alloc: Global, answer: &Result<Report, Error>, sink: &mut K) -> u8 {
+    match answer {
         Ok(report) => write_text(sink, report_text(alloc, report), 0),
         Err(Error::OutOfMemory) => 5,
         Err(error) => write_text(sink, error_text(alloc, error), 1),

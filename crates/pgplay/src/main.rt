@@ -11,7 +11,7 @@ use std::process::ExitCode;
 const OUT_OF_MEMORY: u8 = 5;
 
 /// The words behind the program's own name.
-fn words<R: Env + Alloc>(rt: &R) -> io::Result<Vec<String>> {
+fn words(rt: &HostRuntime) -> io::Result<Vec<String>> {
     let mut words = Vec::new(rt.alloc());
     for word in env::args(rt)?.skip(1) {
         words.push(word)?;
