@@ -4,7 +4,7 @@ pub mod Sends
 pub mod Parts
 pub mod Closing
 pub mod Sizes
-pub mod Reports
+pub mod Tags
 pub mod Sorting
 pub mod Arriving
 pub mod Taking

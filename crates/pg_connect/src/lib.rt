@@ -2,6 +2,7 @@
 #![tactic(auto)]
 
 mod asides;
+mod connect_raw;
 mod connection;
 mod ends;
 mod fault;
@@ -11,12 +12,15 @@ mod parameters;
 mod polling;
 mod reading;
 mod sending;
+mod startup_fault;
 mod streams;
 mod turning;
 
+pub use connect_raw::StartupStream;
 pub use connection::Connection;
 pub use ends::{FlushEnd, Off, PartsEnd, ReadEnd, SendEnd, Step, TurnEnd, WriteEnd};
 pub use fault::ConnectionFault;
 pub use laws::{history_of_a_connection, settled_poll};
 pub use parameters::Parameters;
+pub use startup_fault::{Phase, StartupFault};
 pub use streams::{Held, Streams};
