@@ -13,3 +13,4 @@ pub mod Delivering
 pub mod Rounds
 pub mod Turned
 pub mod Standing
+pub mod Dialogues

@@ -2,6 +2,7 @@
 -- (PostgreSQL documentation, "Message Flow", "Start-up"). This version knows AuthenticationOk and
 -- ReadyForQuery alone.
 use Rattle.std.specs.Prelude.{Result, Ok, Err}
+use Rattle.pg_wire.specs.declared.fault.WireFault.{WireFault}
 use Rattle.pg_wire.specs.declared.fault.WireFault.TheVariants as wire_fault
 use Rattle.pg_wire.specs.declared.message.Message.{Message}
 use Rattle.pg_wire.specs.declared.message.Message.TheVariants as wire
@@ -31,3 +32,8 @@ advanced phase wire.AuthenticationOk = Err fault.Unexpected
 advanced Info (wire.ReadyForQuery body) = Ok Over
 advanced phase (wire.ReadyForQuery body) = Err fault.Unexpected
 advanced phase message = Err fault.NotBuilt
+
+-- what a message makes of a startup that can't be read
+abbrev pub refused_as : WireFault → StartupFault
+refused_as wire_fault.OutOfMemory = fault.OutOfMemory
+refused_as f = fault.NotBuilt

@@ -1,5 +1,5 @@
 -- How a startup stands, and what a poll of it answers.
-use Rattle.std.specs.Prelude.{◌≡◌, ◌⊎◌, ◌≤◌, ◌<◌, ℕ, Bool, true, false, List, [], ◌∷◌, ◌++◌, length, take, Result, Ok, Err}
+use Rattle.std.specs.Prelude.{◌≡◌, ◌⊎◌, ◌≤◌, ◌<◌, ℕ, Bool, true, false, List, [], ◌∷◌, ◌++◌, length, take, Option, Some, None, Result, Ok, Err}
 use Rattle.futures.specs.declared.task.Poll.{Poll}
 use Rattle.futures.specs.declared.task.Poll.TheVariants.{Ready, Pending}
 use Rattle.pg_spec.specs.Causes.{is_built}
@@ -121,3 +121,86 @@ abbrev pub StartupAnswers : List ℕ → StartupStream → LinkView → LinkView
 StartupAnswers user new base before after Pending = StartupPends user new base before after
 StartupAnswers user new base before after (Ready (Ok x)) = StartupDone user new base after
 StartupAnswers user new base before after (Ready (Err e)) = StartupFails user new base before after e
+
+-- ---- the steps
+
+-- some messages were read, and lead from one phase to another
+pub record Leads (phase : Phase) (old new : List RawMessage) (next : Phase) : Type 0 where
+  pub front : List RawMessage
+  pub off : old ≡ front ++ new
+  pub reaches : (read : List RawMessage) → Reaches phase read → Reaches next (read ++ front)
+
+-- some messages were read, and the next one fails
+pub record StopsIn (phase : Phase) (ms : List RawMessage) (P : Phase → RawMessage → Type 0) : Type 0 where
+  pub front : List RawMessage
+  pub message : RawMessage
+  pub later : List RawMessage
+  pub between : Phase
+  pub stands : ms ≡ front ++ message ∷ later
+  pub reaches : (read : List RawMessage) → Reaches phase read → Reaches between (read ++ front)
+  pub why : P between message
+
+-- a message that this version doesn't know is awaited
+abbrev pub IsOther : Phase → RawMessage → Type 0
+IsOther Over message = ⊥
+IsOther phase message = is_built message ≡ false
+
+-- a message stands in another's place
+abbrev pub IsMisplaced : Phase → RawMessage → Type 0
+IsMisplaced First message = (status : ℕ) × (message_of message ≡ Ok (ReadyForQuery status))
+IsMisplaced Info message = message_of message ≡ Ok AuthenticationOk
+IsMisplaced Over message = ⊥
+
+-- the next message was read, and leads on
+pub record StepsOn (phase : Phase) (old new : List RawMessage) (next : Phase) : Type 0 where
+  pub message : RawMessage
+  pub off : old ≡ message ∷ new
+  pub reaches : (read : List RawMessage) → Reaches phase read → Reaches next (read ++ message ∷ [])
+
+-- the next message fails
+pub record Fails (phase : Phase) (old : List RawMessage) (P : Phase → RawMessage → Type 0) : Type 0 where
+  pub message : RawMessage
+  pub later : List RawMessage
+  pub front : old ≡ message ∷ later
+  pub why : P phase message
+
+-- how the next message was read
+abbrev pub MessageReads : Phase → List RawMessage → List RawMessage → Result (Option Phase) StartupFault → Type 0
+MessageReads phase old new (Ok None) = (old ≡ []) × (new ≡ [])
+MessageReads phase old new (Ok (Some next)) = StepsOn phase old new next
+MessageReads phase old new (Err fault.NotBuilt) = Fails phase old IsOther
+MessageReads phase old new (Err fault.Unexpected) = Fails phase old IsMisplaced
+MessageReads phase old new (Err fault.OutOfMemory) = Unit {0}
+MessageReads phase old new (Err _) = ⊥
+
+-- how the messages of a batch were read
+abbrev pub BatchReads : Phase → List RawMessage → List RawMessage → Result Phase StartupFault → Type 0
+BatchReads phase old new (Ok Over) = Leads phase old new Over
+BatchReads phase old new (Ok next) = Leads phase old new next × (new ≡ [])
+BatchReads phase old new (Err fault.NotBuilt) = StopsIn phase old IsOther
+BatchReads phase old new (Err fault.Unexpected) = StopsIn phase old IsMisplaced
+BatchReads phase old new (Err fault.OutOfMemory) = Unit {0}
+BatchReads phase old new (Err _) = ⊥
+
+-- messages were taken off the bytes, and lead on
+pub record TakesOn (old new : StartupStream) : Type 0 where
+  pub leads : Leads old.phase (messages old.buffer.items) (messages new.buffer.items) new.phase
+  pub rest : bytes_left old.buffer.items ≡ bytes_left new.buffer.items
+  pub shorter : length new.buffer.items < length old.buffer.items
+
+-- no whole message is buffered
+pub record TakesNone (old new : StartupStream) : Type 0 where
+  pub same : new.buffer.items ≡ old.buffer.items
+  pub phase : new.phase ≡ old.phase
+  pub none : messages old.buffer.items ≡ []
+  pub header : has_bad_header old.buffer.items ≡ false
+
+-- how the front of the bytes was taken off
+abbrev pub BatchTaken : StartupStream → StartupStream → Result Bool StartupFault → Type 0
+BatchTaken old new (Ok true) = TakesOn old new
+BatchTaken old new (Ok false) = TakesNone old new
+BatchTaken old new (Err fault.BadLength) = (messages old.buffer.items ≡ []) × (bytes_left old.buffer.items ≡ old.buffer.items) × (has_bad_header old.buffer.items ≡ true)
+BatchTaken old new (Err fault.NotBuilt) = StopsIn old.phase (messages old.buffer.items) IsOther
+BatchTaken old new (Err fault.Unexpected) = StopsIn old.phase (messages old.buffer.items) IsMisplaced
+BatchTaken old new (Err fault.OutOfMemory) = Unit {0}
+BatchTaken old new (Err _) = ⊥

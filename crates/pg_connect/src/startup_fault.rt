@@ -1,7 +1,7 @@
 //! Why a startup fails, and how far it has come.
 
 ghost use Rattle.std.specs.Prelude.{◌≡◌};
-ghost use Rattle.pg_connect.specs.StartupFaults.{startup_error_of, advanced};
+ghost use Rattle.pg_connect.specs.StartupFaults.{startup_error_of, advanced, refused_as};
 
 use pg_errors::{Cause, Error};
 use pg_wire::{Message, WireFault};
@@ -69,5 +69,15 @@ pub(crate) fn advance(phase: Phase, message: &Message) -> Result<Phase, StartupF
             _ => Err(StartupFault::Unexpected),
         },
         _ => Err(StartupFault::NotBuilt),
+    }
+}
+
+/// What a message makes of a startup that can't be read.
+pub(crate) fn refused(fault: WireFault) -> StartupFault
+    ensures { result ≡ refused_as fault }
+{
+    match fault {
+        WireFault::OutOfMemory => StartupFault::OutOfMemory,
+        _ => StartupFault::NotBuilt,
     }
 }
