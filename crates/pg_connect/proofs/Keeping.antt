@@ -1,5 +1,6 @@
 -- What the store of parameters keeps.
-use Rattle.std.proofs.Common.{◌≡◌, ℕ, List, [], ◌∷◌, map, refl, sym, ap, ◌∙◌}
+use Rattle.std.proofs.Common.{◌≡◌, ℕ, Bool, true, false, if◌then◌else◌, List, [], ◌∷◌, map, Option, Some, option_map, refl, sym, ap, ◌∙◌}
+use Rattle.std.specs.Map.{lookup}
 use Rattle.std.specs.Ordering.{nat_cmp, match_ordering}
 use Rattle.std.specs.declared.cmp.Ordering.{Ordering}
 use Rattle.std.specs.declared.cmp.Ordering.TheVariants.{Less, Equal, Greater}
@@ -23,3 +24,15 @@ map-insert_entry {K} {V} cmp f g same (e ∷ es) k v =
     ∙ ap (λ (o : Ordering). match_ordering o ((f k, g v) ∷ h e ∷ map h es) ((f e.0, g v) ∷ map h es) (h e ∷ map h (insert_entry cmp es k v))) (same k e.0)
     ∙ ap (λ (x : List (List ℕ × List ℕ)). match_ordering (slice_cmp nat_cmp (f k) (f e.0)) ((f k, g v) ∷ h e ∷ map h es) ((f e.0, g v) ∷ map h es) (h e ∷ x))
     (map-insert_entry cmp f g same es k v)
+
+-- a value is looked up by the bytes of its name
+pub lookup-map : {K V : Type 0} (f : K → List ℕ) (g : V → List ℕ) (test : List ℕ → Bool) (es : List (K × V)) →
+    lookup test (map (λ e. (f e.0, g e.1)) es) ≡ option_map g (lookup (λ k. test (f k)) es)
+lookup-map f g test [] = refl
+lookup-map {K} {V} f g test (e ∷ es) =
+    ap (λ (o : Option (List ℕ)). if test (f e.0) then Some (g e.1) else o) (lookup-map f g test es)
+    ∙ chosen (test (f e.0)) e.1 (lookup (λ k. test (f k)) es)
+  where
+    chosen : (b : Bool) (v : V) (o : Option V) → (if b then Some (g v) else option_map g o) ≡ option_map g (if b then Some v else o)
+    chosen true v o = refl
+    chosen false v o = refl

@@ -10,6 +10,7 @@ pub mod Hearing
 pub mod Offering
 pub mod Opening
 pub mod Reports
+pub mod Tags
 pub mod Sorting
 pub mod Arriving
 pub mod Taking
@@ -18,3 +19,4 @@ pub mod Delivering
 pub mod Rounds
 pub mod Turned
 pub mod Standing
+pub mod Dialogues

@@ -2,9 +2,8 @@
 use Rattle.std.specs.Prelude.{ℕ, List, [], Option, fold}
 use Rattle.std.specs.BTreeMap.{insert_entry}
 use Rattle.std.specs.Map.{lookup}
-use Rattle.std.specs.Str.{bytes_eq}
 use Rattle.std.specs.Cmp.Lexicographic.{slice_cmp}
-use Rattle.std.specs.Ordering.{nat_cmp}
+use Rattle.std.specs.Ordering.{nat_cmp, is_eq}
 
 -- names and values with one report more: in the place of its name, by the name's bytes
 abbrev pub keep : List (List ℕ × List ℕ) → List ℕ × List ℕ → List (List ℕ × List ℕ)
@@ -16,4 +15,4 @@ keep_all pairs reports = fold keep pairs reports
 
 -- the value that is kept for a name
 abbrev pub value_of : List (List ℕ × List ℕ) → List ℕ → Option (List ℕ)
-value_of pairs name = lookup (bytes_eq name) pairs
+value_of pairs name = lookup (λ kept. is_eq (slice_cmp nat_cmp name kept)) pairs

@@ -9,3 +9,5 @@ pub mod Reads
 pub mod Polls
 pub mod Answers
 pub mod Histories
+pub mod StartupFaults
+pub mod Startups
