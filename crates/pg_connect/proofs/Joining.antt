@@ -107,7 +107,7 @@ rest_then x y z g h first then =
     ∙ sym (bytes_left-append y h) ∙ then
 
 -- where the connection went on, no message was lost
-none_lost : (o : Option Message) (lost : List RawMessage) → o ≡ None → IsUnread o lost → lost ≡ []
+pub none_lost : (o : Option Message) (lost : List RawMessage) → o ≡ None → IsUnread o lost → lost ≡ []
 none_lost o lost none is = subst (λ (x : Option Message). IsUnread x lost) none is
 
 -- ---- what goes out
@@ -184,7 +184,7 @@ ended_then : (o p : Bool) (a b c : ℕ) → a ≤ b → b ≤ c → (o ≡ true 
 ended_then true p a b c up more first then is = rose_before a b c (first refl) more
 ended_then false p a b c up more first then is = rose_later a b c up (then is)
 
-risen_then : (a b c x y z : ℕ) → b ≡ risen a x → c ≡ risen b y → z ≡ x + y → c ≡ risen a z
+pub risen_then : (a b c x y z : ℕ) → b ≡ risen a x → c ≡ risen b y → z ≡ x + y → c ≡ risen a z
 risen_then a b c x y z first then both = omega arith
 
 -- ---- all together
@@ -221,6 +221,7 @@ passes-joined a b c l m n es fs hs js p q = record {
   delivered_count = risen_then a.delivered b.delivered c.delivered (length (delivered_by es)) (length (delivered_by fs)) _ p.delivered_count q.delivered_count
       (ap length (delivered_by-append es fs) ∙ length-append (delivered_by es) (delivered_by fs));
   limit = q.limit ∙ p.limit;
+  flag = q.flag ∙ p.flag;
   moved = moved_then a.moved b.moved c.moved (moves p.got p.sent hs es) p.over (moves q.got q.sent js fs) q.over _ p.moved q.moved
       (moves-append p.got q.got p.sent q.sent hs js es fs);
   ended = ended_then p.over q.over l.ends m.ends n.ends p.link.counts.ends q.link.counts.ends p.ended q.ended;

@@ -5,3 +5,16 @@ pub mod Parts
 pub mod Closing
 pub mod Starting
 pub mod Sizes
+pub mod ReadyTags
+pub mod Hearing
+pub mod Offering
+pub mod Opening
+pub mod Reports
+pub mod Sorting
+pub mod Arriving
+pub mod Taking
+pub mod Passing
+pub mod Delivering
+pub mod Rounds
+pub mod Turned
+pub mod Standing

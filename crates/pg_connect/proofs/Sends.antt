@@ -51,6 +51,7 @@ sends s unsent closing moved before after sent events read given taken none out 
   count = omega arith;
   delivered_count = omega (arith, ap length none);
   limit = refl;
+  flag = refl;
   moved = moves;
   ended = λ is. absurd cc;
   link = link;
@@ -59,7 +60,7 @@ sends s unsent closing moved before after sent events read given taken none out 
 out_of_nothing : (u : List ℕ) (c : Bool) → (u ++ []) ++ goodbye c c ≡ u
 out_of_nothing u c = ap (λ x. (u ++ []) ++ x) (goodbye_same c) ∙ append-nil (u ++ []) ∙ append-nil u
 
-some_taken : (n : ℕ) (xs : List ℕ) → 1 ≤ n → n ≤ length xs → not (is_nothing (take n xs)) ≡ true
+pub some_taken : (n : ℕ) (xs : List ℕ) → 1 ≤ n → n ≤ length xs → not (is_nothing (take n xs)) ≡ true
 some_taken zero xs some fits = absurd (omega arith)
 some_taken (suc n) [] some fits = absurd (omega arith)
 some_taken (suc n) (x ∷ xs) some fits = refl

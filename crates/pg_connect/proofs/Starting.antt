@@ -6,7 +6,7 @@ use Rattle.pg_spec.specs.Links.{LinkView, Grew}
 use Rattle.pg_spec.specs.RawMessages.{RawMessage, messages, bytes_left}
 use Rattle.pg_spec.specs.Startup.{Startup, Outcome, Done, Refused, More, Phase, First, Move, Writes, Refuses, after_one, moved_by, dialogue, startup_move}
 use Rattle.pg_spec.specs.Startup as startups
-use Rattle.pg_wire.specs.LinkCalls.{Keeps}
+use Rattle.pg_connect.proofs.Joining.{grew_none, keeps_same}
 use Rattle.pg_connect.specs.declared.startup.Startup.{Startup as StartupState}
 use Rattle.pg_connect.specs.Startups.{behind, dialogue_of, frame_of, phase_of, Leads, Ends, Opening}
 
@@ -82,31 +82,19 @@ ends-refused name nonce read at raw f leads e = record {
 pub leads-nil : (name nonce : List ℕ) (read : List RawMessage) (at : Phase) → Leads name nonce read at → Leads name nonce (read ++ []) at
 leads-nil name nonce read at leads = subst (λ (l : List RawMessage). Leads name nonce l at) (sym (append-nil read)) leads
 
--- nothing was given or taken
-pub grew-none : (a : Option (List ℕ)) → Grew a a []
-grew-none None = refl
-grew-none (Some told) = ap (λ l. Some l) (sym (append-nil told))
-
-pub keeps-itself : (l : LinkView) → Keeps l l
-keeps-itself l = record {
-  counts = record { faults = omega arith; quiet = omega arith; dry = omega arith; blocked = omega arith; lulls = omega arith; ends = omega arith };
-  plan = refl;
-  steady = λ h. h;
-}
-
 -- a startup before its first poll
-pub opens : (name : List ℕ) (begin : LinkView) (s : StartupState) → s.buffer.items ≡ [] → s.unsent ≡ s.opening.items →
-    frame_of name ≡ Ok s.opening.items → phase_of s.phase ≡ First → s.given ≡ 0 → Opening name begin begin s
-opens name begin s empty unsent frame at count = record {
+pub opens : (name nonce : List ℕ) (begin : LinkView) (s : StartupState) → s.buffer.items ≡ [] → s.unsent ≡ s.opening.items →
+    frame_of name ≡ Ok s.opening.items → phase_of s.phase ≡ First → s.given ≡ 0 → Opening name nonce begin begin s
+opens name nonce begin s empty unsent frame at count = record {
   got = [];
   sent = [];
   read = [];
-  given = grew-none begin.given;
-  taken = grew-none begin.taken;
+  given = grew_none begin.given;
+  taken = grew_none begin.taken;
   came = record { messages = ap messages (sym empty); left = ap bytes_left (sym empty) };
   out = unsent;
   frame = frame;
-  leads = λ nonce. subst (λ (p : Phase). Leads name nonce [] p) (sym at) (leads-none name nonce);
+  leads = subst (λ (p : Phase). Leads name nonce [] p) (sym at) (leads-none name nonce);
   count = count;
-  link = keeps-itself begin;
+  link = keeps_same begin;
 }

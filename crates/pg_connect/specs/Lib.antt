@@ -6,3 +6,6 @@ pub mod Ends
 pub mod Startups
 pub mod StartupPolls
 pub mod Reads
+pub mod Polls
+pub mod Answers
+pub mod Histories

@@ -87,9 +87,16 @@ pub record Passes (old new : Streams) (before after : LinkView) (events : List E
   pub count : new.given ≡ old.given + length got
   pub delivered_count : new.delivered ≡ risen old.delivered (length (delivered_by events))
   pub limit : new.max_bytes ≡ old.max_bytes
+  pub flag : new.ended ≡ old.ended
   pub moved : new.moved ≡ (old.moved || (moves got sent handed events || over))
   pub ended : over ≡ true → Rose before.ends after.ends
   pub link : Keeps before after
+
+-- the same, and what was handed out is so
+pub record PassesOn (old new : Streams) (before after : LinkView) (events : List Event) (which : List RawMessage → Type 0) : Type 0 where
+  pub handed : List RawMessage
+  pub is : which handed
+  pub passes : Passes old new before after events handed
 
 -- By some events the hub became another, these passed on what they did, and they ended so.
 pub record Goes {H : Type 0} (becomes : H → List Event → H → Type 0) (a b : H) (old new : Streams) (before after : LinkView)

@@ -1,6 +1,7 @@
 -- How the parts of a read step may end, and why.
 use Rattle.std.specs.Prelude.{◌≡◌, ◌<◌, ◌≤◌, ◌⊎◌, Bool, true, false, IsTrue, List, [], ◌∷◌, length, Option, Some, None, IfSome, Result, Ok, Err}
 use Rattle.pg_spec.specs.Causes.{aside_fault, unasked, out_of_turn}
+use Rattle.pg_spec.specs.DbErrors.{db_error_of}
 use Rattle.pg_spec.specs.Faults as faults
 use Rattle.pg_spec.specs.Links.{LinkView, Rose, due_by}
 use Rattle.pg_spec.specs.Messages.{message_of, NoticeResponse}
@@ -15,8 +16,11 @@ use Rattle.pg_desk.specs.declared.event.Event.TheVariants.{Deliver}
 use Rattle.pg_desk.specs.declared.event.Deliver.TheVariants as answer
 use Rattle.pg_errors.specs.declared.async_message.AsyncMessage.{AsyncMessage}
 use Rattle.pg_errors.specs.declared.cause.Cause.{Cause}
+use Rattle.pg_errors.specs.declared.db_error.DbError.{DbError}
+use Rattle.pg_errors.specs.declared.error.Error.{Error}
+use Rattle.pg_errors.specs.declared.error.Error.TheVariants as error
 use Rattle.pg_errors.specs.Parsing.{IsHandedOut}
-use Rattle.pg_errors.specs.Views.{async_of, cause_of, failure_of}
+use Rattle.pg_errors.specs.Views.{async_of, cause_of, db_error, failure_of}
 use Rattle.pg_connect.specs.declared.fault.ConnectionFault.{ConnectionFault}
 use Rattle.pg_connect.specs.declared.fault.ConnectionFault.TheVariants as fault
 use Rattle.pg_connect.specs.declared.ends.Off.{Off}
@@ -52,7 +56,7 @@ Sorts old new message (Err e) = IsUnreadable message e × (new ≡ old)
 -- the same where it was taken off the bytes: what is refused stays unread
 abbrev pub TakesAside : Streams → Streams → Message → Result Off ConnectionFault → Type 0
 TakesAside old new message (Ok off.Kept) = KeepsReport old new message
-TakesAside old new message (Ok (off.Handed handed)) = (async_message (message_view message) ≡ Some (async_of handed)) × (new ≡ old)
+TakesAside old new message (Ok (off.Handed handed)) = (async_message (message_view message) ≡ Some (async_of handed)) × (new ≡ record old { moved = true })
 TakesAside old new message (Ok _) = ⊥
 TakesAside old new message (Err e) = IsUnreadable message e × (new ≡ record old { unread = Some message })
 
@@ -61,6 +65,37 @@ pub record Carries (handed : List RawMessage) (message : AsyncMessage) : Type 0 
   pub raw : RawMessage
   pub alone : handed ≡ raw ∷ []
   pub means : async_of_raw raw ≡ Some (async_of message)
+
+-- the first of the notices that are delayed can't be read
+pub record LeavesDelayed (s : Streams) (c : Cause) : Type 0 where
+  pub notice : ErrorResponseBody
+  pub others : List ErrorResponseBody
+  pub first : s.delayed.items ≡ notice ∷ others
+  pub means : aside_fault (NoticeResponse notice.fields) ≡ Some (cause_of c)
+
+-- an error of reading a message, as the fault of the connection
+abbrev pub unreadable_as : Error → ConnectionFault
+unreadable_as (error.Parse c) = fault.Unreadable c
+unreadable_as _ = fault.OutOfMemory
+
+-- why the first notice that is delayed can't be read
+abbrev pub RefusesFirst : Streams → ConnectionFault → Type 0
+RefusesFirst s (fault.Unreadable c) = LeavesDelayed s c
+RefusesFirst s fault.OutOfMemory = Unit {0}
+RefusesFirst s _ = ⊥
+
+-- the first notice that is delayed reads so
+pub record FirstReads (s : Streams) (e : DbError) : Type 0 where
+  pub notice : ErrorResponseBody
+  pub others : List ErrorResponseBody
+  pub first : s.delayed.items ≡ notice ∷ others
+  pub means : db_error_of notice.fields ≡ Some (db_error e)
+
+-- how the first notice that is delayed reads
+abbrev pub ReadsFirst : Streams → Option (Result DbError ConnectionFault) → Type 0
+ReadsFirst s None = s.delayed.items ≡ []
+ReadsFirst s (Some (Ok e)) = FirstReads s e
+ReadsFirst s (Some (Err e)) = RefusesFirst s e
 
 -- ---- why reading ends
 
@@ -104,13 +139,6 @@ pub record LeavesUnread (s : Streams) (c : Cause) : Type 0 where
   pub message : Message
   pub unread : s.unread ≡ Some message
   pub means : aside_fault (message_view message) ≡ Some (cause_of c)
-
--- the first of the notices that are delayed can't be read
-pub record LeavesDelayed (s : Streams) (c : Cause) : Type 0 where
-  pub notice : ErrorResponseBody
-  pub others : List ErrorResponseBody
-  pub first : s.delayed.items ≡ notice ∷ others
-  pub means : aside_fault (NoticeResponse notice.fields) ≡ Some (cause_of c)
 
 -- ---- the steps
 
@@ -173,6 +201,17 @@ AllEnds new (Err (fault.Unreadable c)) events = LeavesUnread new c
 AllEnds new (Err (fault.Unasked e)) events = (last_is has_no_request events ≡ true) × IsUnasked (waiting new.held) (fault.Unasked e)
 AllEnds new (Err fault.OutOfMemory) events = Unit {0}
 AllEnds new (Err _) events = ⊥
+
+-- what is handed out of the notices that are delayed
+abbrev pub HandedLate : Result (Option AsyncMessage) ConnectionFault → List RawMessage → Type 0
+HandedLate (Ok (Some message)) handed = Carries handed message
+HandedLate _ handed = handed ≡ []
+
+-- how the notices that are delayed were looked at
+abbrev pub LateEnds : Streams → Result (Option AsyncMessage) ConnectionFault → Type 0
+LateEnds new (Ok None) = new.delayed.items ≡ []
+LateEnds new (Ok (Some message)) = Unit {0}
+LateEnds new (Err e) = RefusesFirst new e
 
 -- what is due by the plan was given
 abbrev pub NothingDue : LinkView → Type 0

@@ -11,13 +11,14 @@ use Rattle.pg_spec.specs.Startup as startups
 use Rattle.pg_wire.specs.Faults.{frame_fault}
 use Rattle.pg_wire.specs.LinkCalls.{Keeps}
 use Rattle.pg_wire.specs.declared.fault.FrameFault.{FrameFault}
+use Rattle.pg_wire.specs.declared.fault.WireFault.{WireFault}
 use Rattle.pg_wire.specs.declared.fault.WireFault.TheVariants as wire
 use Rattle.pg_errors.specs.declared.cause.Cause.TheVariants as cause
 use Rattle.pg_errors.specs.declared.error.Error.{Error}
 use Rattle.pg_errors.specs.declared.error.Error.TheVariants as error
 use Rattle.pg_connect.specs.declared.startup.Phase.{Phase}
 use Rattle.pg_connect.specs.declared.startup.Phase.TheVariants as phase
-use Rattle.pg_spec.specs.Messages.{message_of}
+use Rattle.pg_spec.specs.Messages.{message_of, ReadyForQuery}
 use Rattle.pg_wire.specs.Messages.{message_view}
 use Rattle.pg_wire.specs.declared.message.Message.{Message}
 use Rattle.pg_connect.specs.declared.startup.Judgement.{Judgement}
@@ -71,6 +72,26 @@ Judges at message judgement.Unexpected = (name nonce : List ℕ) (raw : RawMessa
     startups.startup_move (only_user name) nonce (phase_of at) raw ≡ startups.Refuses spec.UnexpectedMessage
 Judges at message judgement.NotBuilt = (raw : RawMessage) → message_of raw ≡ Ok (message_view message) → is_built raw ≡ false
 
+-- why a message that can't be read ends the startup: this version doesn't know it
+abbrev pub refusal_of : WireFault → Error
+refusal_of wire.OutOfMemory = error.OutOfMemory
+refusal_of _ = error.Config cause.NotBuilt
+
+-- the same, or that a header has a length below 4
+abbrev pub stop_of : WireFault → Error
+stop_of wire.BadLength = error.Io (cause.Wire wire.BadLength)
+stop_of fault = refusal_of fault
+
+-- only ReadyForQuery ends the startup
+abbrev pub IsLast : Message → Judgement → Type 0
+IsLast message judgement.Done = (status : ℕ) × (message_view message ≡ ReadyForQuery status)
+IsLast message _ = Unit {0}
+
+-- the same of what was heard
+abbrev pub WasLast : Message → Result Heard Error → Type 0
+WasLast message (Ok heard.Done) = (status : ℕ) × (message_view message ≡ ReadyForQuery status)
+WasLast message _ = Unit {0}
+
 -- The dialogue is over with these messages, whatever follows.
 pub record Ends (name nonce : List ℕ) (read : List RawMessage) (outcome : startups.Outcome) : Type 0 where
   pub over : (more : List RawMessage) → (dialogue_of name nonce (read ++ more)).outcome ≡ outcome
@@ -103,8 +124,17 @@ Hears name nonce read ms left at (Err error.UnexpectedMessage) = MeetsRefused na
 Hears name nonce read ms left at (Err error.OutOfMemory) = Unit {0}
 Hears name nonce read ms left at (Err _) = ⊥
 
+-- all that was buffered was heard: no whole message is left, and no header that is none
+pub record HeardAll (name nonce : List ℕ) (read : List RawMessage) (old new : List ℕ) (at : Phase) : Type 0 where
+  pub left : bytes_left new ≡ bytes_left old
+  pub none : messages new ≡ []
+  pub whole : bytes_left new ≡ new
+  pub header : has_bad_header new ≡ false
+  pub leads : Leads name nonce (read ++ messages old) (phase_of at)
+
 -- The same of all that is buffered; a header below 4 behind the messages ends it too.
 abbrev pub HearsAll : (name nonce : List ℕ) (read : List RawMessage) (old new : List ℕ) → Phase → Result Heard Error → Type 0
+HearsAll name nonce read old new at (Ok heard.More) = HeardAll name nonce read old new at
 HearsAll name nonce read old new at (Err (error.Io (cause.Wire wire.BadLength))) = has_bad_header (bytes_left old) ≡ true
 HearsAll name nonce read old new at result = (bytes_left new ≡ bytes_left old) × Hears name nonce read (messages old) (messages new) at result
 
@@ -114,7 +144,7 @@ pub record Came (read : List RawMessage) (got buffer : List ℕ) : Type 0 where
   pub left : bytes_left got ≡ bytes_left buffer
 
 -- What the link gave and took since the startup began, and where the startup stands.
-pub record Opening (name : List ℕ) (begin now : LinkView) (s : Startup) : Type 0 where
+pub record Opening (name nonce : List ℕ) (begin now : LinkView) (s : Startup) : Type 0 where
   pub got : List ℕ
   pub sent : List ℕ
   pub read : List RawMessage
@@ -123,37 +153,37 @@ pub record Opening (name : List ℕ) (begin now : LinkView) (s : Startup) : Type
   pub came : Came read got s.buffer.items
   pub out : sent ++ s.unsent ≡ s.opening.items
   pub frame : frame_of name ≡ Ok s.opening.items
-  pub leads : (nonce : List ℕ) → Leads name nonce read (phase_of s.phase)
+  pub leads : Leads name nonce read (phase_of s.phase)
   pub count : s.given ≡ length got
   pub link : Keeps begin now
 
 -- The startup is done: the frame was taken, and the messages up to ReadyForQuery were read.
-pub record Opened (name : List ℕ) (begin now : LinkView) (s : Startup) : Type 0 where
+pub record Opened (name nonce : List ℕ) (begin now : LinkView) (s : Startup) : Type 0 where
   pub got : List ℕ
   pub read : List RawMessage
   pub given : Grew begin.given now.given got
   pub taken : Grew begin.taken now.taken s.opening.items
   pub came : Came read got s.buffer.items
   pub frame : frame_of name ≡ Ok s.opening.items
-  pub done : (nonce : List ℕ) → Ends name nonce read (startups.Done (length read))
+  pub done : Ends name nonce read (startups.Done (length read))
   pub count : s.given ≡ length got
   pub within : s.given ≤ s.max_bytes
   pub link : Keeps begin now
 
 -- the cause of each failure, by the bytes that were given
-abbrev pub FailsBy : (name : List ℕ) (begin now : LinkView) (got : List ℕ) → Startup → Error → Type 0
-FailsBy name begin now got s (error.Io cause.Link) = Rose begin.faults now.faults
-FailsBy name begin now got s (error.Io cause.Ended) = Rose begin.ends now.ends × (bytes_left got ≢ []) × (has_bad_header (bytes_left got) ≡ false)
-FailsBy name begin now got s error.Closed = Rose begin.ends now.ends × (bytes_left got ≡ [])
-FailsBy name begin now got s (error.Io (cause.Wire wire.BadLength)) = has_bad_header (bytes_left got) ≡ true
-FailsBy name begin now got s (error.Config cause.NotBuilt) = (nonce : List ℕ) → MeetsMore name nonce [] (messages got)
-FailsBy name begin now got s error.UnexpectedMessage = (nonce : List ℕ) → MeetsRefused name nonce [] (messages got)
-FailsBy name begin now got s (error.LimitReached given limit) = (given ≡ length got) × (limit ≡ s.max_bytes) × (limit < given)
-FailsBy name begin now got s error.OutOfMemory = Unit {0}
-FailsBy name begin now got s _ = ⊥
+abbrev pub FailsBy : (name nonce : List ℕ) (begin now : LinkView) (got : List ℕ) → Startup → Error → Type 0
+FailsBy name nonce begin now got s (error.Io cause.Link) = Rose begin.faults now.faults
+FailsBy name nonce begin now got s (error.Io cause.Ended) = Rose begin.ends now.ends × (bytes_left got ≢ []) × (has_bad_header (bytes_left got) ≡ false)
+FailsBy name nonce begin now got s error.Closed = Rose begin.ends now.ends × (bytes_left got ≡ [])
+FailsBy name nonce begin now got s (error.Io (cause.Wire wire.BadLength)) = has_bad_header (bytes_left got) ≡ true
+FailsBy name nonce begin now got s (error.Config cause.NotBuilt) = MeetsMore name nonce [] (messages got)
+FailsBy name nonce begin now got s error.UnexpectedMessage = MeetsRefused name nonce [] (messages got)
+FailsBy name nonce begin now got s (error.LimitReached given limit) = (given ≡ length got) × (limit ≡ s.max_bytes) × (limit < given)
+FailsBy name nonce begin now got s error.OutOfMemory = Unit {0}
+FailsBy name nonce begin now got s _ = ⊥
 
 -- It failed: what the link gave and took, and why.
-pub record Failed (name : List ℕ) (begin now : LinkView) (s : Startup) (e : Error) : Type 0 where
+pub record Failed (name nonce : List ℕ) (begin now : LinkView) (s : Startup) (e : Error) : Type 0 where
   pub got : List ℕ
   pub sent : List ℕ
   pub given : Grew begin.given now.given got
@@ -161,4 +191,4 @@ pub record Failed (name : List ℕ) (begin now : LinkView) (s : Startup) (e : Er
   pub front : (rest : List ℕ) × (sent ++ rest ≡ s.opening.items)
   pub frame : frame_of name ≡ Ok s.opening.items
   pub link : Keeps begin now
-  pub fails : FailsBy name begin now got s e
+  pub fails : FailsBy name nonce begin now got s e

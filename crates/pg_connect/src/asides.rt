@@ -1,8 +1,10 @@
 //! Messages that no request asked for, and those that come where no request is open.
 
-ghost use Rattle.std.specs.Prelude.{◌≡◌, ◌<◌, Some, length, IfOk, IfErr, is_ok, OnOk};
+ghost use Rattle.std.specs.Prelude.{◌≡◌, ◌<◌, true, [], None, drop, Some, length, IfOk, IfErr, is_ok, OnOk};
+ghost use Rattle.pg_spec.specs.Links.{LinkView};
 ghost use Rattle.pg_connect.specs.Kept.{keep};
-ghost use Rattle.pg_connect.specs.Reads.{IsUnreadable, Sorts, TakesAside, MeansUnasked, IsUnasked};
+ghost use Rattle.pg_connect.specs.Passes.{PassesOn};
+ghost use Rattle.pg_connect.specs.Reads.{IsUnreadable, Sorts, TakesAside, MeansUnasked, IsUnasked, unreadable_as, ReadsFirst, HandedLate, LateEnds};
 
 use crate::{ConnectionFault, Off, Streams};
 use pg_errors::{AsyncMessage, Cause, DbError, Error};
@@ -66,6 +68,15 @@ impl Streams {
         self.unread = Some(message);
     }
 
+    /// Hands a message out.
+    fn hand_out(&mut self, handed: AsyncMessage) -> Off
+        ensures off { result ≡ Off.Handed handed }
+        ensures moved { self.new ≡ record self.old { moved = true } }
+    {
+        self.moved = true;
+        Off::Handed(handed)
+    }
+
     /// Passes on a message that came off the bytes, or leaves it unread.
     pub(crate) fn take_aside(
         &mut self,
@@ -75,12 +86,70 @@ impl Streams {
         ensures { TakesAside self.old self.new message result }
     {
         match self.sort(alloc, &message) {
-            Ok(Some(handed)) => Ok(Off::Handed(handed)),
+            Ok(Some(handed)) => Ok(self.hand_out(handed)),
             Ok(None) => Ok(Off::Kept),
             Err(e) => {
                 self.refuse(message);
                 Err(e)
             }
+        }
+    }
+}
+
+/// Why a message of the server can't be read.
+fn unreadable(e: Error) -> ConnectionFault
+    ensures { result ≡ unreadable_as e }
+{
+    match e {
+        Error::Parse(cause) => ConnectionFault::Unreadable(cause),
+        _ => ConnectionFault::OutOfMemory,
+    }
+}
+
+impl Streams {
+    /// Reads the first notice that is delayed, if there is one.
+    fn first_notice(&self, alloc: Global) -> Option<Result<DbError, ConnectionFault>>
+        ensures { ReadsFirst self.now result }
+    {
+        let notice = match self.delayed.front() {
+            Some(notice) => notice,
+            None => return None,
+        };
+        match DbError::parse(alloc, notice) {
+            Ok(error) => Some(Ok(error)),
+            Err(e) => Some(Err(unreadable(e))),
+        }
+    }
+
+    /// Drops the first notice that is delayed, which is handed out.
+    fn drop_notice(&mut self)
+        ensures delayed { self.new.delayed.items ≡ drop 1 self.old.delayed.items }
+        ensures same { self.new ≡ record self.old { delayed = self.new.delayed; moved = true } }
+    {
+        let _ = self.delayed.pop_front();
+        self.moved = true;
+    }
+
+    /// Hands out the first notice that is delayed, if there is one. One that can't be read stays.
+    pub(crate) fn hand_delayed(
+        &mut self,
+        alloc: Global,
+    ) -> Result<Option<AsyncMessage>, ConnectionFault>
+        requires { self.old.unread ≡ None }
+        ensures passes { (l : LinkView) → PassesOn self.old self.new l l [] (HandedLate result) }
+        ensures end { LateEnds self.new result }
+        ensures unread { self.new.unread ≡ None }
+        ensures given { self.new.given ≡ self.old.given }
+        ensures limit { self.new.max_bytes ≡ self.old.max_bytes }
+        ensures closing { self.new.closing ≡ self.old.closing }
+    {
+        match self.first_notice(alloc) {
+            None => Ok(None),
+            Some(Ok(notice)) => {
+                self.drop_notice();
+                Ok(Some(AsyncMessage::Notice(notice)))
+            }
+            Some(Err(e)) => Err(e),
         }
     }
 }

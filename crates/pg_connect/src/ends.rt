@@ -56,3 +56,31 @@ pub enum ReadEnd {
     /// At a link that isn't ready.
     Dry,
 }
+
+/// How a flush step ended.
+#[derive(Clone, Copy, Debug, PartialEq, Eq, Drop)]
+pub enum FlushEnd {
+    /// The link isn't ready.
+    Blocked,
+    Flushed,
+    /// Terminate was taken and flushed, and the link is shut down.
+    ShutDown,
+}
+
+/// How the write step and the flush step ended.
+#[derive(Clone, Copy, Debug, PartialEq, Eq, Drop)]
+pub enum SendEnd {
+    Waits,
+    /// Terminate was taken and flushed, and the link is shut down.
+    Over,
+}
+
+/// How a turn of the connection ended.
+#[derive(Drop)]
+pub enum TurnEnd {
+    /// At a message to hand out.
+    Handed(AsyncMessage),
+    Waits,
+    /// Terminate was taken and flushed, and the link is shut down.
+    Over,
+}

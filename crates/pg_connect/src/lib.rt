@@ -2,16 +2,23 @@
 #![tactic(auto)]
 
 mod asides;
+mod connection;
 mod ends;
 mod fault;
+mod flushing;
+mod laws;
 mod parameters;
+mod polling;
 mod reading;
 mod sending;
 mod startup;
 mod streams;
+mod turning;
 
-pub use ends::{Off, PartsEnd, ReadEnd, Step, WriteEnd};
+pub use connection::Connection;
+pub use ends::{FlushEnd, Off, PartsEnd, ReadEnd, SendEnd, Step, TurnEnd, WriteEnd};
 pub use fault::ConnectionFault;
+pub use laws::{history_of_a_connection, settled_poll};
 pub use parameters::Parameters;
 pub use startup::{Heard, Phase, Startup};
 pub use streams::{Held, Streams};

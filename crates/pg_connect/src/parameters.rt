@@ -1,7 +1,7 @@
 //! The server's settings as last reported (PostgreSQL documentation, "Asynchronous Operations").
 
-ghost use Rattle.std.specs.Prelude.{◌≡◌, [], string_bytes, MatchResult};
-ghost use Rattle.pg_connect.specs.Kept.{keep};
+ghost use Rattle.std.specs.Prelude.{◌≡◌, [], string_bytes, MatchResult, option_map, slice_get};
+ghost use Rattle.pg_connect.specs.Kept.{keep, value_of};
 
 use pg_types::OutOfMemory;
 use std::alloc::Global;
@@ -40,5 +40,29 @@ impl Parameters {
             Ok(_) => Ok(()),
             Err(_) => Err(OutOfMemory),
         }
+    }
+
+    /// The value of a name.
+    pub fn get(&self, name: &str) -> Option<&str>
+        ensures { option_map (λ text. text.now) result ≡ value_of self.now name.now }
+    {
+        match self.last.get(name) {
+            Some(value) => Some(value.as_str()),
+            None => None,
+        }
+    }
+
+    /// Name and value at place `i`, counted from 0. None comes from their number on.
+    pub fn at(&self, i: usize) -> Option<(&str, &str)>
+        ensures { option_map (λ pair. (pair.0.now, pair.1.now)) result ≡ slice_get self.now i }
+    {
+        let mut place = 0;
+        for (name, value) in &self.last {
+            if place == i {
+                return Some((name.as_str(), value.as_str()));
+            }
+            place += 1;
+        }
+        None
     }
 }

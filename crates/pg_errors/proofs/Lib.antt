@@ -1,1 +1,3 @@
 pub mod MeaningLemmas
+pub mod Numbers
+pub mod FieldLemmas

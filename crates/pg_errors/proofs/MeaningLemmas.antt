@@ -1,5 +1,5 @@
 -- An error stands for its own meaning.
-use Rattle.std.proofs.Common.{◌≡◌, ◌≢◌, List, ℕ, Option, Some, None, option_map, refl, ap, ◌∙◌, sym}
+use Rattle.std.proofs.Common.{◌≡◌, ◌≢◌, Option, Some, None, option_map, refl, ap}
 use Rattle.pg_spec.specs.DbErrors as db
 use Rattle.pg_spec.specs.Faults as spec
 use Rattle.pg_wire.specs.Faults.{wire_fault, frame_fault}
@@ -12,8 +12,8 @@ use Rattle.pg_errors.specs.declared.db_error.ErrorPosition.TheVariants as place
 use Rattle.pg_errors.specs.declared.db_error.DbError.{DbError}
 use Rattle.pg_errors.specs.declared.severity.Severity.{Severity}
 use Rattle.pg_errors.specs.declared.severity.Severity.TheVariants as severity
-use Rattle.pg_errors.specs.Views.{severity_of, position_of, db_error, cause_of, failure_of}
-use Rattle.pg_errors.specs.Meanings.{wire_of, frame_of, severity_from, position_from, db_error_from, error_of, cause_from}
+use Rattle.pg_errors.specs.Views.{severity_of, position_of, db_error, cause_of}
+use Rattle.pg_errors.specs.Meanings.{wire_of, frame_of, severity_from, position_from, db_error_from, cause_from}
 
 -- the fault that stands for what is wrong
 pub wire-by : (fault : WireFault) (cause : spec.WireFault) → wire_fault fault ≡ Some cause → fault ≡ wire_of cause

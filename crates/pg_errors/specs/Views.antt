@@ -1,5 +1,5 @@
 -- What errors and messages aside stand for.
-use Rattle.std.specs.Prelude.{List, ℕ, Option, Some, None, option_map, unwrap_or}
+use Rattle.std.specs.Prelude.{Option, Some, None, option_map}
 use Rattle.pg_spec.specs.DbErrors as db
 use Rattle.pg_spec.specs.Faults as spec
 use Rattle.pg_spec.specs.Report as said

@@ -1,12 +1,14 @@
 //! Messages that no request asked for.
 
-ghost use Rattle.std.specs.Prelude.{◌≡◌};
+ghost use Rattle.std.specs.Prelude.{◌≡◌, IfOk};
 ghost use Rattle.pg_errors.specs.Parsing.{ReadsAside};
+ghost use Rattle.pg_errors.specs.Notices.{ReadsNotification};
 
+use crate::cause::Cause;
 use crate::db_error::DbError;
 use crate::error::Error;
-use pg_types::Text;
-use pg_wire::Message;
+use pg_types::{OutOfMemory, Text};
+use pg_wire::{Message, NotificationResponseBody};
 use std::alloc::Global;
 
 /// A notification of another session (PostgreSQL documentation, "Asynchronous Operations").
@@ -24,17 +26,30 @@ pub enum AsyncMessage {
     Notification(Notification),
 }
 
-impl AsyncMessage {
-    /// Reads a notice or a notification. None comes exactly where the message is neither, Parse exactly
-    /// where its fields can't be read or a text isn't UTF-8.
-    pub fn read(alloc: Global, message: &Message) -> Result<Option<AsyncMessage>, Error>
-        ensures { ReadsAside message.now result }
-    {
-        Err(Error::OutOfMemory)
-    }
-}
-
 impl Notification {
+    fn read(alloc: Global, body: &NotificationResponseBody) -> Result<Notification, Error>
+        ensures { ReadsNotification body.now result }
+    {
+        let Ok(channel) = body.channel() else {
+            return Err(Error::Parse(Cause::NotUtf8));
+        };
+        let Ok(payload) = body.message() else {
+            return Err(Error::Parse(Cause::NotUtf8));
+        };
+        let Ok(channel) = Text::from_str(alloc, channel) else {
+            return Err(Error::OutOfMemory);
+        };
+        let Ok(payload) = Text::from_str(alloc, payload) else {
+            return Err(Error::OutOfMemory);
+        };
+        Ok(Notification {
+            process_id: body.process_id(),
+            channel,
+            payload,
+        })
+    }
+
+    /// The process of the session that notified.
     pub fn process_id(&self) -> i32
         ensures { result ≡ self.now.process_id }
     {
@@ -51,5 +66,54 @@ impl Notification {
         ensures { result.now ≡ self.now.payload }
     {
         self.payload.as_str()
+    }
+
+    /// An equal notification.
+    pub fn copy(&self, alloc: Global) -> Result<Notification, OutOfMemory>
+        ensures { IfOk result (λ n. n ≡ self.now) }
+    {
+        let channel = self.channel.copy(alloc)?;
+        let payload = self.payload.copy(alloc)?;
+        Ok(Notification {
+            process_id: self.process_id,
+            channel,
+            payload,
+        })
+    }
+}
+
+impl AsyncMessage {
+    /// Reads a notice or a notification. None comes exactly where the message is neither, Parse exactly
+    /// where its fields can't be read or a text isn't UTF-8.
+    pub fn read(alloc: Global, message: &Message) -> Result<Option<AsyncMessage>, Error>
+        ensures { ReadsAside message.now result }
+    {
+        match message {
+            Message::NoticeResponse(body) => match DbError::parse(alloc, body) {
+                Ok(notice) => Ok(Some(AsyncMessage::Notice(notice))),
+                Err(error) => Err(error),
+            },
+            Message::NotificationResponse(body) => match Notification::read(alloc, body) {
+                Ok(notification) => Ok(Some(AsyncMessage::Notification(notification))),
+                Err(error) => Err(error),
+            },
+            _ => Ok(None),
+        }
+    }
+
+    /// An equal message.
+    pub fn copy(&self, alloc: Global) -> Result<AsyncMessage, OutOfMemory>
+        ensures { IfOk result (λ m. m ≡ self.now) }
+    {
+        match self {
+            AsyncMessage::Notice(notice) => match notice.copy(alloc) {
+                Ok(notice) => Ok(AsyncMessage::Notice(notice)),
+                Err(memory) => Err(memory),
+            },
+            AsyncMessage::Notification(notification) => match notification.copy(alloc) {
+                Ok(notification) => Ok(AsyncMessage::Notification(notification)),
+                Err(memory) => Err(memory),
+            },
+        }
     }
 }

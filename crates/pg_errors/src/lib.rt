@@ -5,6 +5,7 @@ mod async_message;
 mod cause;
 mod db_error;
 mod error;
+mod error_fields;
 mod severity;
 mod sql_state;
 

@@ -1,8 +1,9 @@
 //! Codes of SQL states.
 
-ghost use Rattle.std.specs.Prelude.{◌≡◌};
+ghost use Rattle.std.specs.Prelude.{◌≡◌, IfOk};
 
-use pg_types::Text;
+use pg_types::{OutOfMemory, Text};
+use std::alloc::Global;
 
 /// A code that says what kind of error it is (PostgreSQL documentation, "PostgreSQL Error Codes").
 #[derive(Debug, Drop, PartialEq, Eq)]
@@ -11,9 +12,41 @@ pub struct SqlState {
 }
 
 impl SqlState {
+    /// `undefined_table`.
+    pub const UNDEFINED_TABLE: &'static str = "42P01";
+
+    /// `undefined_column`.
+    pub const UNDEFINED_COLUMN: &'static str = "42703";
+
+    pub(crate) fn new(code: Text) -> SqlState
+        ensures { result.code ≡ code }
+    {
+        SqlState { code }
+    }
+
+    /// The state of a code.
+    pub fn from_code(alloc: Global, code: &str) -> Result<SqlState, OutOfMemory>
+        ensures { IfOk result (λ state. state.code ≡ code.now) }
+    {
+        match Text::from_str(alloc, code) {
+            Ok(code) => Ok(SqlState { code }),
+            Err(memory) => Err(memory),
+        }
+    }
+
     pub fn code(&self) -> &str
         ensures { result.now ≡ self.now.code }
     {
         self.code.as_str()
+    }
+
+    /// An equal state.
+    pub fn copy(&self, alloc: Global) -> Result<SqlState, OutOfMemory>
+        ensures { IfOk result (λ state. state ≡ self.now) }
+    {
+        match self.code.copy(alloc) {
+            Ok(code) => Ok(SqlState { code }),
+            Err(memory) => Err(memory),
+        }
     }
 }

@@ -22,7 +22,7 @@ use Rattle.pg_query.specs.declared.query.Reply.{Reply}
 use Rattle.pg_query.specs.Dialogue.{Dialogue, Answer, Ask, Send, Leave, Read, HangUp, Call, Hear, feed, feed_one, after_reply, Told, Steps, Walks}
 use Rattle.pg_query.specs.Scripts.{IsRead, IsLast, Waiting, wanting, GoesOn}
 use Rattle.pg_query.specs.declared.running.Running.{Running}
-use Rattle.pg_query.specs.Meaning.{Place, meaning, meaning_at, PullsOne, Goes, GoesToAnswer}
+use Rattle.pg_query.specs.Meaning.{Place, meaning_at, PullsOne, Goes, GoesToAnswer}
 
 pub feed-answer : {T : Type 0} (ms : List RawMessage) (r : Result T Error) → feed ms (Answer r) ≡ Answer r
 feed-answer [] r = refl

@@ -1,5 +1,5 @@
 -- The life of a command: what it did at its desk in all of its polls.
-use Rattle.std.specs.Prelude.{◌≡◌, ℕ, List, [], ◌∷◌, ◌++◌, map, Result, Ok, Err}
+use Rattle.std.specs.Prelude.{◌≡◌, ℕ, List, [], ◌∷◌, ◌++◌, map, Ok}
 use Rattle.pg_spec.specs.RawMessages.{RawMessage}
 use Rattle.pg_desk.specs.declared.event.Stamp.{Stamp}
 use Rattle.pg_desk.specs.declared.event.Event.{Event}

@@ -10,6 +10,7 @@ mod one;
 mod polled;
 mod query;
 mod reading;
+mod reply;
 mod running;
 mod script;
 mod simple_message;
@@ -19,6 +20,9 @@ pub use one::One;
 pub use polled::Polled;
 pub use query::{Cleanup, Query, Reply};
 pub use reading::Reading;
+pub use reply::{
+    column_names, extract_row_affected, malformed, row_cells, server_error, unreadable,
+};
 pub use running::Running;
 pub use script::{Action, Script, Want};
 pub use simple_message::{Cells, SimpleMessage};

@@ -1,0 +1,4 @@
+pub mod Texts
+pub mod QuoteLaws
+pub mod WordLaws
+pub mod LineLaws

@@ -1,5 +1,5 @@
 -- What bounds a session that was read so far.
-use Rattle.std.specs.Prelude.{◌<◌, ◌≤◌, ℕ, List, length, IfSome, OnOk, IfOk}
+use Rattle.std.specs.Prelude.{◌<◌, ◌≤◌, ℕ, length, IfSome}
 use Rattle.std.specs.List.{All}
 use Rattle.pg_text.specs.declared.line.Line.{Line}
 use Rattle.pg_text.specs.declared.line.Line.TheVariants.{Cut}

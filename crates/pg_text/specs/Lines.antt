@@ -1,7 +1,15 @@
--- How the lines of a session text begin.
-use Rattle.std.specs.Prelude.{◌≡◌, ◌≢◌, ℕ, List, Option, Some, None, codes}
+-- The lines of a session text, told by their first words.
+use Rattle.std.specs.Prelude.{◌≡◌, ◌≢◌, ◌≤◌, ◌⊎◌, ℕ, List, [], ◌∷◌, Option, Some, None, IsUtf8, codes}
+use Rattle.std.specs.List.{AllZip, concat}
+use Rattle.pg_spec.specs.Report as command
+use Rattle.pg_spec.specs.SessionText as said
+use Rattle.pg_spec.specs.SessionText.{IsBytes, IsNumber, IsQuoted, Spells}
 use Rattle.pg_text.specs.declared.line.Keyword.{Keyword}
 use Rattle.pg_text.specs.declared.line.Keyword.TheVariants.{Config, Limit, Turns, Handle, Step, Cut, Simple}
+use Rattle.pg_text.specs.declared.line.Line.{Line}
+use Rattle.pg_text.specs.declared.line.Line.TheVariants as line
+use Rattle.pg_text.specs.Views.{command_of}
+use Rattle.pg_text.specs.Words.{behind, left_text}
 
 -- the first word of such a line
 abbrev pub first_word : Keyword → List ℕ
@@ -17,3 +25,42 @@ first_word Simple = codes "simple"
 abbrev pub FirstWord : List ℕ → Option Keyword → Type 0
 FirstWord word None = (keyword : Keyword) → word ≢ first_word keyword
 FirstWord word (Some keyword) = word ≡ first_word keyword
+
+-- a line that was read stands for this one; of a step its bytes are kept, joined
+abbrev pub Stands : Line → said.Line → Type 0
+Stands line.Nothing l = l ≡ said.Nothing
+Stands (line.Config text) l = l ≡ said.ConfigLine text
+Stands (line.Limit bytes) l = l ≡ said.LimitLine bytes
+Stands (line.Turns turns) l = l ≡ said.TurnsLine turns.items
+Stands line.Handle l = l ≡ said.HandleLine
+Stands (line.Step entry) l = (pieces : List (List ℕ)) × (l ≡ said.StepLine pieces) × (entry.items ≡ concat pieces)
+Stands (line.Cut bytes) l = l ≡ said.CutLine bytes
+Stands (line.Command c) l = l ≡ said.CommandLine (command_of c)
+
+-- the words behind the first one of a line
+abbrev pub WordsOf : Keyword → said.Line → List (List ℕ) → Type 0
+WordsOf Config l words = (text : List ℕ) × (word : List ℕ) × (l ≡ said.ConfigLine text) × IsUtf8 text × IsQuoted text word × (words ≡ word ∷ [])
+WordsOf Limit l words = (n : ℕ) × (word : List ℕ) × (l ≡ said.LimitLine n) × IsNumber 9223372036854775807 n word × (words ≡ word ∷ [])
+WordsOf Turns l words = (turns : List ℕ) × (l ≡ said.TurnsLine turns) × AllZip (IsNumber 4294967295) turns words
+WordsOf Handle l words = (l ≡ said.HandleLine) × (words ≡ [])
+WordsOf Step l words = (pieces : List (List ℕ)) × (l ≡ said.StepLine pieces) × AllZip IsBytes pieces words
+WordsOf Cut l words = (n : ℕ) × (word : List ℕ) × (l ≡ said.CutLine n) × (1 ≤ n) × IsNumber 18446744073709551615 n word × (words ≡ word ∷ [])
+WordsOf Simple l words = (text : List ℕ) × (word : List ℕ) × IsUtf8 text × IsQuoted text word ×
+    (((l ≡ said.CommandLine (command.Simple text None)) × (words ≡ word ∷ []))
+    ⊎ ((n : ℕ) × (number : List ℕ) × (l ≡ said.CommandLine (command.Simple text (Some n))) × IsNumber 18446744073709551615 n number
+    × (words ≡ word ∷ codes "take" ∷ number ∷ [])))
+
+-- behind the first word a line goes on so; None: there is no such line
+abbrev pub ReadsRest : Keyword → Option (List ℕ) → Option Line → Type 0
+ReadsRest keyword old None = (l : said.Line) (words : List (List ℕ)) → WordsOf keyword l words → left_text old ≡ behind words → ⊥
+ReadsRest keyword old (Some read) = (l : said.Line) × (words : List (List ℕ)) × WordsOf keyword l words × (left_text old ≡ behind words) × Stands read l
+
+-- the line is spelled so; None: no line is
+abbrev pub ReadsLine : List ℕ → Option Line → Type 0
+ReadsLine spelled None = (l : said.Line) → Spells l spelled → ⊥
+ReadsLine spelled (Some read) = (l : said.Line) × Spells l spelled × Stands read l
+
+-- it is neither empty nor a comment
+abbrev pub SaysSomething : List ℕ → Type 0
+SaysSomething [] = ⊥
+SaysSomething (b ∷ rest) = b ≢ 35

@@ -1,21 +1,81 @@
--- How far the words of a line were read.
-use Rattle.std.specs.Prelude.{◌≡◌, ◌<◌, ◌≤◌, ℕ, suc, List, length, Option, Some, None, Result, Ok, Err}
-use Rattle.pg_text.specs.declared.word.Item.{Item}
-use Rattle.pg_text.specs.declared.word.Item.TheVariants.{Byte, End, Broken}
+-- The words of a line, which single spaces separate.
+use Rattle.std.specs.Prelude.{◌≡◌, ◌≢◌, ℕ, Bool, true, false, List, [], ◌∷◌, ◌++◌, flat_map, Option, Some, None, IsUtf8, codes}
+use Rattle.std.specs.List.{AllZip, concat}
+use Rattle.pg_spec.specs.SessionText.{IsBytes, IsHex, IsNumber, IsQuoted}
 
--- how much of a line is left: nothing, or the words behind a space
-abbrev pub left_of : Option (List ℕ) → ℕ
-left_of None = 0
-left_of (Some rest) = suc (length rest)
+-- what is left of a line, where words that aren't read yet stand behind a space
+abbrev pub left_text : Option (List ℕ) → List ℕ
+left_text None = []
+left_text (Some words) = 32 ∷ words
 
--- where something was read, less is left
-abbrev pub Advances : {A E : Type 0} → Option (List ℕ) → Option (List ℕ) → Result (Option A) E → Type 0
-Advances old new (Ok (Some x)) = left_of new < left_of old
-Advances old new (Ok None) = Unit {0}
-Advances old new (Err e) = Unit {0}
+-- A word was taken off the front, of which this is the meaning; where there is none, no such word
+-- stands there.
+abbrev pub Takes : {A : Type 0} → (A → List ℕ → Type 0) → Option (List ℕ) → Option A → Option (List ℕ) → Type 0
+Takes {A} Is old None new = (x : A) (word : List ℕ) (left : Option (List ℕ)) → Is x word → left_text old ≡ 32 ∷ word ++ left_text left → ⊥
+Takes {A} Is old (Some x) new = (word : List ℕ) × Is x word × (left_text old ≡ 32 ∷ word ++ left_text new)
 
--- what stands next takes some of the n bytes that are there
-abbrev pub StaysWithin : ℕ → Item → Type 0
-StaysWithin n (Byte byte used) = (0 < used) × (used ≤ n)
-StaysWithin n End = 0 < n
-StaysWithin n Broken = Unit {0}
+-- what a whole word means; None: it has no such meaning
+abbrev pub Means : {A : Type 0} → (A → List ℕ → Type 0) → List ℕ → Option A → Type 0
+Means {A} Is word None = (x : A) → Is x word → ⊥
+Means {A} Is word (Some x) = Is x word
+
+-- no space stands in it
+abbrev pub NoSpace : List ℕ → Type 0
+NoSpace [] = Unit {0}
+NoSpace (b ∷ word) = (b ≢ 32) × NoSpace word
+
+-- a word up to the next space
+abbrev pub IsWord : List ℕ → List ℕ → Type 0
+IsWord x word = (x ≡ word) × NoSpace word
+
+-- bytes in hex, at least one
+abbrev pub IsHexWord : List ℕ → List ℕ → Type 0
+IsHexWord bytes word = IsHex bytes word × (word ≢ [])
+
+-- a text in quotes that is UTF-8
+abbrev pub IsUtf8Quoted : List ℕ → List ℕ → Type 0
+IsUtf8Quoted text word = IsUtf8 text × IsQuoted text word
+
+-- what stands behind a text in quotes is left: the end, or words behind a space
+abbrev pub LeavesBehind : List ℕ → Bool → Option (List ℕ) → Type 0
+LeavesBehind behind true new = left_text new ≡ behind
+LeavesBehind behind false new = (left : Option (List ℕ)) → left_text left ≢ behind
+
+-- the words begin with a quote
+abbrev pub BeginsWithQuote : Option (List ℕ) → Type 0
+BeginsWithQuote None = ⊥
+BeginsWithQuote (Some []) = ⊥
+BeginsWithQuote (Some (b ∷ rest)) = b ≡ 34
+
+-- words with a space before each
+abbrev pub behind : List (List ℕ) → List ℕ
+behind words = flat_map (λ word. 32 ∷ word) words
+
+-- one word stands there and nothing behind it, and this is its meaning; None: it isn't so
+abbrev pub OneWord : {A : Type 0} → (A → List ℕ → Type 0) → Option (List ℕ) → Option A → Type 0
+OneWord {A} Is old None = (x : A) (word : List ℕ) → Is x word → left_text old ≡ behind (word ∷ []) → ⊥
+OneWord {A} Is old (Some x) = (word : List ℕ) × Is x word × (left_text old ≡ behind (word ∷ []))
+
+-- words with these meanings were taken one after another
+abbrev pub TookAll : {A : Type 0} → (A → List ℕ → Type 0) → List A → Option (List ℕ) → Option (List ℕ) → Type 0
+TookAll Is items old new = (words : List (List ℕ)) × AllZip Is items words × (left_text old ≡ behind words ++ left_text new)
+
+-- all words that stand there have these meanings; None: not all have such a meaning
+abbrev pub AllWords : {A : Type 0} → (A → List ℕ → Type 0) → Option (List ℕ) → Option (List A) → Type 0
+AllWords {A} Is old None = (items : List A) (words : List (List ℕ)) → AllZip Is items words → left_text old ≡ behind words → ⊥
+AllWords {A} Is old (Some items) = (words : List (List ℕ)) × AllZip Is items words × (left_text old ≡ behind words)
+
+-- all words are bytes, and these are they, joined; None: it isn't so
+abbrev pub AllBytes : Option (List ℕ) → Option (List ℕ) → Type 0
+AllBytes old None = (pieces : List (List ℕ)) (words : List (List ℕ)) → AllZip IsBytes pieces words → left_text old ≡ behind words → ⊥
+AllBytes old (Some entry) = (pieces : List (List ℕ)) × (words : List (List ℕ)) × AllZip IsBytes pieces words × (left_text old ≡ behind words) × (entry ≡ concat pieces)
+
+-- `take` and a number stand there, and nothing behind them; None: it isn't so
+abbrev pub TakesNumber : Option (List ℕ) → Option ℕ → Type 0
+TakesNumber old None = (n : ℕ) (number : List ℕ) → IsNumber 18446744073709551615 n number → left_text old ≡ behind (codes "take" ∷ number ∷ []) → ⊥
+TakesNumber old (Some n) = (number : List ℕ) × IsNumber 18446744073709551615 n number × (left_text old ≡ behind (codes "take" ∷ number ∷ []))
+
+-- a text has these bytes, which are UTF-8; None: they aren't
+abbrev pub IsTextOf : List ℕ → Option (List ℕ) → Type 0
+IsTextOf bytes None = IsUtf8 bytes → ⊥
+IsTextOf bytes (Some text) = (text ≡ bytes) × IsUtf8 bytes

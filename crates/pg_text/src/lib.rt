@@ -6,6 +6,7 @@ mod line;
 mod parse;
 mod print;
 mod put;
+mod quoted;
 mod report;
 mod scripts;
 mod session;

@@ -1,8 +1,11 @@
 //! The lines of a session text.
 
-ghost use Rattle.std.specs.Prelude.{◌≡◌, IfOk, IfSome};
+ghost use Rattle.std.specs.Prelude.{◌≡◌, ◌<◌, IfOk, IfSome, option_map};
+ghost use Rattle.pg_spec.specs.SessionText.{IsBytes, IsNumber};
+ghost use Rattle.pg_text.specs.declared.line.Keyword.TheVariants as first;
 ghost use Rattle.pg_text.specs.Drafts.{HasCut};
-ghost use Rattle.pg_text.specs.Lines.{FirstWord};
+ghost use Rattle.pg_text.specs.Lines.{FirstWord, ReadsLine, ReadsRest, SaysSomething};
+ghost use Rattle.pg_text.specs.Words.{AllBytes, AllWords, IsTextOf, IsUtf8Quoted, OneWord, Takes, TakesNumber};
 
 use crate::command::Command;
 use crate::word::Words;
@@ -28,20 +31,32 @@ const MOST_BYTES: u64 = 9_223_372_036_854_775_807;
 
 /// Reads a line. None: it breaks the rules.
 pub(crate) fn read_line(alloc: Global, line: &[u8]) -> Result<Option<Line>, OutOfMemory>
-    ensures { IfOk result (λ found. IfSome found HasCut) }
+    ensures line { IfOk result (λ found. ReadsLine line.now found) }
+    ensures cut { IfOk result (λ found. IfSome found HasCut) }
 {
-    if line.is_empty() || line[0] == b'#' {
-        return Ok(Some(Line::Nothing));
+    match line {
+        [] | [b'#', ..] => Ok(Some(Line::Nothing)),
+        _ => read_words(alloc, line),
     }
+}
+
+/// Reads a line that says something.
+fn read_words(alloc: Global, line: &[u8]) -> Result<Option<Line>, OutOfMemory>
+    requires { SaysSomething line.now }
+    ensures line { IfOk result (λ found. ReadsLine line.now found) }
+    ensures cut { IfOk result (λ found. IfSome found HasCut) }
+{
     let mut words = Words::new(line);
-    let read = match words.word() {
+    match words.word() {
         Some(word) => match keyword_of(word) {
-            Some(keyword) => read_rest(alloc, keyword, &mut words)?,
-            None => return Ok(None),
+            Some(keyword) => {
+                let read = read_rest(alloc, keyword, &mut words)?;
+                Ok(read)
+            }
+            None => Ok(None),
         },
-        None => return Ok(None),
-    };
-    if words.is_done() { Ok(read) } else { Ok(None) }
+        None => Ok(None),
+    }
 }
 
 /// How a line begins.
@@ -90,105 +105,195 @@ fn read_rest(
     keyword: Keyword,
     words: &mut Words,
 ) -> Result<Option<Line>, OutOfMemory>
-    ensures { IfOk result (λ found. IfSome found HasCut) }
+    ensures line { IfOk result (λ found. ReadsRest keyword words.old found) }
+    ensures cut { IfOk result (λ found. IfSome found HasCut) }
 {
     match keyword {
         Keyword::Config => config_line(alloc, words),
         Keyword::Limit => Ok(limit_line(words)),
         Keyword::Turns => turns_line(alloc, words),
-        Keyword::Handle => Ok(Some(Line::Handle)),
+        Keyword::Handle => Ok(handle_line(words)),
         Keyword::Step => step_line(alloc, words),
         Keyword::Cut => Ok(cut_line(words)),
         Keyword::Simple => simple_line(alloc, words),
     }
 }
 
-fn limit_line(words: &mut Words) -> Option<Line>
-    ensures { IfSome result HasCut }
-{
-    match words.number(MOST_BYTES) {
-        Some(limit) => Some(Line::Limit(limit)),
-        None => None,
-    }
-}
-
-fn cut_line(words: &mut Words) -> Option<Line>
-    ensures { IfSome result HasCut }
-{
-    match words.number(u64::MAX) {
-        Some(cut) if cut > 0 => Some(Line::Cut(cut)),
-        _ => None,
-    }
-}
-
-/// A text in quotes that is UTF-8.
-fn utf8_text(alloc: Global, words: &mut Words) -> Result<Option<Text>, OutOfMemory> {
-    match words.text(alloc)? {
-        Some(bytes) => match String::from_utf8(bytes) {
-            Ok(string) => Ok(Some(Text::new(string))),
-            Err(_) => Ok(None),
-        },
-        None => Ok(None),
-    }
-}
-
 fn config_line(alloc: Global, words: &mut Words) -> Result<Option<Line>, OutOfMemory>
-    ensures { IfOk result (λ found. IfSome found HasCut) }
+    ensures line { IfOk result (λ found. ReadsRest first.Config words.old found) }
+    ensures cut { IfOk result (λ found. IfSome found HasCut) }
 {
-    match utf8_text(alloc, words)? {
+    match only_text(alloc, words)? {
         Some(text) => Ok(Some(Line::Config(text))),
         None => Ok(None),
     }
 }
 
-fn turns_line(alloc: Global, words: &mut Words) -> Result<Option<Line>, OutOfMemory>
-    ensures { IfOk result (λ found. IfSome found HasCut) }
+fn limit_line(words: &mut Words) -> Option<Line>
+    ensures line { ReadsRest first.Limit words.old result }
+    ensures cut { IfSome result HasCut }
 {
-    let mut turns = Vec::new(alloc);
-    while !words.is_done() {
-        let Some(turn) = words.number(u32::MAX as u64) else {
-            return Ok(None);
-        };
-        if turns.push(turn as u32).is_err() {
-            return Err(OutOfMemory);
-        }
+    match only_number(words, MOST_BYTES) {
+        Some(limit) => Some(Line::Limit(limit)),
+        None => None,
     }
-    Ok(Some(Line::Turns(turns)))
+}
+
+fn turns_line(alloc: Global, words: &mut Words) -> Result<Option<Line>, OutOfMemory>
+    ensures line { IfOk result (λ found. ReadsRest first.Turns words.old found) }
+    ensures cut { IfOk result (λ found. IfSome found HasCut) }
+{
+    match all_numbers(alloc, words)? {
+        Some(turns) => Ok(Some(Line::Turns(turns))),
+        None => Ok(None),
+    }
+}
+
+fn handle_line(words: &Words) -> Option<Line>
+    ensures line { ReadsRest first.Handle words.now result }
+    ensures cut { IfSome result HasCut }
+{
+    if words.is_done() {
+        Some(Line::Handle)
+    } else {
+        None
+    }
 }
 
 fn step_line(alloc: Global, words: &mut Words) -> Result<Option<Line>, OutOfMemory>
-    ensures { IfOk result (λ found. IfSome found HasCut) }
+    ensures line { IfOk result (λ found. ReadsRest first.Step words.old found) }
+    ensures cut { IfOk result (λ found. IfSome found HasCut) }
 {
-    let mut entry = Vec::new(alloc);
-    while !words.is_done() {
-        let Some(bytes) = words.bytes(alloc)? else {
-            return Ok(None);
-        };
-        if entry.extend_from_slice(bytes.as_slice()).is_err() {
-            return Err(OutOfMemory);
-        }
+    match all_bytes(alloc, words)? {
+        Some(entry) => Ok(Some(Line::Step(entry))),
+        None => Ok(None),
     }
-    Ok(Some(Line::Step(entry)))
+}
+
+fn cut_line(words: &mut Words) -> Option<Line>
+    ensures line { ReadsRest first.Cut words.old result }
+    ensures cut { IfSome result HasCut }
+{
+    match only_number(words, u64::MAX) {
+        Some(cut) if cut > 0 => Some(Line::Cut(cut)),
+        _ => None,
+    }
 }
 
 /// `TEXT`, or `TEXT take N`.
 fn simple_line(alloc: Global, words: &mut Words) -> Result<Option<Line>, OutOfMemory>
-    ensures { IfOk result (λ found. IfSome found HasCut) }
+    ensures line { IfOk result (λ found. ReadsRest first.Simple words.old found) }
+    ensures cut { IfOk result (λ found. IfSome found HasCut) }
 {
-    let Some(text) = utf8_text(alloc, words)? else {
-        return Ok(None);
-    };
-    if words.is_done() {
-        return Ok(Some(Line::Command(Command::Simple { text, take: None })));
-    }
-    if words.word() != Some(b"take") {
-        return Ok(None);
-    }
-    match words.number(u64::MAX) {
-        Some(take) => Ok(Some(Line::Command(Command::Simple {
-            text,
-            take: Some(take),
-        }))),
+    match utf8_text(alloc, words)? {
+        Some(text) => {
+            if words.is_done() {
+                return Ok(Some(Line::Command(Command::Simple { text, take: None })));
+            }
+            match take_number(words) {
+                Some(take) => Ok(Some(Line::Command(Command::Simple {
+                    text,
+                    take: Some(take),
+                }))),
+                None => Ok(None),
+            }
+        }
         None => Ok(None),
     }
+}
+
+/// `take N`, and nothing behind it.
+fn take_number(words: &mut Words) -> Option<u64>
+    ensures { TakesNumber words.old result }
+{
+    match words.word() {
+        Some(word) => {
+            if word == b"take".as_slice() {
+                only_number(words, u64::MAX)
+            } else {
+                None
+            }
+        }
+        None => None,
+    }
+}
+
+/// A number, and nothing behind it.
+fn only_number(words: &mut Words, most: u64) -> Option<u64>
+    ensures { OneWord (IsNumber most) words.old result }
+{
+    let number = words.number(most);
+    if words.is_done() { number } else { None }
+}
+
+/// A text in quotes that is UTF-8, and nothing behind it.
+fn only_text(alloc: Global, words: &mut Words) -> Result<Option<Text>, OutOfMemory>
+    ensures { IfOk result (λ found. OneWord IsUtf8Quoted words.old found) }
+{
+    match utf8_text(alloc, words)? {
+        Some(text) => {
+            if words.is_done() {
+                Ok(Some(text))
+            } else {
+                Ok(None)
+            }
+        }
+        None => Ok(None),
+    }
+}
+
+/// A text in quotes that is UTF-8.
+fn utf8_text(alloc: Global, words: &mut Words) -> Result<Option<Text>, OutOfMemory>
+    ensures { IfOk result (λ found. Takes IsUtf8Quoted words.old found words.new) }
+{
+    match words.text(alloc)? {
+        Some(bytes) => Ok(text_of(bytes)),
+        None => Ok(None),
+    }
+}
+
+/// The text of these bytes, if they are UTF-8.
+fn text_of(bytes: Vec<u8>) -> Option<Text>
+    ensures { IsTextOf bytes.items result }
+{
+    match String::from_utf8(bytes) {
+        Ok(string) => Some(Text::new(string)),
+        Err(_) => None,
+    }
+}
+
+/// Numbers, up to the end.
+fn all_numbers(alloc: Global, words: &mut Words) -> Result<Option<Vec<u32>>, OutOfMemory>
+    ensures { IfOk result (λ found. AllWords (IsNumber 4294967295) words.old (option_map (λ turns. turns.items) found)) }
+{
+    let mut turns = Vec::new(alloc);
+    while !words.is_done() {
+        match words.number(u32::MAX as u64) {
+            Some(turn) => {
+                if turns.push(turn as u32).is_err() {
+                    return Err(OutOfMemory);
+                }
+            }
+            None => return Ok(None),
+        }
+    }
+    Ok(Some(turns))
+}
+
+/// Bytes, up to the end, joined.
+fn all_bytes(alloc: Global, words: &mut Words) -> Result<Option<Vec<u8>>, OutOfMemory>
+    ensures { IfOk result (λ found. AllBytes words.old (option_map (λ entry. entry.items) found)) }
+{
+    let mut entry = Vec::new(alloc);
+    while !words.is_done() {
+        match words.bytes(alloc)? {
+            Some(bytes) => {
+                if entry.extend_from_slice(bytes.as_slice()).is_err() {
+                    return Err(OutOfMemory);
+                }
+            }
+            None => return Ok(None),
+        }
+    }
+    Ok(Some(entry))
 }

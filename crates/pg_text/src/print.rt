@@ -1,35 +1,40 @@
 //! The text of a report, line by line.
 
+ghost use Rattle.std.specs.Prelude.{◌≡◌, ◌++◌, ◌∷◌, [], map, flat_map, codes, decimal, string_bytes, IfOk, OnOk};
+ghost use Rattle.std.specs.List.{concat, enumerate_from, join_with_byte};
+ghost use Rattle.hex.specs.Hex.{encode_lower};
+ghost use Rattle.pg_spec.specs.Report as said;
+ghost use Rattle.pg_spec.specs.ReportText as spec;
+ghost use Rattle.pg_spec.specs.SimpleQuery as simple;
+ghost use Rattle.pg_errors.specs.Views.{db_error, failure_of, async_of};
+ghost use Rattle.pg_text.specs.Views.{answer_of, booking_of, item_of, mark_of, report_of};
+ghost use Rattle.pg_text.specs.Written as written;
+
 use crate::command::Answer;
 use crate::put::{put, put_hex, put_number, put_quoted, put_signed};
 use crate::report::{Pair, Report, TurnMark};
-use pg_desk::Booking;
-use pg_errors::{AsyncMessage, DbError, Error};
+use pg_desk::{Booking, Stamp};
+use pg_errors::{AsyncMessage, DbError, Error, Notification};
 use pg_query::SimpleMessage;
 use pg_types::{Blob, List, OutOfMemory, Text};
 use std::alloc::Global;
 
 /// The text of a report.
-pub fn report_text(alloc: Global, report: &Report) -> Result<Blob, OutOfMemory> {
+#[tactic(auto, unfolding(crate::specs::Written::process_line))]
+pub fn report_text(alloc: Global, report: &Report) -> Result<Blob, OutOfMemory>
+    ensures { IfOk result (λ b. b ≡ spec.report_text (report_of report.now)) }
+{
     let mut out = String::new(alloc);
-    put(&mut out, "status ok\nprocess ")?;
-    put_signed(alloc, &mut out, report.process_id)?;
-    put(&mut out, " ")?;
-    put_signed(alloc, &mut out, report.secret_key)?;
-    put(&mut out, "\n")?;
-    put_parameters(alloc, &mut out, report.parameters.as_slice())?;
-    put_asynchronous(alloc, &mut out, report.asynchronous.as_slice())?;
-    put_answers(alloc, &mut out, report.answers.as_slice())?;
-    put_book(alloc, &mut out, report.book.as_slice())?;
-    put_trace(alloc, &mut out, report.trace.as_slice())?;
-    put(&mut out, "sent ")?;
-    put_hex(alloc, &mut out, report.sent.as_slice())?;
-    put(&mut out, "\n")?;
+    put(&mut out, "status ok\n")?;
+    put_session(alloc, &mut out, report)?;
+    put_work(alloc, &mut out, report)?;
     Ok(Blob::new(out.into_bytes()))
 }
 
 /// What is printed for a session that failed.
-pub fn error_text(alloc: Global, error: &Error) -> Result<Blob, OutOfMemory> {
+pub fn error_text(alloc: Global, error: &Error) -> Result<Blob, OutOfMemory>
+    ensures { IfOk result (λ b. b ≡ spec.error_text (failure_of error.now)) }
+{
     let mut out = String::new(alloc);
     put(&mut out, "error ")?;
     put_error(alloc, &mut out, error)?;
@@ -37,18 +42,58 @@ pub fn error_text(alloc: Global, error: &Error) -> Result<Blob, OutOfMemory> {
     Ok(Blob::new(out.into_bytes()))
 }
 
-fn put_parameters(alloc: Global, out: &mut String, pairs: &[Pair]) -> Result<(), OutOfMemory> {
+/// What is said of the session as a whole.
+fn put_session(alloc: Global, out: &mut String, report: &Report) -> Result<(), OutOfMemory>
+    ensures { OnOk result (string_bytes out.new ≡ string_bytes out.old ++ written.session_lines (report_of report.now)) }
+{
+    put_process(alloc, out, report)?;
+    put_parameters(alloc, out, report.parameters.as_slice())?;
+    put_asynchronous(alloc, out, report.asynchronous.as_slice())
+}
+
+/// What the scripts did, and what went over the link.
+fn put_work(alloc: Global, out: &mut String, report: &Report) -> Result<(), OutOfMemory>
+    ensures { OnOk result (string_bytes out.new ≡ string_bytes out.old ++ written.work_lines (report_of report.now)) }
+{
+    put_answers(alloc, out, report.answers.as_slice())?;
+    put_book(alloc, out, report.book.as_slice())?;
+    put_trace(alloc, out, report.trace.as_slice())?;
+    put_sent(alloc, out, report.sent.as_slice())
+}
+
+#[tactic(auto, unfolding(crate::specs::Written::process_line))]
+fn put_process(alloc: Global, out: &mut String, report: &Report) -> Result<(), OutOfMemory>
+    ensures { OnOk result (string_bytes out.new ≡ string_bytes out.old ++ written.process_line report.now.process_id report.now.secret_key) }
+{
+    put(out, "process ")?;
+    put_signed(alloc, out, report.process_id)?;
+    put(out, " ")?;
+    put_signed(alloc, out, report.secret_key)?;
+    put(out, "\n")
+}
+
+fn put_sent(alloc: Global, out: &mut String, sent: &[u8]) -> Result<(), OutOfMemory>
+    ensures { OnOk result (string_bytes out.new ≡ string_bytes out.old ++ written.sent_line sent.now) }
+{
+    put(out, "sent ")?;
+    put_hex(alloc, out, sent)?;
+    put(out, "\n")
+}
+
+fn put_parameters(alloc: Global, out: &mut String, pairs: &[Pair]) -> Result<(), OutOfMemory>
+    ensures { OnOk result (string_bytes out.new ≡ string_bytes out.old ++ written.parameter_lines pairs.now) }
+{
     for pair in pairs {
         put_parameter(alloc, out, pair)?;
     }
     Ok(())
 }
 
-fn put_parameter(alloc: Global, out: &mut String, pair: &Pair) -> Result<(), OutOfMemory> {
-    put(out, "parameter ")?;
-    put_quoted(alloc, out, pair.name.as_str().as_bytes())?;
-    put(out, " ")?;
-    put_quoted(alloc, out, pair.value.as_str().as_bytes())?;
+fn put_parameter(alloc: Global, out: &mut String, pair: &Pair) -> Result<(), OutOfMemory>
+    ensures { OnOk result (string_bytes out.new ≡ string_bytes out.old ++ spec.line (codes "parameter" ∷ spec.quoted pair.now.name ∷ spec.quoted pair.now.value ∷ [])) }
+{
+    put(out, "parameter")?;
+    put_texts(alloc, out, pair.name.as_str(), pair.value.as_str())?;
     put(out, "\n")
 }
 
@@ -56,33 +101,60 @@ fn put_asynchronous(
     alloc: Global,
     out: &mut String,
     messages: &[AsyncMessage],
-) -> Result<(), OutOfMemory> {
+) -> Result<(), OutOfMemory>
+    ensures { OnOk result (string_bytes out.new ≡ string_bytes out.old ++ flat_map spec.async_line (map async_of messages.now)) }
+{
     for message in messages {
         put_async(alloc, out, message)?;
     }
     Ok(())
 }
 
-fn put_async(alloc: Global, out: &mut String, message: &AsyncMessage) -> Result<(), OutOfMemory> {
+fn put_async(alloc: Global, out: &mut String, message: &AsyncMessage) -> Result<(), OutOfMemory>
+    ensures { OnOk result (string_bytes out.new ≡ string_bytes out.old ++ spec.async_line (async_of message.now)) }
+{
+    put(out, "async ")?;
     match message {
-        AsyncMessage::Notice(notice) => {
-            put(out, "async notice ")?;
-            put_db_error(alloc, out, notice)?;
-        }
-        AsyncMessage::Notification(notification) => {
-            put(out, "async notification ")?;
-            put_signed(alloc, out, notification.process_id())?;
-            put(out, " ")?;
-            put_quoted(alloc, out, notification.channel().as_bytes())?;
-            put(out, " ")?;
-            put_quoted(alloc, out, notification.payload().as_bytes())?;
-        }
+        AsyncMessage::Notice(notice) => put_notice(alloc, out, notice),
+        AsyncMessage::Notification(notification) => put_notification(alloc, out, notification),
     }
+}
+
+fn put_notice(alloc: Global, out: &mut String, notice: &DbError) -> Result<(), OutOfMemory>
+    ensures { OnOk result (string_bytes out.new ≡ string_bytes out.old ++ written.notice_words (db_error notice.now)) }
+{
+    put(out, "notice ")?;
+    put_db_error(alloc, out, notice)?;
     put(out, "\n")
 }
 
+fn put_notification(
+    alloc: Global,
+    out: &mut String,
+    notification: &Notification,
+) -> Result<(), OutOfMemory>
+    ensures { OnOk result (string_bytes out.new ≡ string_bytes out.old ++ written.notification_words notification.now) }
+{
+    put(out, "notification ")?;
+    put_signed(alloc, out, notification.process_id())?;
+    put_texts(alloc, out, notification.channel(), notification.payload())?;
+    put(out, "\n")
+}
+
+/// Two texts in quotes, each behind a space.
+fn put_texts(alloc: Global, out: &mut String, first: &str, second: &str) -> Result<(), OutOfMemory>
+    ensures { OnOk result (string_bytes out.new ≡ string_bytes out.old ++ 32 ∷ spec.quoted first.now ++ 32 ∷ spec.quoted second.now) }
+{
+    put(out, " ")?;
+    put_quoted(alloc, out, first.as_bytes())?;
+    put(out, " ")?;
+    put_quoted(alloc, out, second.as_bytes())
+}
+
 /// Severity, code and message.
-fn put_db_error(alloc: Global, out: &mut String, error: &DbError) -> Result<(), OutOfMemory> {
+fn put_db_error(alloc: Global, out: &mut String, error: &DbError) -> Result<(), OutOfMemory>
+    ensures { OnOk result (string_bytes out.new ≡ string_bytes out.old ++ written.error_fields (db_error error.now)) }
+{
     put_quoted(alloc, out, error.severity().as_bytes())?;
     put(out, " ")?;
     put_quoted(alloc, out, error.code().code().as_bytes())?;
@@ -90,11 +162,9 @@ fn put_db_error(alloc: Global, out: &mut String, error: &DbError) -> Result<(), 
     put_quoted(alloc, out, error.message().as_bytes())
 }
 
-fn put_answers(
-    alloc: Global,
-    out: &mut String,
-    answers: &[List<Answer>],
-) -> Result<(), OutOfMemory> {
+fn put_answers(alloc: Global, out: &mut String, answers: &[List<Answer>]) -> Result<(), OutOfMemory>
+    ensures { OnOk result (string_bytes out.new ≡ string_bytes out.old ++ written.scripts_from 0 answers.now) }
+{
     for (handle, script) in answers.iter().enumerate() {
         put_script(alloc, out, handle as u64, script.as_slice())?;
     }
@@ -106,7 +176,9 @@ fn put_script(
     out: &mut String,
     handle: u64,
     answers: &[Answer],
-) -> Result<(), OutOfMemory> {
+) -> Result<(), OutOfMemory>
+    ensures { OnOk result (string_bytes out.new ≡ string_bytes out.old ++ written.answers_from handle 0 answers.now) }
+{
     for (command, answer) in answers.iter().enumerate() {
         put_answer(alloc, out, handle, command as u64, answer)?;
     }
@@ -119,61 +191,88 @@ fn put_answer(
     handle: u64,
     command: u64,
     answer: &Answer,
-) -> Result<(), OutOfMemory> {
+) -> Result<(), OutOfMemory>
+    ensures { OnOk result (string_bytes out.new ≡ string_bytes out.old ++ spec.answer_lines handle (command, answer_of answer.now)) }
+{
     put(out, "answer ")?;
     put_number(alloc, out, handle)?;
     put(out, " ")?;
     put_number(alloc, out, command)?;
     match answer {
-        Answer::Messages(messages) => {
-            put(out, " messages ")?;
-            put_number(alloc, out, messages.as_slice().len() as u64)?;
-            put(out, "\n")?;
-            put_messages(alloc, out, messages.as_slice())
-        }
-        Answer::Failed(error) => {
-            put(out, " failed ")?;
-            put_error(alloc, out, error)?;
-            put(out, "\n")
-        }
+        Answer::Messages(messages) => put_items(alloc, out, messages.as_slice()),
+        Answer::Failed(error) => put_failed(alloc, out, error),
     }
+}
+
+/// How many messages there are, and a line for each.
+fn put_items(alloc: Global, out: &mut String, messages: &[SimpleMessage]) -> Result<(), OutOfMemory>
+    ensures { OnOk result (string_bytes out.new ≡ string_bytes out.old ++ written.answered (said.Items (map item_of messages.now))) }
+{
+    put(out, " messages ")?;
+    put_number(alloc, out, messages.len() as u64)?;
+    put(out, "\n")?;
+    put_messages(alloc, out, messages)
+}
+
+fn put_failed(alloc: Global, out: &mut String, error: &Error) -> Result<(), OutOfMemory>
+    ensures { OnOk result (string_bytes out.new ≡ string_bytes out.old ++ written.answered (said.Failed (failure_of error.now))) }
+{
+    put(out, " failed ")?;
+    put_error(alloc, out, error)?;
+    put(out, "\n")
 }
 
 fn put_messages(
     alloc: Global,
     out: &mut String,
     messages: &[SimpleMessage],
-) -> Result<(), OutOfMemory> {
+) -> Result<(), OutOfMemory>
+    ensures { OnOk result (string_bytes out.new ≡ string_bytes out.old ++ flat_map spec.item_line (map item_of messages.now)) }
+{
     for message in messages {
         put_message(alloc, out, message)?;
     }
     Ok(())
 }
 
-fn put_message(
-    alloc: Global,
-    out: &mut String,
-    message: &SimpleMessage,
-) -> Result<(), OutOfMemory> {
+fn put_message(alloc: Global, out: &mut String, message: &SimpleMessage) -> Result<(), OutOfMemory>
+    ensures { OnOk result (string_bytes out.new ≡ string_bytes out.old ++ spec.item_line (item_of message.now)) }
+{
     match message {
-        SimpleMessage::Columns(names) => {
-            put(out, "columns")?;
-            put_names(alloc, out, names.as_slice())?;
-        }
-        SimpleMessage::Row(cells) => {
-            put(out, "row")?;
-            put_cells(alloc, out, cells.as_slice())?;
-        }
-        SimpleMessage::Complete(affected) => {
-            put(out, "complete ")?;
-            put_number(alloc, out, *affected)?;
-        }
+        SimpleMessage::Columns(names) => put_columns(alloc, out, names.as_slice()),
+        SimpleMessage::Row(cells) => put_row(alloc, out, cells.as_slice()),
+        SimpleMessage::Complete(affected) => put_complete(alloc, out, *affected),
     }
+}
+
+fn put_columns(alloc: Global, out: &mut String, names: &[Text]) -> Result<(), OutOfMemory>
+    ensures { OnOk result (string_bytes out.new ≡ string_bytes out.old ++ spec.item_line (simple.Columns names.now)) }
+{
+    put(out, "columns")?;
+    put_names(alloc, out, names)?;
+    put(out, "\n")
+}
+
+fn put_row(alloc: Global, out: &mut String, cells: &[Option<Blob>]) -> Result<(), OutOfMemory>
+    ensures { OnOk result (string_bytes out.new ≡ string_bytes out.old ++ spec.item_line (simple.Row cells.now)) }
+{
+    put(out, "row")?;
+    put_cells(alloc, out, cells)?;
+    put(out, "\n")
+}
+
+fn put_complete(alloc: Global, out: &mut String, affected: u64) -> Result<(), OutOfMemory>
+    ensures { OnOk result (string_bytes out.new ≡ string_bytes out.old ++ spec.item_line (simple.Complete affected)) }
+{
+    put(out, "complete ")?;
+    put_number(alloc, out, affected)?;
     put(out, "\n")
 }
 
 /// Each name behind a space.
-fn put_names(alloc: Global, out: &mut String, names: &[Text]) -> Result<(), OutOfMemory> {
+fn put_names(alloc: Global, out: &mut String, names: &[Text]) -> Result<(), OutOfMemory>
+    ensures { OnOk result (string_bytes out.new ≡ string_bytes out.old ++ written.behind_spaces spec.quoted names.now) }
+{
     for name in names {
         put(out, " ")?;
         put_quoted(alloc, out, name.as_str().as_bytes())?;
@@ -182,14 +281,18 @@ fn put_names(alloc: Global, out: &mut String, names: &[Text]) -> Result<(), OutO
 }
 
 /// Each cell behind a space.
-fn put_cells(alloc: Global, out: &mut String, cells: &[Option<Blob>]) -> Result<(), OutOfMemory> {
+fn put_cells(alloc: Global, out: &mut String, cells: &[Option<Blob>]) -> Result<(), OutOfMemory>
+    ensures { OnOk result (string_bytes out.new ≡ string_bytes out.old ++ written.behind_spaces spec.cell cells.now) }
+{
     for cell in cells {
         put_cell(alloc, out, cell)?;
     }
     Ok(())
 }
 
-fn put_cell(alloc: Global, out: &mut String, cell: &Option<Blob>) -> Result<(), OutOfMemory> {
+fn put_cell(alloc: Global, out: &mut String, cell: &Option<Blob>) -> Result<(), OutOfMemory>
+    ensures { OnOk result (string_bytes out.new ≡ string_bytes out.old ++ 32 ∷ spec.cell cell.now) }
+{
     put(out, " ")?;
     match cell {
         None => put(out, "null"),
@@ -197,7 +300,9 @@ fn put_cell(alloc: Global, out: &mut String, cell: &Option<Blob>) -> Result<(), 
     }
 }
 
-fn put_book(alloc: Global, out: &mut String, book: &[Booking]) -> Result<(), OutOfMemory> {
+fn put_book(alloc: Global, out: &mut String, book: &[Booking]) -> Result<(), OutOfMemory>
+    ensures { OnOk result (string_bytes out.new ≡ string_bytes out.old ++ written.book_from 0 book.now) }
+{
     for (number, booking) in book.iter().enumerate() {
         put_booking(alloc, out, number as u64, booking)?;
     }
@@ -209,35 +314,55 @@ fn put_booking(
     out: &mut String,
     number: u64,
     booking: &Booking,
-) -> Result<(), OutOfMemory> {
-    put(out, "book ")?;
-    put_number(alloc, out, number)?;
-    put(out, " ")?;
-    put_number(alloc, out, booking.stamp.owner as u64)?;
-    put(out, " ")?;
-    put_number(alloc, out, booking.stamp.command as u64)?;
-    put(out, " ")?;
-    put_number(alloc, out, booking.stamp.turn)?;
-    put(out, " ")?;
+) -> Result<(), OutOfMemory>
+    ensures { OnOk result (string_bytes out.new ≡ string_bytes out.old ++ spec.book_line (number, booking_of booking.now)) }
+{
+    put(out, "book")?;
+    put_next(alloc, out, number)?;
+    put_stamp(alloc, out, &booking.stamp)?;
     put_parts(alloc, out, booking.parts.as_slice())?;
     put(out, "\n")
 }
 
-fn put_parts(alloc: Global, out: &mut String, parts: &[Blob]) -> Result<(), OutOfMemory> {
+/// Owner, command and turn, each behind a space, and a space behind them.
+fn put_stamp(alloc: Global, out: &mut String, stamp: &Stamp) -> Result<(), OutOfMemory>
+    ensures { OnOk result (string_bytes out.new ≡ string_bytes out.old ++ written.stamp_words stamp.now) }
+{
+    put_next(alloc, out, stamp.owner as u64)?;
+    put_next(alloc, out, stamp.command as u64)?;
+    put_next(alloc, out, stamp.turn)?;
+    put(out, " ")
+}
+
+/// A number behind a space.
+fn put_next(alloc: Global, out: &mut String, number: u64) -> Result<(), OutOfMemory>
+    ensures { OnOk result (string_bytes out.new ≡ string_bytes out.old ++ 32 ∷ decimal number) }
+{
+    put(out, " ")?;
+    put_number(alloc, out, number)
+}
+
+fn put_parts(alloc: Global, out: &mut String, parts: &[Blob]) -> Result<(), OutOfMemory>
+    ensures { OnOk result (string_bytes out.new ≡ string_bytes out.old ++ encode_lower (concat parts.now)) }
+{
     for part in parts {
         put_hex(alloc, out, part.as_slice())?;
     }
     Ok(())
 }
 
-fn put_trace(alloc: Global, out: &mut String, trace: &[TurnMark]) -> Result<(), OutOfMemory> {
+fn put_trace(alloc: Global, out: &mut String, trace: &[TurnMark]) -> Result<(), OutOfMemory>
+    ensures { OnOk result (string_bytes out.new ≡ string_bytes out.old ++ flat_map spec.turn_line (map mark_of trace.now)) }
+{
     for mark in trace {
         put_turn(alloc, out, *mark)?;
     }
     Ok(())
 }
 
-fn put_turn(alloc: Global, out: &mut String, mark: TurnMark) -> Result<(), OutOfMemory> {
+fn put_turn(alloc: Global, out: &mut String, mark: TurnMark) -> Result<(), OutOfMemory>
+    ensures { OnOk result (string_bytes out.new ≡ string_bytes out.old ++ spec.turn_line (mark_of mark)) }
+{
     put(out, "turn ")?;
     put_number(alloc, out, mark.turn as u64)?;
     put(out, " ")?;
@@ -246,7 +371,9 @@ fn put_turn(alloc: Global, out: &mut String, mark: TurnMark) -> Result<(), OutOf
 }
 
 /// The name of an error, and what it carries.
-fn put_error(alloc: Global, out: &mut String, error: &Error) -> Result<(), OutOfMemory> {
+fn put_error(alloc: Global, out: &mut String, error: &Error) -> Result<(), OutOfMemory>
+    ensures { OnOk result (string_bytes out.new ≡ string_bytes out.old ++ join_with_byte 32 (spec.failure_words (failure_of error.now))) }
+{
     match error {
         Error::Io(_) => put(out, "Io"),
         Error::UnexpectedMessage => put(out, "UnexpectedMessage"),
@@ -273,7 +400,9 @@ fn put_error(alloc: Global, out: &mut String, error: &Error) -> Result<(), OutOf
     }
 }
 
-fn put_two(alloc: Global, out: &mut String, first: u64, second: u64) -> Result<(), OutOfMemory> {
+fn put_two(alloc: Global, out: &mut String, first: u64, second: u64) -> Result<(), OutOfMemory>
+    ensures { OnOk result (string_bytes out.new ≡ string_bytes out.old ++ (decimal first ++ 32 ∷ decimal second)) }
+{
     put_number(alloc, out, first)?;
     put(out, " ")?;
     put_number(alloc, out, second)

@@ -1,10 +1,16 @@
 //! Pieces of a report's text.
 
+ghost use Rattle.std.specs.Prelude.{◌≡◌, ◌++◌, OnOk, string_bytes, decimal};
+ghost use Rattle.hex.specs.Hex.{encode_lower};
+ghost use Rattle.pg_spec.specs.ReportText.{signed, quoted, quoted_byte};
+
 use pg_types::OutOfMemory;
 use std::alloc::Global;
 
 /// Adds a text as it is.
-pub(crate) fn put(out: &mut String, text: &str) -> Result<(), OutOfMemory> {
+pub(crate) fn put(out: &mut String, text: &str) -> Result<(), OutOfMemory>
+    ensures { OnOk result (string_bytes out.new ≡ string_bytes out.old ++ text.now) }
+{
     match out.push_str(text) {
         Ok(()) => Ok(()),
         Err(_) => Err(OutOfMemory),
@@ -12,7 +18,9 @@ pub(crate) fn put(out: &mut String, text: &str) -> Result<(), OutOfMemory> {
 }
 
 /// Adds a number in decimal.
-pub(crate) fn put_number(alloc: Global, out: &mut String, number: u64) -> Result<(), OutOfMemory> {
+pub(crate) fn put_number(alloc: Global, out: &mut String, number: u64) -> Result<(), OutOfMemory>
+    ensures { OnOk result (string_bytes out.new ≡ string_bytes out.old ++ decimal number) }
+{
     match format!(in alloc; "{number}") {
         Ok(text) => put(out, text.as_str()),
         Err(_) => Err(OutOfMemory),
@@ -20,7 +28,9 @@ pub(crate) fn put_number(alloc: Global, out: &mut String, number: u64) -> Result
 }
 
 /// Adds a number in decimal, with its sign where it is negative.
-pub(crate) fn put_signed(alloc: Global, out: &mut String, number: i32) -> Result<(), OutOfMemory> {
+pub(crate) fn put_signed(alloc: Global, out: &mut String, number: i32) -> Result<(), OutOfMemory>
+    ensures { OnOk result (string_bytes out.new ≡ string_bytes out.old ++ signed number) }
+{
     match format!(in alloc; "{number}") {
         Ok(text) => put(out, text.as_str()),
         Err(_) => Err(OutOfMemory),
@@ -28,7 +38,9 @@ pub(crate) fn put_signed(alloc: Global, out: &mut String, number: i32) -> Result
 }
 
 /// Adds bytes in hex.
-pub(crate) fn put_hex(alloc: Global, out: &mut String, bytes: &[u8]) -> Result<(), OutOfMemory> {
+pub(crate) fn put_hex(alloc: Global, out: &mut String, bytes: &[u8]) -> Result<(), OutOfMemory>
+    ensures { OnOk result (string_bytes out.new ≡ string_bytes out.old ++ encode_lower bytes.now) }
+{
     match hex::encode(alloc, bytes) {
         Ok(text) => put(out, text.as_str()),
         Err(_) => Err(OutOfMemory),
@@ -36,7 +48,9 @@ pub(crate) fn put_hex(alloc: Global, out: &mut String, bytes: &[u8]) -> Result<(
 }
 
 /// Adds a byte as it stands inside quotes.
-fn put_byte(alloc: Global, out: &mut String, byte: u8) -> Result<(), OutOfMemory> {
+fn put_byte(alloc: Global, out: &mut String, byte: u8) -> Result<(), OutOfMemory>
+    ensures { OnOk result (string_bytes out.new ≡ string_bytes out.old ++ quoted_byte byte) }
+{
     match byte {
         b'"' => put(out, "\\\""),
         b'\\' => put(out, "\\\\"),
@@ -52,7 +66,9 @@ fn put_byte(alloc: Global, out: &mut String, byte: u8) -> Result<(), OutOfMemory
 }
 
 /// Adds bytes in quotes.
-pub(crate) fn put_quoted(alloc: Global, out: &mut String, bytes: &[u8]) -> Result<(), OutOfMemory> {
+pub(crate) fn put_quoted(alloc: Global, out: &mut String, bytes: &[u8]) -> Result<(), OutOfMemory>
+    ensures { OnOk result (string_bytes out.new ≡ string_bytes out.old ++ quoted bytes.now) }
+{
     put(out, "\"")?;
     for byte in bytes {
         put_byte(alloc, out, *byte)?;

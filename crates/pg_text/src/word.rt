@@ -1,8 +1,11 @@
 //! The words of a line, which single spaces separate.
 
-ghost use Rattle.std.specs.Prelude.{◌≡◌, ◌≤◌, ◌<◌, length, IfOk, IfSome, OnSome, is_none};
-ghost use Rattle.pg_text.specs.Words.{left_of, Advances, StaysWithin};
+ghost use Rattle.std.specs.Prelude.{◌≡◌, ◌≢◌, ◌<◌, ◌≤◌, ◌↔◌, ℕ, length, drop, slice_index, EachIndex, IfOk, IfSome, MatchOption, IsTrue, is_none, option_map};
+ghost use Rattle.std.specs.Int.{IsInRange};
+ghost use Rattle.pg_spec.specs.SessionText.{IsBytes, IsNumber, IsQuoted};
+ghost use Rattle.pg_text.specs.Words.{BeginsWithQuote, IsHexWord, IsWord, LeavesBehind, Means, Takes};
 
+use crate::quoted::{Quoted, read_quoted};
 use pg_types::OutOfMemory;
 use std::alloc::Global;
 use std::marker::Model;
@@ -21,25 +24,11 @@ impl<'a> Model for Words<'a> {
     ghost view = { λ w. option_map (λ rest. rest.now) w.rest };
 }
 
-/// A text in quotes: its bytes, and how many bytes it takes in its line.
-#[derive(Drop)]
-struct Quoted {
-    bytes: Vec<u8>,
-    used: usize,
-}
-
-/// What stands next inside quotes.
-#[derive(Drop)]
-enum Item {
-    /// A byte, and how many bytes it takes.
-    Byte(u8, usize),
-    End,
-    Broken,
-}
-
 impl<'a> Words<'a> {
     /// The words of a line.
-    pub(crate) fn new(line: &'a [u8]) -> Words<'a> {
+    pub(crate) fn new(line: &'a [u8]) -> Words<'a>
+        ensures { result ≡ Some line.now }
+    {
         Words { rest: Some(line) }
     }
 
@@ -52,40 +41,31 @@ impl<'a> Words<'a> {
 
     /// Takes the bytes up to the next space or the end.
     pub(crate) fn word(&mut self) -> Option<&'a [u8]>
-        ensures { OnSome result (left_of self.new < left_of self.old) }
+        ensures { Takes IsWord self.old (option_map (λ word. word.now) result) self.new }
     {
-        let rest = self.rest?;
-        match rest.iter().position(|byte| *byte == b' ') {
-            Some(at) => {
-                self.rest = Some(&rest[at + 1..]);
-                Some(&rest[..at])
+        match self.rest {
+            Some(rest) => {
+                let (word, left) = split_word(rest);
+                self.rest = left;
+                Some(word)
             }
-            None => {
-                self.rest = None;
-                Some(rest)
-            }
+            None => None,
         }
     }
 
     /// Takes a number in decimal digits, of at most `most`.
     pub(crate) fn number(&mut self, most: u64) -> Option<u64>
-        ensures within { IfSome result (λ n. n ≤ most) }
-        ensures advances { OnSome result (left_of self.new < left_of self.old) }
+        ensures { Takes (IsNumber most) self.old result self.new }
     {
-        let digits = self.word()?;
-        if !digits.iter().all(|byte| byte.is_ascii_digit()) {
-            return None;
-        }
-        let text = str::from_utf8(digits).ok()?;
-        match text.parse::<u64>() {
-            Ok(number) if number <= most => Some(number),
-            _ => None,
+        match self.word() {
+            Some(digits) => number_of(digits, most),
+            None => None,
         }
     }
 
     /// Takes a text in quotes.
     pub(crate) fn text(&mut self, alloc: Global) -> Result<Option<Vec<u8>>, OutOfMemory>
-        ensures { Advances self.old self.new result }
+        ensures { IfOk result (λ found. Takes IsQuoted self.old (option_map (λ bytes. bytes.items) found) self.new) }
     {
         let Some(rest) = self.rest else {
             return Ok(None);
@@ -93,7 +73,7 @@ impl<'a> Words<'a> {
         match read_quoted(alloc, rest)? {
             Some(quoted) => {
                 let Quoted { bytes, used } = quoted;
-                if self.step_over(rest, used) {
+                if self.step_to(&rest[used..]) {
                     Ok(Some(bytes))
                 } else {
                     Ok(None)
@@ -105,26 +85,43 @@ impl<'a> Words<'a> {
 
     /// Takes bytes as hex, of which there is at least one, or as a text in quotes.
     pub(crate) fn bytes(&mut self, alloc: Global) -> Result<Option<Vec<u8>>, OutOfMemory>
-        ensures { Advances self.old self.new result }
+        ensures { IfOk result (λ found. Takes IsBytes self.old (option_map (λ bytes. bytes.items) found) self.new) }
     {
-        let Some(rest) = self.rest else {
-            return Ok(None);
-        };
-        if rest.first() == Some(&b'"') {
-            return self.text(alloc);
+        if self.is_at_quote() {
+            let found = self.text(alloc)?;
+            return Ok(found);
         }
+        let found = self.hex(alloc)?;
+        Ok(found)
+    }
+
+    /// The next word begins with a quote.
+    fn is_at_quote(&self) -> bool
+        ensures { IsTrue result ↔ BeginsWithQuote self.now }
+    {
+        match self.rest {
+            Some([b'"', ..]) => true,
+            _ => false,
+        }
+    }
+
+    /// Takes bytes as hex, of which there is at least one.
+    fn hex(&mut self, alloc: Global) -> Result<Option<Vec<u8>>, OutOfMemory>
+        ensures { IfOk result (λ found. Takes IsHexWord self.old (option_map (λ bytes. bytes.items) found) self.new) }
+    {
         match self.word() {
-            Some(digits) => hex_bytes(alloc, digits),
+            Some(digits) => {
+                let found = hex_bytes(alloc, digits)?;
+                Ok(found)
+            }
             None => Ok(None),
         }
     }
 
-    /// Goes on behind a word of `used` bytes, which the end or a space must follow.
-    fn step_over(&mut self, rest: &'a [u8], used: usize) -> bool
-        requires { used ≤ length rest.now }
-        ensures { left_of self.new ≤ length rest.now }
+    /// Goes on where a word has ended, which the end or a space must follow.
+    fn step_to(&mut self, behind: &'a [u8]) -> bool
+        ensures { LeavesBehind behind.now result self.new }
     {
-        let behind = &rest[used..];
         match behind {
             [] => {
                 self.rest = None;
@@ -134,79 +131,64 @@ impl<'a> Words<'a> {
                 self.rest = Some(words);
                 true
             }
-            _ => {
-                self.rest = None;
-                false
-            }
+            _ => false,
         }
     }
 }
 
+/// The bytes up to the first space, and what stands behind it.
+fn split_word(bytes: &[u8]) -> (&[u8], Option<&[u8]>)
+    ensures { Takes IsWord (Some bytes.now) (Some result.0.now) (option_map (λ left. left.now) result.1) }
+{
+    match space_in(bytes) {
+        Some(at) => (&bytes[..at], Some(&bytes[at + 1..])),
+        None => (bytes, None),
+    }
+}
+
+/// Where the first space is.
+fn space_in(bytes: &[u8]) -> Option<usize>
+    ensures { MatchOption result
+        (EachIndex bytes.now (λ k. slice_index bytes.now k ≢ 32))
+        (λ at. (at < length bytes.now) × (slice_index bytes.now at ≡ 32) × ((k : ℕ) → k < at → slice_index bytes.now k ≢ 32)) }
+{
+    bytes.iter().position(|byte| *byte == b' ')
+}
+
+/// The number that decimal digits spell, of at most `most`.
+fn number_of(digits: &[u8], most: u64) -> Option<u64>
+    ensures { Means (IsNumber most) digits.now result }
+{
+    if !are_digits(digits) {
+        return None;
+    }
+    let Ok(text) = str::from_utf8(digits) else {
+        return None;
+    };
+    match text.parse::<u64>() {
+        Ok(number) if number <= most => Some(number),
+        _ => None,
+    }
+}
+
+fn are_digits(bytes: &[u8]) -> bool
+    ensures { IsTrue result ↔ EachIndex bytes.now (λ k. IsInRange 48 57 (slice_index bytes.now k)) }
+{
+    bytes.iter().all(|byte| byte.is_ascii_digit())
+}
+
 /// The bytes that hex digits of either case spell.
-fn hex_bytes(alloc: Global, digits: &[u8]) -> Result<Option<Vec<u8>>, OutOfMemory> {
+fn hex_bytes(alloc: Global, digits: &[u8]) -> Result<Option<Vec<u8>>, OutOfMemory>
+    ensures { IfOk result (λ found. Means IsHexWord digits.now (option_map (λ bytes. bytes.items) found)) }
+{
     if digits.is_empty() {
         return Ok(None);
     }
     match hex::decode(alloc, digits) {
         Ok(bytes) => Ok(Some(bytes)),
-        Err(hex::FromHexError::OutOfMemory) => Err(OutOfMemory),
-        Err(_) => Ok(None),
-    }
-}
-
-/// The value of a hex digit of either case.
-fn hex_digit(digit: u8) -> Option<u8>
-    ensures { IfSome result (λ value. value < 16) }
-{
-    match digit {
-        b'0'..=b'9' => Some(digit - b'0'),
-        b'a'..=b'f' => Some(digit - b'a' + 10),
-        b'A'..=b'F' => Some(digit - b'A' + 10),
-        _ => None,
-    }
-}
-
-/// The next item inside quotes: a byte as it is, behind a backslash, or in two hex digits.
-fn next_item(s: &[u8]) -> Item
-    ensures { StaysWithin (length s.now) result }
-{
-    match s {
-        [] => Item::Broken,
-        [b'"', ..] => Item::End,
-        [b'\\', b'"', ..] => Item::Byte(b'"', 2),
-        [b'\\', b'\\', ..] => Item::Byte(b'\\', 2),
-        [b'\\', b'x', high, low, ..] => match (hex_digit(*high), hex_digit(*low)) {
-            (Some(high), Some(low)) => Item::Byte(16 * high + low, 4),
-            _ => Item::Broken,
+        Err(fault) => match fault {
+            hex::FromHexError::OutOfMemory => Err(OutOfMemory),
+            _ => Ok(None),
         },
-        [b'\\', ..] => Item::Broken,
-        [byte, ..] => Item::Byte(*byte, 1),
     }
-}
-
-/// The text in quotes at the front.
-fn read_quoted(alloc: Global, s: &[u8]) -> Result<Option<Quoted>, OutOfMemory>
-    ensures { IfOk result (λ found. IfSome found (λ q. q.used ≤ length s.now)) }
-{
-    if s.first() != Some(&b'"') {
-        return Ok(None);
-    }
-    let mut bytes = Vec::new(alloc);
-    let mut at = 1;
-    while at < s.len() {
-        match next_item(&s[at..]) {
-            Item::Byte(byte, used) => {
-                if bytes.push(byte).is_err() {
-                    return Err(OutOfMemory);
-                }
-                at += used;
-            }
-            Item::End => return Ok(Some(Quoted {
-                bytes,
-                used: at + 1,
-            })),
-            Item::Broken => return Ok(None),
-        }
-    }
-    Ok(None)
 }

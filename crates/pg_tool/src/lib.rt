@@ -2,9 +2,17 @@
 #![tactic(auto)]
 
 mod asked;
+mod handle;
+mod opening;
+mod play;
+mod program;
 mod reading;
+mod session;
 mod writing;
 
-pub use asked::{is_in_form, user_of};
-pub use reading::{ReadFault, read_all};
-pub use writing::{WriteFault, write_all};
+pub use pg_text::{
+    Answer, Cells, Command, Pair, Report, Scripts, Session, SimpleMessage, TextFault, TurnMark,
+    report_text, session_text,
+};
+pub use program::{Outcome, run};
+pub use session::run_session;

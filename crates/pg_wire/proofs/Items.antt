@@ -1,13 +1,12 @@
 -- Counted items, read one after another, are all the items of a body.
-use Rattle.std.proofs.Common.{◌≡◌, ◌≢◌, ℕ, zero, suc, ◌+◌, ◌-◌, ◌≤◌, Bool, true, false, cond, List, [], ◌∷◌, ◌++◌, length, take, drop, Option, Some, None, Result, Ok, Err, refl, sym, ap, subst, ◌∙◌, arith, append_assoc, append-nil, ◌==◌, to_z, of_z, ℤ}
+use Rattle.std.proofs.Common.{◌≡◌, ◌≢◌, ℕ, zero, suc, ◌+◌, ◌-◌, ◌≤◌, true, false, cond, List, [], ◌∷◌, ◌++◌, length, take, drop, Option, Some, None, Result, Ok, Err, refl, sym, ap, subst, ◌∙◌, arith, append_assoc, append-nil, ◌==◌, to_z, of_z, ℤ}
 use mir.Val.{SFits}
 use Rattle.std.specs.Option.{option_and_then}
 use Rattle.std.specs.Int.{Width, w16, w32, byte_len, from_be_bytes, cast_signed}
-use Rattle.std.specs.Str.{is_utf8, IsUtf8}
+use Rattle.std.specs.Str.{is_utf8}
 use Rattle.std.proofs.lemmas.Bool.{le-leb, eqb-true}
 use Rattle.std.proofs.lemmas.Int.{to_z-of_z}
 use Rattle.std.proofs.lemmas.List.{length-drop}
-use Rattle.std.proofs.lemmas.Str.{is_utf8-from_IsUtf8, IsUtf8-from_is_utf8}
 use Rattle.std.proofs.Math.Seq.{take-length}
 use Rattle.pg_spec.specs.Bytes.{bytes_at, number_at, signed_at}
 use Rattle.pg_spec.specs.Bodies.{or_layout, utf8_at, field_at, exactly}
@@ -18,7 +17,7 @@ use Rattle.pg_wire.specs.Steps.{Step, ItemsLeft, counted_step}
 
 -- ---- numbers and texts
 
-bytes_at_all : (n : ℕ) (s : List ℕ) → n ≤ length s → bytes_at n s ≡ Some (take n s, drop n s)
+pub bytes_at_all : (n : ℕ) (s : List ℕ) → n ≤ length s → bytes_at n s ≡ Some (take n s, drop n s)
 bytes_at_all n s fits = ap (λ b. cond b (Some (take n s, drop n s)) None) (le-leb n (length s) fits)
 
 -- what `number_at` makes of the digits
@@ -43,30 +42,25 @@ signed_taken w s rest z fits is took =
     ap or_layout (ap (option_and_then (λ (n : ℕ × List ℕ). Some (cast_signed w n.0, n.1))) (number_is w s rest number refl took)
     ∙ ap (λ (x : ℤ). Some (x, rest)) same)
 
-rest_is : (s : List ℕ) (at : ℕ) → take (length s - at) (drop at s) ≡ drop at s
+pub rest_is : (s : List ℕ) (at : ℕ) → take (length s - at) (drop at s) ≡ drop at s
 rest_is s at = ap (λ k. take k (drop at s)) (sym (length-drop at s)) ∙ take-length (drop at s)
 
 -- what `utf8_at` makes of a text
 abbrev as_utf8 : Option (List ℕ × List ℕ) → Result (List ℕ × List ℕ) spec.WireFault
 as_utf8 read = or_layout read >>= λ text. cond (is_utf8 text.0) (Ok text) (Err spec.NotUtf8)
 
-pub text_taken : (s text : List ℕ) (n : ℕ) → TextEnds s (Some n) → text ≡ take n s → IsUtf8 (take n s) →
+pub text_taken : (s text : List ℕ) (n : ℕ) → TextEnds s (Some n) → text ≡ take n s → is_utf8 (take n s) ≡ true →
     utf8_at s ≡ Ok (text, take (length s - (n + 1)) (drop (n + 1) s))
 text_taken s text n ends is valid =
     let both : ◌≡◌ {A = List ℕ × List ℕ} (take n s, drop (n + 1) s) (text, take (length s - (n + 1)) (drop (n + 1) s)) =
     λ i. (sym is i, sym (rest_is s (n + 1)) i) in
     ap as_utf8 ends.1
-    ∙ ap (λ b. cond b (Ok (take n s, drop (n + 1) s)) (Err spec.NotUtf8)) (is_utf8-from_IsUtf8 (take n s) valid)
+    ∙ ap (λ b. cond b (Ok (take n s, drop (n + 1) s)) (Err spec.NotUtf8)) valid
     ∙ ap (λ p. Ok p) both
 
-pub text_refused : (s : List ℕ) (n : ℕ) → TextEnds s (Some n) → (IsUtf8 (take n s) → ⊥) → utf8_at s ≡ Err spec.NotUtf8
+pub text_refused : (s : List ℕ) (n : ℕ) → TextEnds s (Some n) → is_utf8 (take n s) ≡ false → utf8_at s ≡ Err spec.NotUtf8
 text_refused s n ends invalid =
-    ap as_utf8 ends.1
-    ∙ ap (λ b. cond b (Ok (take n s, drop (n + 1) s)) (Err spec.NotUtf8)) (not_true (is_utf8 (take n s)) (λ e. invalid (IsUtf8-from_is_utf8 (take n s) e)))
-  where
-    not_true : (b : Bool) → (b ≡ true → ⊥) → b ≡ false
-    not_true true no_ = absurd (no_ refl)
-    not_true false no_ = refl
+    ap as_utf8 ends.1 ∙ ap (λ b. cond b (Ok (take n s, drop (n + 1) s)) (Err spec.NotUtf8)) invalid
 
 pub field_taken : (s r0 r1 r2 r3 r4 r5 r6 name : List ℕ) (table oid : ℕ) (column size modifier format : ℤ) →
     utf8_at s ≡ Ok (name, r0) → or_layout (number_at w32 r0) ≡ Ok (table, r1) → or_layout (signed_at w16 r1) ≡ Ok (column, r2) →

@@ -11,3 +11,5 @@ pub mod MemoryLaws
 pub mod StreamLaws
 pub mod Items
 pub mod Counts
+pub mod Cells
+pub mod Pairs

@@ -1,6 +1,8 @@
 -- Texts that a zero byte ends.
-use Rattle.std.proofs.Common.{◌≡◌, ℕ, zero, suc, ◌+◌, ◌-◌, ◌<◌, ◌≤◌, List, [], ◌∷◌, length, take, drop, get_or, Option, Some, None, refl, sym, ap, subst, ◌∙◌, arith}
+use Rattle.std.proofs.Common.{Bool, true, false, ◌≡◌, ℕ, zero, suc, ◌+◌, ◌-◌, ◌<◌, ◌≤◌, List, [], ◌∷◌, length, take, drop, get_or, Option, Some, None, refl, sym, ap, subst, ◌∙◌, arith}
 use Rattle.std.specs.Option.{option_and_then}
+use Rattle.std.specs.Str.{is_utf8, IsUtf8}
+use Rattle.std.proofs.lemmas.Str.{IsUtf8-from_is_utf8}
 use Rattle.std.proofs.lemmas.List.{length-drop, drop-take}
 use Rattle.std.proofs.Math.Seq.{take-length}
 use Rattle.pg_spec.specs.Bytes.{◌>>=◌, text0_at, if_all_read}
@@ -91,3 +93,11 @@ text_goes_on message s seen n len same ends size more =
     let ends' : TextEnds s (Some n) = subst (λ (x : List ℕ). TextEnds x (Some n)) same ends in
     ap (option_and_then (λ (text : List ℕ × List ℕ). alone (message text.0) text.1)) ends'.1
     ∙ not_alone (message (take n s)) (drop (n + 1) s) (omega (arith, length-drop (n + 1) s, size, more))
+
+-- the test of a text that isn't UTF-8
+pub not_utf8 : (s : List ℕ) → (IsUtf8 s → ⊥) → is_utf8 s ≡ false
+not_utf8 s invalid = not_true (is_utf8 s) (λ e. invalid (IsUtf8-from_is_utf8 s e))
+  where
+    not_true : (b : Bool) → (b ≡ true → ⊥) → b ≡ false
+    not_true true isnt = absurd (isnt refl)
+    not_true false isnt = refl

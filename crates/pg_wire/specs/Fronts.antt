@@ -1,4 +1,5 @@
--- What stands in front of some bytes.
+-- What stands in front of received bytes, and where the batch in front of them ends (PostgreSQL
+-- documentation, "Message Formats").
 use Rattle.std.specs.Prelude.{◌≡◌, ℕ, ◌≤◌, Bool, true, false, ◌||◌, ◌==◌, List, [], length, take, drop, slice_index, Some, None}
 use Rattle.std.specs.Str.{byte}
 use Rattle.pg_spec.specs.RawMessages.{RawMessage, message_at, messages, bytes_left, has_bad_header}
@@ -6,6 +7,7 @@ use Rattle.pg_spec.specs.Batches.{is_batch, StopsAt}
 use Rattle.pg_wire.specs.declared.front.Found.{Found}
 use Rattle.pg_wire.specs.declared.front.Found.TheVariants.{Whole, Short, Bad}
 
+-- the tag of a message that answers no request: a notice, a notification or a parameter report
 abbrev pub is_aside_tag : ℕ → Bool
 is_aside_tag tag = (tag == byte "N" || tag == byte "A") || tag == byte "S"
 
@@ -20,6 +22,7 @@ pub record IsWhole (s : List ℕ) (n : ℕ) : Type 0 where
   pub front : message_at s ≡ Some (message_of_bytes n s, drop n s)
   pub alone : message_at (take n s) ≡ Some (message_of_bytes n s, [])
 
+-- what was found in front
 abbrev pub FrontIs : List ℕ → Found → Type 0
 FrontIs s (Whole n) = IsWhole s n
 FrontIs s Short = (message_at s ≡ None) × (has_bad_header s ≡ false)

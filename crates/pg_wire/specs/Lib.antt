@@ -11,6 +11,7 @@ pub mod Decode
 pub mod Header
 pub mod Writes
 pub mod Steps
+pub mod Encode
 pub mod Turning
 pub mod Giving
 pub mod Memory

@@ -1,11 +1,12 @@
 -- The readers of bodies, one item at a time (PostgreSQL documentation, "Message Formats" and "Error
 -- and Notice Message Fields").
-use Rattle.std.specs.Prelude.{◌≡◌, ℕ, zero, suc, List, [], ◌∷◌, Option, Some, None, Result, Ok, Err, if◌then◌else◌}
+use Rattle.std.specs.Prelude.{◌≡◌, ℕ, zero, suc, ◌≤◌, List, [], ◌∷◌, length, drop, slice_range, Option, Some, None, IfSome, option_map, Result, Ok, Err, if◌then◌else◌}
+use Rattle.std.specs.declared.ops.Range.{Range}
 use Rattle.std.specs.Str.{bytes_eq}
 use Rattle.pg_spec.specs.Faults as spec
 use Rattle.pg_spec.specs.Faults.{◌>>=◌}
 use Rattle.pg_spec.specs.DbErrors.{ErrorField, error_field_at}
-use Rattle.pg_spec.specs.Bodies.{Field, field_at}
+use Rattle.pg_spec.specs.Bodies.{Field, field_at, cell_at}
 use Rattle.pg_wire.specs.declared.fault.WireFault.{WireFault}
 use Rattle.pg_wire.specs.Faults.{wire_fault}
 
@@ -48,3 +49,37 @@ Reads read item rest = read ≡ Ok (item, rest)
 -- the read is refused by this fault
 abbrev pub Refuses : {A : Type 0} → Result A spec.WireFault → WireFault → Type 0
 Refuses read fault = (cause : spec.WireFault) × (wire_fault fault ≡ Some cause) × (read ≡ Err cause)
+
+-- cells not yet read: how many, and the place in the buffer where the next begins
+pub record CellsLeft : Type 0 where
+  pub count : ℕ
+  pub at : ℕ
+  pub buffer : List ℕ
+
+-- the items of which they are
+abbrev pub cells_left : CellsLeft → ItemsLeft
+cells_left left = record { count = left.count; bytes = drop left.at left.buffer }
+
+-- the bytes of a cell, by its range in the buffer; None for null
+abbrev pub cell_in : List ℕ → Option (Range ℕ) → Option (List ℕ)
+cell_in buffer range = option_map (λ r. slice_range buffer r.start r.end) range
+
+-- the range lies in the buffer
+abbrev pub IsWithin : List ℕ → Option (Range ℕ) → Type 0
+IsWithin buffer range = IfSome range (λ r. (r.start ≤ r.end) × (r.end ≤ length buffer))
+
+-- the next cell of a DataRow
+abbrev pub cell_step : CellsLeft → Step (Option (List ℕ)) ItemsLeft
+cell_step left = counted_step cell_at left.count (drop left.at left.buffer)
+
+-- A cell was read, and lies there.
+pub record ReadsCell (old new : CellsLeft) (range : Option (Range ℕ)) : Type 0 where
+  pub buffer : new.buffer ≡ old.buffer
+  pub within : IsWithin old.buffer range
+  pub step : cell_step old ≡ Ok (Some (cell_in old.buffer range, cells_left new))
+
+-- `next` made this step; what is left changes only where a cell came
+abbrev pub CellSteps : CellsLeft → CellsLeft → Result (Option (Option (Range ℕ))) WireFault → Type 0
+CellSteps old new (Ok None) = (cell_step old ≡ Ok None) × (new ≡ old)
+CellSteps old new (Ok (Some range)) = ReadsCell old new range
+CellSteps old new (Err fault) = (cause : spec.WireFault) × (wire_fault fault ≡ Some cause) × (cell_step old ≡ Err cause) × (new ≡ old)

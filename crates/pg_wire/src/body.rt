@@ -1,10 +1,10 @@
 //! The bodies of messages, each with what its layout holds (PostgreSQL documentation, "Message Formats").
 
-ghost use Rattle.std.specs.Prelude.{◌≡◌, IfOk, IfErr, is_ok};
+ghost use Rattle.std.specs.Prelude.{◌≡◌, true, false, MatchResult, IfOk, IfErr, is_ok};
 ghost use Rattle.std.specs.Str.{is_utf8};
 
 use crate::fault::WireFault;
-use crate::texts::TextPair;
+use crate::texts::{TextPair, utf8};
 use bytes::Bytes;
 use std::marker::Model;
 use std::str;
@@ -119,6 +119,126 @@ impl Model for ParameterStatusBody {
     ghost view = { λ b. record { name = b.texts.first; value = b.texts.second } };
 }
 
+/// Whether a transaction is open.
+#[derive(Drop)]
+pub struct ReadyForQueryBody {
+    pub(crate) status: u8,
+}
+
+/// The columns of the rows that follow: how many, and the bytes that hold them.
+#[derive(Drop)]
+pub struct RowDescriptionBody {
+    pub(crate) count: u16,
+    pub(crate) fields: Bytes,
+}
+
+impl AuthenticationGssContinueBody {
+    /// What is passed on to GSS.
+    pub fn data(&self) -> &[u8]
+        ensures { result.now ≡ self.now.data }
+    {
+        self.data.as_slice()
+    }
+}
+
+impl AuthenticationMd5PasswordBody {
+    /// What the password's digest is mixed with.
+    pub fn salt(&self) -> [u8; 4]
+        ensures { result ≡ self.now.salt }
+    {
+        self.salt
+    }
+}
+
+impl AuthenticationSaslContinueBody {
+    /// The challenge as the server wrote it.
+    pub fn data(&self) -> &[u8]
+        ensures { result.now ≡ self.now.data }
+    {
+        self.data.as_slice()
+    }
+}
+
+impl AuthenticationSaslFinalBody {
+    /// The proof as the server wrote it.
+    pub fn data(&self) -> &[u8]
+        ensures { result.now ≡ self.now.data }
+    {
+        self.data.as_slice()
+    }
+}
+
+impl BackendKeyDataBody {
+    /// The process that serves this session.
+    pub fn process_id(&self) -> i32
+        ensures { result ≡ self.now.process_id }
+    {
+        self.process_id
+    }
+
+    /// The key without which the server cancels nothing.
+    pub fn secret_key(&self) -> i32
+        ensures { result ≡ self.now.secret_key }
+    {
+        self.secret_key
+    }
+}
+
+impl CommandCompleteBody {
+    /// What the command was and on how many rows it acted. NotUtf8 comes where it isn't UTF-8.
+    pub fn tag(&self) -> Result<&str, WireFault>
+        ensures { MatchResult result
+            (λ text. (text.now ≡ self.now.tag) × (is_utf8 self.now.tag ≡ true))
+            (λ fault. (fault ≡ WireFault.NotUtf8) × (is_utf8 self.now.tag ≡ false)) }
+    {
+        utf8(self.tag.as_slice())
+    }
+}
+
+impl CopyDataBody {
+    /// The piece.
+    pub fn data(&self) -> &[u8]
+        ensures { result.now ≡ self.now.data }
+    {
+        self.data.as_slice()
+    }
+
+    /// The piece, in the bytes that were received.
+    pub fn into_bytes(self) -> Bytes
+        ensures { result ≡ self.data }
+    {
+        let CopyDataBody { data } = self;
+        data
+    }
+}
+
+impl NotificationResponseBody {
+    /// The process of the session that notified.
+    pub fn process_id(&self) -> i32
+        ensures { result ≡ self.now.process_id }
+    {
+        self.process_id
+    }
+
+    /// The channel's name. NotUtf8 comes where it isn't UTF-8.
+    pub fn channel(&self) -> Result<&str, WireFault>
+        ensures { MatchResult result
+            (λ text. (text.now ≡ self.now.channel) × (is_utf8 self.now.channel ≡ true))
+            (λ fault. (fault ≡ WireFault.NotUtf8) × (is_utf8 self.now.channel ≡ false)) }
+    {
+        utf8(self.texts.first())
+    }
+
+    /// The payload. NotUtf8 comes where it isn't UTF-8.
+    pub fn message(&self) -> Result<&str, WireFault>
+        ensures { MatchResult result
+            (λ text. (text.now ≡ self.now.payload) × (is_utf8 self.now.payload ≡ true))
+            (λ fault. (fault ≡ WireFault.NotUtf8) × (is_utf8 self.now.payload ≡ false)) }
+    {
+        utf8(self.texts.second())
+    }
+}
+
 impl ParameterStatusBody {
     /// The setting's name. NotUtf8 comes exactly where it isn't UTF-8.
     pub fn name(&self) -> Result<&str, WireFault>
@@ -151,15 +271,11 @@ fn text_of(bytes: &[u8]) -> Result<&str, WireFault>
     }
 }
 
-/// Whether a transaction is open.
-#[derive(Drop)]
-pub struct ReadyForQueryBody {
-    pub(crate) status: u8,
-}
-
-/// The columns of the rows that follow: how many, and the bytes that hold them.
-#[derive(Drop)]
-pub struct RowDescriptionBody {
-    pub(crate) count: u16,
-    pub(crate) fields: Bytes,
+impl ReadyForQueryBody {
+    /// `I` outside a transaction, `T` in one, `E` in one that failed.
+    pub fn status(&self) -> u8
+        ensures { result ≡ self.now.status }
+    {
+        self.status
+    }
 }

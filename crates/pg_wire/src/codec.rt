@@ -2,11 +2,14 @@
 
 ghost use Rattle.std.specs.Prelude.{◌≡◌, true, slice_index};
 ghost use Rattle.pg_wire.specs.Decode.{Decodes};
+ghost use Rattle.pg_wire.specs.Encode.{frame_of};
+ghost use Rattle.pg_wire.specs.Writes.{Writes};
 ghost use Rattle.pg_wire.specs.Fronts.{IsWhole, is_aside_tag};
 
 use crate::backend::BackendMessages;
-use crate::fault::WireFault;
+use crate::fault::{FrameFault, WireFault};
 use crate::front::{Found, batch_end, front, is_aside};
+use crate::frontend::copy_data;
 use crate::layout::{is_laid_out, message_of};
 use crate::message::Message;
 use bytes::{Bytes, BytesMut};
@@ -14,7 +17,9 @@ use bytes::{Bytes, BytesMut};
 /// What is written to the server.
 #[derive(Drop)]
 pub enum FrontendMessage {
+    /// Frames as they are.
     Raw(Bytes),
+    /// A piece of a copy, which a CopyData frame is put around.
     CopyData(Bytes),
 }
 
@@ -35,6 +40,20 @@ pub enum BackendMessage {
 pub struct PostgresCodec;
 
 impl PostgresCodec {
+    /// Appends what is written. TooLong comes where a CopyData frame passes its length field. After a
+    /// refusal `out` is as before.
+    pub fn encode(item: &FrontendMessage, out: &mut BytesMut) -> Result<(), FrameFault>
+        ensures { Writes (frame_of item.now) out.old.items out.new.items result }
+    {
+        match item {
+            FrontendMessage::Raw(bytes) => match out.extend_from_slice(bytes.as_slice()) {
+                Ok(()) => Ok(()),
+                Err(_) => Err(FrameFault::OutOfMemory),
+            },
+            FrontendMessage::CopyData(bytes) => copy_data(bytes.as_slice(), out),
+        }
+    }
+
     /// Cuts a batch or a message aside off the front. It copies no byte. None comes where no whole
     /// message stands in front, BadLength where none does and the header there is below 4, Layout where
     /// the message aside in front breaks its layout. After None or an error the buffer is as before.

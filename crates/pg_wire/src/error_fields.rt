@@ -24,6 +24,7 @@ impl<'a> Model for ErrorField<'a> {
 }
 
 impl<'a> ErrorField<'a> {
+    /// The byte that says what the field is, as `S` for the severity.
     pub fn type_(&self) -> u8
         ensures { result ≡ self.now.kind }
     {

@@ -6,7 +6,7 @@ ghost use Rattle.pg_wire.specs.Steps.{Steps, Refuses, field_step};
 
 use crate::body::RowDescriptionBody;
 use crate::fault::WireFault;
-use crate::texts::text_end;
+use crate::texts::{text_end, utf8};
 use bytes::Buf;
 use std::marker::Model;
 
@@ -31,6 +31,7 @@ impl<'a> Model for Field<'a> {
 }
 
 impl<'a> Field<'a> {
+    /// Its name, without the zero byte that ends it.
     pub fn name(&self) -> &'a str
         ensures { result.now ≡ self.now.name }
     {
@@ -51,6 +52,7 @@ impl<'a> Field<'a> {
         self.column_id
     }
 
+    /// The type of its values.
     pub fn type_oid(&self) -> u32
         ensures { result ≡ self.now.type_oid }
     {
@@ -64,6 +66,7 @@ impl<'a> Field<'a> {
         self.type_size
     }
 
+    /// What the type makes of it is the type's own, -1 for none.
     pub fn type_modifier(&self) -> i32
         ensures { result ≡ self.now.type_modifier }
     {
@@ -124,9 +127,9 @@ fn text(bytes: &[u8]) -> Result<(&str, &[u8]), WireFault>
         Some(end) => end,
         None => return Err(WireFault::Layout),
     };
-    match str::from_utf8(&bytes[..end]) {
+    match utf8(&bytes[..end]) {
         Ok(text) => Ok((text, &bytes[end + 1..])),
-        Err(_) => Err(WireFault::NotUtf8),
+        Err(fault) => Err(fault),
     }
 }
 

@@ -1,8 +1,10 @@
 //! Texts that a zero byte ends (PostgreSQL documentation, "Message Data Types", under String).
 
-ghost use Rattle.std.specs.Prelude.{◌≡◌};
+ghost use Rattle.std.specs.Prelude.{◌≡◌, true, false, MatchResult};
+ghost use Rattle.std.specs.Str.{is_utf8};
 ghost use Rattle.pg_wire.specs.Bodies.{TextEnds, PairEnds, text_pair};
 
+use crate::fault::WireFault;
 use bytes::Bytes;
 use std::marker::Model;
 
@@ -79,4 +81,16 @@ pub(crate) fn pair_end(bytes: &[u8]) -> Option<usize>
         return None;
     }
     Some(middle)
+}
+
+/// The bytes as a text, or NotUtf8.
+pub(crate) fn utf8(bytes: &[u8]) -> Result<&str, WireFault>
+    ensures { MatchResult result
+        (λ text. (text.now ≡ bytes.now) × (is_utf8 bytes.now ≡ true))
+        (λ fault. (fault ≡ WireFault.NotUtf8) × (is_utf8 bytes.now ≡ false)) }
+{
+    match str::from_utf8(bytes) {
+        Ok(text) => Ok(text),
+        Err(_) => Err(WireFault::NotUtf8),
+    }
 }

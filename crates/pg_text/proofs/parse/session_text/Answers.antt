@@ -1,4 +1,4 @@
-use Rattle.std.proofs.Common.{◌≤◌, ℕ, List, length, rules, arith}
+use Rattle.std.proofs.Common.{◌≤◌, ℕ, arith}
 use Rattle.pg_text.specs.declared.parse.Draft.{Draft}
 use Rattle.pg_text.specs.Drafts.{IsWithin}
 use Rattle.pg_text.proofs.parse.session_text.Goals as goal

@@ -1,0 +1,23 @@
+use Rattle.std.proofs.Common.{◌≡◌, List, ℕ, Ok, Some, is_some, sym, ap, ◌∙◌}
+use Rattle.std.proofs.lemmas.Bool.{eq-eqb, ne_eqb}
+use Rattle.std.specs.Str.{byte}
+use Rattle.pg_spec.specs.DbErrors.{severity_named}
+use Rattle.std.specs.Str.Lossy.{utf8_lossy}
+use Rattle.pg_wire.specs.Steps.{error_step}
+use Rattle.pg_errors.proofs.FieldLemmas.{pass-true, pass-other}
+use Rattle.pg_errors.proofs.error_fields.are_severities.Goals as goal
+
+pub loop-field-preserved-in-Ok-true : goal.loop-field-preserved-in-Ok-true
+loop-field-preserved-in-Ok-true c =
+    let field = c.in-Ok-Some.field in
+    let step : error_step c.loop-field.fields ≡ Ok (Some (field, c.next.new.self)) = rw c.in-Ok-Some.field-0-is at c.in-Ok-Some.ensures.step in
+    c.loop-field.invariant
+    ∙ pass-true (λ text. is_some (severity_named text)) (byte "V") c.loop-field.fields field c.next.new.self step (eq-eqb _ _ (sym c.type_.ensures ∙ c.if-type_-eq86.true))
+    (sym c.in-Ok-true.field-0-test ∙ c.in-Ok-true.ensures ∙ ap (λ (v : List ℕ). is_some (severity_named (utf8_lossy v))) c.value_bytes.ensures)
+
+pub loop-field-preserved : goal.loop-field-preserved
+loop-field-preserved c =
+    let field = c.in-Ok-Some.field in
+    let step : error_step c.loop-field.fields ≡ Ok (Some (field, c.next.new.self)) = rw c.in-Ok-Some.field-0-is at c.in-Ok-Some.ensures.step in
+    c.loop-field.invariant
+    ∙ pass-other (λ text. is_some (severity_named text)) (byte "V") c.loop-field.fields field c.next.new.self step (ne_eqb _ _ (λ e. c.if-type_-eq86.false (c.type_.ensures ∙ e)))

@@ -1,0 +1,310 @@
+-- Lines are read as they are spelled.
+use Rattle.std.proofs.Common.{◌≡◌, ◌≢◌, ◌<◌, ◌≤◌, ◌+◌, ◌⊎◌, ℕ, Bool, true, false, List, [], ◌∷◌, ◌++◌, flat_map, Option, Some, None, codes, refl, sym, ap, subst, ◌∙◌, append_assoc, append-nil, inl, inr, arith}
+use Rattle.std.specs.Prelude.{IsUtf8, is_none, Result, Ok, Err, is_ok, is_err, cond, not, ◌&&◌, ◌==◌}
+use Rattle.std.specs.List.{AllZip, concat, join_with_byte, list_all}
+use Rattle.std.proofs.lemmas.Bool.{eqb-false}
+use Rattle.std.proofs.lemmas.List.Concat.{flat_map-append}
+use Rattle.pg_spec.specs.Report as command
+use Rattle.pg_spec.specs.SessionText as said
+use Rattle.pg_spec.specs.SessionText.{IsBytes, IsNumber, IsQuoted, Spells}
+use Rattle.pg_text.specs.declared.line.Keyword.{Keyword}
+use Rattle.pg_text.specs.declared.line.Keyword.TheVariants.{Config, Limit, Turns, Handle, Step, Cut, Simple}
+use Rattle.pg_text.specs.declared.line.Line.{Line}
+use Rattle.pg_text.specs.declared.line.Line.TheVariants as line
+use Rattle.pg_text.specs.declared.command.Command.TheVariants as asked
+use Rattle.pg_text.specs.Lines.{first_word, ReadsLine, ReadsRest, SaysSomething, Stands, WordsOf}
+use Rattle.pg_text.specs.Words.{AllBytes, AllWords, behind, IsTextOf, IsUtf8Quoted, IsWord, left_text, NoSpace, OneWord, Takes, TakesNumber, TookAll}
+use Rattle.pg_text.proofs.WordLaws.{Ends, bytes_ends, left_same, number_ends, quoted_ends, word_ends}
+
+-- ---- words behind one another
+
+cc_tail : {b c : ℕ} {v w : List ℕ} → b ∷ v ≡ c ∷ w → v ≡ w
+cc_tail e = cc
+
+-- words with a space before each are what is left of a line
+abbrev left_of : List (List ℕ) → Option (List ℕ)
+left_of [] = None
+left_of (word ∷ words) = Some (word ++ behind words)
+
+left_of_is : (words : List (List ℕ)) → left_text (left_of words) ≡ behind words
+left_of_is [] = refl
+left_of_is (word ∷ words) = refl
+
+-- a kind of words that is told from what stands behind it, taken off the front of words that are known
+pub after_word : {A : Type 0} (Is : A → List ℕ → Type 0) → Ends Is → (old new : Option (List ℕ)) (x : A) → Takes Is old (Some x) new →
+    (y : A) (word : List ℕ) (words : List (List ℕ)) → Is y word → left_text old ≡ behind (word ∷ words) → (x ≡ y) × (left_text new ≡ behind words)
+after_word Is ends old new x taken y word words is e =
+    let tail : taken.0 ++ left_text new ≡ word ++ left_text (left_of words) = cc_tail (sym taken.2 ∙ e) ∙ ap (λ t. word ++ t) (sym (left_of_is words)) in
+    let same = ends x y taken.0 word new (left_of words) taken.1 is tail in
+    (same.0, ap left_text same.2 ∙ left_of_is words)
+
+pub no_word : {A : Type 0} (Is : A → List ℕ → Type 0) (old new : Option (List ℕ)) → Takes Is old None new →
+    (y : A) (word : List ℕ) (words : List (List ℕ)) → Is y word → left_text old ≡ behind (word ∷ words) → ⊥
+no_word Is old new none y word words is e = none y word (left_of words) is (e ∙ ap (λ t. 32 ∷ word ++ t) (sym (left_of_is words)))
+
+-- something is left
+some_left : (left : Option (List ℕ)) → is_none left ≡ false → left_text left ≡ [] → ⊥
+some_left None e none = cc e
+some_left (Some words) e none = cc none
+
+none_left : (left : Option (List ℕ)) → is_none left ≡ true → left ≡ None
+none_left None e = refl
+none_left (Some words) e = cc e
+
+pub only_one : {A : Type 0} (Is : A → List ℕ → Type 0) (old new : Option (List ℕ)) (r : Option A) → Takes Is old r new → is_none new ≡ true → OneWord Is old r
+only_one Is old new None none done = λ x word is e. no_word Is old new none x word [] is e
+only_one Is old new (Some x) taken done = (taken.0, taken.1, taken.2 ∙ ap (λ l. 32 ∷ taken.0 ++ left_text l) (none_left new done))
+
+pub no_one : {A : Type 0} (Is : A → List ℕ → Type 0) (old new : Option (List ℕ)) → Takes Is old None new → OneWord Is old None
+no_one Is old new none x word is e = no_word Is old new none x word [] is e
+
+pub not_one : {A : Type 0} (Is : A → List ℕ → Type 0) → Ends Is → (old new : Option (List ℕ)) (r : Option A) → Takes Is old r new → is_none new ≡ false → OneWord Is old None
+not_one Is ends old new None none more = no_one Is old new none
+not_one Is ends old new (Some x) taken more = λ y word is e. some_left new more (after_word Is ends old new x taken y word [] is e).1
+
+-- ---- texts
+
+pub utf8_taken : (old new : Option (List ℕ)) (x : List ℕ) (r : Option (List ℕ)) → Takes IsQuoted old (Some x) new → IsTextOf x r → Takes IsUtf8Quoted old r new
+utf8_taken old new x None taken not_text = λ y word left is e.
+    let tail : taken.0 ++ left_text new ≡ word ++ left_text left = cc_tail (sym taken.2 ∙ e) in
+    let same = quoted_ends x y taken.0 word new left taken.1 is.1 tail in
+    not_text (subst IsUtf8 (sym same.0) is.0)
+utf8_taken old new x (Some text) taken is =
+    (taken.0, (subst IsUtf8 (sym is.0) is.1, subst (λ (t : List ℕ). IsQuoted t taken.0) (sym is.0) taken.1), taken.2)
+
+pub utf8_none : (old new : Option (List ℕ)) → Takes IsQuoted old None new → Takes IsUtf8Quoted old None new
+utf8_none old new none x word left is e = none x word left is.1 e
+
+pub utf8_ends : Ends IsUtf8Quoted
+utf8_ends x y v w l k p q e = quoted_ends x y v w l k p.1 q.1 e
+
+-- ---- all words
+
+-- words with a space before each, and what is left behind them, are what is left of a line
+left_with : (words : List (List ℕ)) (now : Option (List ℕ)) → (left : Option (List ℕ)) × (left_text left ≡ behind words ++ left_text now)
+left_with [] now = (now, refl)
+left_with (word ∷ words) now = (Some (word ++ (behind words ++ left_text now)), ap (λ t. 32 ∷ t) (sym (append_assoc word (behind words) (left_text now))))
+
+-- the words that were taken stand in front of all words
+skip : {A : Type 0} (Is : A → List ℕ → Type 0) → Ends Is → (xs ys : List A) (ws vs : List (List ℕ)) (now : Option (List ℕ)) →
+    AllZip Is xs ws → AllZip Is ys vs → behind ws ++ left_text now ≡ behind vs →
+    (zs : List A) × (us : List (List ℕ)) × AllZip Is zs us × (left_text now ≡ behind us)
+skip Is ends [] ys [] vs now p q e = (ys, vs, q, e)
+skip Is ends [] ys (w ∷ ws) vs now p q e = absurd p
+skip Is ends (x ∷ xs) ys [] vs now p q e = absurd p
+skip Is ends (x ∷ xs) [] (w ∷ ws) [] now p q e = cc e
+skip Is ends (x ∷ xs) [] (w ∷ ws) (v ∷ vs) now p q e = absurd q
+skip Is ends (x ∷ xs) (y ∷ ys) (w ∷ ws) [] now p q e = absurd q
+skip Is ends (x ∷ xs) (y ∷ ys) (w ∷ ws) (v ∷ vs) now p q e =
+    let left = left_with ws now in
+    let tail : w ++ left_text left.0 ≡ v ++ left_text (left_of vs) =
+    ap (λ t. w ++ t) left.1 ∙ sym (append_assoc w (behind ws) (left_text now)) ∙ cc_tail e ∙ ap (λ t. v ++ t) (sym (left_of_is vs)) in
+    let same = ends x y w v left.0 (left_of vs) p.0 q.0 tail in
+    skip Is ends xs ys ws vs now p.1 q.1 (sym left.1 ∙ ap left_text same.2 ∙ left_of_is vs)
+
+refused : {A : Type 0} (Is : A → List ℕ → Type 0) (now new : Option (List ℕ)) → is_none now ≡ false → Takes Is now None new →
+    (zs : List A) (us : List (List ℕ)) → AllZip Is zs us → left_text now ≡ behind us → ⊥
+refused Is now new more none [] [] p e = some_left now more e
+refused Is now new more none [] (u ∷ us) p e = absurd p
+refused Is now new more none (z ∷ zs) [] p e = absurd p
+refused Is now new more none (z ∷ zs) (u ∷ us) p e = no_word Is now new none z u us p.0 e
+
+pub all_refused : {A : Type 0} (Is : A → List ℕ → Type 0) → Ends Is → (items : List A) (old now new : Option (List ℕ)) →
+    TookAll Is items old now → is_none now ≡ false → Takes Is now None new → AllWords Is old None
+all_refused Is ends items old now new took more none ys vs q e =
+    let rest = skip Is ends items ys took.0 vs now took.1 q (sym took.2 ∙ e) in
+    refused Is now new more none rest.0 rest.1 rest.2 rest.3
+
+zip_more : {A B : Type 0} (R : A → B → Type 0) (xs : List A) (ys : List B) (x : A) (y : B) → AllZip R xs ys → R x y → AllZip R (xs ++ x ∷ []) (ys ++ y ∷ [])
+zip_more R [] [] x y h r = (r, tt)
+zip_more R [] (b ∷ ys) x y h r = absurd h
+zip_more R (a ∷ xs) [] x y h r = absurd h
+zip_more R (a ∷ xs) (b ∷ ys) x y h r = (h.0, zip_more R xs ys x y h.1 r)
+
+pub one_more : {A : Type 0} (Is : A → List ℕ → Type 0) (items : List A) (x : A) (old now new : Option (List ℕ)) →
+    TookAll Is items old now → Takes Is now (Some x) new → TookAll Is (items ++ x ∷ []) old new
+one_more Is items x old now new took taken = (
+  took.0 ++ taken.0 ∷ [],
+  zip_more Is items took.0 x taken.0 took.1 taken.1,
+  took.2 ∙ ap (λ t. behind took.0 ++ t) (taken.2 ∙ ap (λ t. t ++ left_text new) (sym (append-nil (32 ∷ taken.0))))
+      ∙ sym (append_assoc (behind took.0) (behind (taken.0 ∷ [])) (left_text new))
+      ∙ ap (λ t. t ++ left_text new) (sym (flat_map-append (λ (word : List ℕ). 32 ∷ word) took.0 (taken.0 ∷ []))),
+)
+
+pub concat_more : (pieces : List (List ℕ)) (piece : List ℕ) → concat (pieces ++ piece ∷ []) ≡ concat pieces ++ piece
+concat_more [] piece = append-nil piece
+concat_more (p ∷ pieces) piece = ap (λ t. p ++ t) (concat_more pieces piece) ∙ sym (append_assoc p (concat pieces) piece)
+
+-- ---- lines
+
+take_no_space : NoSpace (codes "take")
+take_no_space = (λ e. absurd cc, (λ e. absurd cc, (λ e. absurd cc, (λ e. absurd cc, tt))))
+
+pub take_none : (old new : Option (List ℕ)) → Takes IsWord old None new → TakesNumber old None
+take_none old new none n number is e = no_word IsWord old new none (codes "take") (codes "take") (number ∷ []) (refl, take_no_space) e
+
+pub take_other : (old new : Option (List ℕ)) (word : List ℕ) → Takes IsWord old (Some word) new → word ≢ codes "take" → TakesNumber old None
+take_other old new word taken other n number is e =
+    let tail : taken.0 ++ left_text new ≡ codes "take" ++ left_text (left_of (number ∷ [])) = cc_tail (sym taken.2 ∙ e) in
+    other (taken.1.0 ∙ (word_ends taken.0 (codes "take") new (left_of (number ∷ [])) taken.1.1 take_no_space tail).0)
+
+pub config_some : (old : Option (List ℕ)) (text : List ℕ) → OneWord IsUtf8Quoted old (Some text) → ReadsRest Config old (Some (line.Config text))
+config_some old text (word, is, e) = (said.ConfigLine text, word ∷ [], (text, word, refl, is.0, is.1, refl), e, refl)
+
+pub config_none : (old : Option (List ℕ)) → OneWord IsUtf8Quoted old None → ReadsRest Config old None
+config_none old none l words (text, word, is, utf8, quoted, same) e = none text word (utf8, quoted) (e ∙ ap behind same)
+
+pub limit_some : (old : Option (List ℕ)) (n : ℕ) → OneWord (IsNumber 9223372036854775807) old (Some n) → ReadsRest Limit old (Some (line.Limit n))
+limit_some old n (word, is, e) = (said.LimitLine n, word ∷ [], (n, word, refl, is, refl), e, refl)
+
+pub cut_some : (old : Option (List ℕ)) (n : ℕ) → 0 < n → OneWord (IsNumber 18446744073709551615) old (Some n) → ReadsRest Cut old (Some (line.Cut n))
+cut_some old n some (word, is, e) = (said.CutLine n, word ∷ [], (n, word, refl, some, is, refl), e, refl)
+
+pub simple_none : (old new : Option (List ℕ)) → Takes IsUtf8Quoted old None new → ReadsRest Simple old None
+simple_none old new none l words (text, word, utf8, quoted, inl (is, same)) e = no_word IsUtf8Quoted old new none text word [] (utf8, quoted) (e ∙ ap behind same)
+simple_none old new none l words (text, word, utf8, quoted, inr (n, number, is, digits, same)) e =
+    no_word IsUtf8Quoted old new none text word (codes "take" ∷ number ∷ []) (utf8, quoted) (e ∙ ap behind same)
+
+pub simple_alone : (old new : Option (List ℕ)) (text : List ℕ) → Takes IsUtf8Quoted old (Some text) new → is_none new ≡ true →
+    ReadsRest Simple old (Some (line.Command (asked.Simple text None)))
+simple_alone old new text taken done =
+    let one = only_one IsUtf8Quoted old new (Some text) taken done in
+    (said.CommandLine (command.Simple text None), one.0 ∷ [], (text, one.0, one.1.0, one.1.1, inl (refl, refl)), one.2, refl)
+
+pub simple_take : (old new : Option (List ℕ)) (text : List ℕ) (n : ℕ) → Takes IsUtf8Quoted old (Some text) new → TakesNumber new (Some n) →
+    ReadsRest Simple old (Some (line.Command (asked.Simple text (Some n))))
+simple_take old new text n taken (number, digits, e) = (
+  said.CommandLine (command.Simple text (Some n)),
+  taken.0 ∷ codes "take" ∷ number ∷ [],
+  (text, taken.0, taken.1.0, taken.1.1, inr (n, number, refl, digits, refl)),
+  taken.2 ∙ ap (λ t. 32 ∷ taken.0 ++ t) e,
+  refl,
+)
+
+pub simple_refused : (old new : Option (List ℕ)) (text : List ℕ) → Takes IsUtf8Quoted old (Some text) new → is_none new ≡ false → TakesNumber new None → ReadsRest Simple old None
+simple_refused old new text taken more none l words (text', word, utf8, quoted, inl (is, same)) e =
+    some_left new more (after_word IsUtf8Quoted utf8_ends old new text taken text' word [] (utf8, quoted) (e ∙ ap behind same)).1
+simple_refused old new text taken more none l words (text', word, utf8, quoted, inr (n, number, is, digits, same)) e =
+    none n number digits (after_word IsUtf8Quoted utf8_ends old new text taken text' word (codes "take" ∷ number ∷ []) (utf8, quoted) (e ∙ ap behind same)).1
+
+-- a list that grew unless memory lacked
+pub grown : {A E : Type 0} (r : Result A E) (now more same : List ℕ) → false ≡ is_err r → now ≡ cond (is_ok r) more same → now ≡ more
+grown (Ok x) now more same e h = h
+grown (Err x) now more same e h = cc e
+
+-- ---- spelled lines
+
+join_words : (word : List ℕ) (words : List (List ℕ)) → join_with_byte 32 (word ∷ words) ≡ word ++ behind words
+join_words word [] = sym (append-nil word)
+join_words word (w ∷ words) = ap (λ t. word ++ (32 ∷ t)) (join_words w words)
+
+-- a line says nothing, or its first word tells what it is
+pub spelled_words : (l : said.Line) (s : List ℕ) → Spells l s →
+    ((s ≡ []) ⊎ ((rest : List ℕ) × (s ≡ 35 ∷ rest)))
+    ⊎ ((keyword : Keyword) × (words : List (List ℕ)) × WordsOf keyword l words × (s ≡ first_word keyword ++ behind words))
+spelled_words said.Nothing s h = inl h
+spelled_words (said.ConfigLine text) s (utf8, word, quoted, e) =
+    inr (Config, word ∷ [], (text, word, refl, utf8, quoted, refl), e ∙ join_words (codes "config") (word ∷ []))
+spelled_words (said.LimitLine n) s (word, is, e) = inr (Limit, word ∷ [], (n, word, refl, is, refl), e ∙ join_words (codes "limit") (word ∷ []))
+spelled_words (said.TurnsLine turns) s (words, is, e) = inr (Turns, words, (turns, refl, is), e ∙ join_words (codes "turns") words)
+spelled_words said.HandleLine s h = inr (Handle, [], (refl, refl), h)
+spelled_words (said.StepLine pieces) s (words, is, e) = inr (Step, words, (pieces, refl, is), e ∙ join_words (codes "step") words)
+spelled_words (said.CutLine n) s (word, some, is, e) = inr (Cut, word ∷ [], (n, word, refl, some, is, refl), e ∙ join_words (codes "cut") (word ∷ []))
+spelled_words (said.CommandLine (command.Simple text None)) s (utf8, word, quoted, e) =
+    inr (Simple, word ∷ [], (text, word, utf8, quoted, inl (refl, refl)), e ∙ join_words (codes "simple") (word ∷ []))
+spelled_words (said.CommandLine (command.Simple text (Some n))) s (utf8, word, number, quoted, digits, e) =
+    inr (
+      Simple,
+      word ∷ codes "take" ∷ number ∷ [],
+      (text, word, utf8, quoted, inr (n, number, refl, digits, refl)),
+      e ∙ join_words (codes "simple") (word ∷ codes "take" ∷ number ∷ []),
+    )
+
+pub words_spell : (keyword : Keyword) (l : said.Line) (words : List (List ℕ)) (s : List ℕ) → WordsOf keyword l words → s ≡ first_word keyword ++ behind words → Spells l s
+words_spell Config l words s (text, word, is, utf8, quoted, same) e =
+    subst (λ (m : said.Line). Spells m s) (sym is) (utf8, word, quoted, e ∙ sym (join_words (codes "config") words) ∙ ap (λ w. join_with_byte 32 (codes "config" ∷ w)) same)
+words_spell Limit l words s (n, word, is, digits, same) e =
+    subst (λ (m : said.Line). Spells m s) (sym is) (word, digits, e ∙ sym (join_words (codes "limit") words) ∙ ap (λ w. join_with_byte 32 (codes "limit" ∷ w)) same)
+words_spell Turns l words s (turns, is, all) e =
+    subst (λ (m : said.Line). Spells m s) (sym is) (words, all, e ∙ sym (join_words (codes "turns") words))
+words_spell Handle l words s (is, same) e = subst (λ (m : said.Line). Spells m s) (sym is) (e ∙ ap (λ w. codes "handle" ++ behind w) same)
+words_spell Step l words s (pieces, is, all) e =
+    subst (λ (m : said.Line). Spells m s) (sym is) (words, all, e ∙ sym (join_words (codes "step") words))
+words_spell Cut l words s (n, word, is, some, digits, same) e =
+    subst (λ (m : said.Line). Spells m s) (sym is) (word, some, digits, e ∙ sym (join_words (codes "cut") words) ∙ ap (λ w. join_with_byte 32 (codes "cut" ∷ w)) same)
+words_spell Simple l words s (text, word, utf8, quoted, inl (is, same)) e =
+    subst (λ (m : said.Line). Spells m s) (sym is) (utf8, word, quoted, e ∙ sym (join_words (codes "simple") words) ∙ ap (λ w. join_with_byte 32 (codes "simple" ∷ w)) same)
+words_spell Simple l words s (text, word, utf8, quoted, inr (n, number, is, digits, same)) e =
+    subst (λ (m : said.Line). Spells m s) (sym is) (utf8, word, number, quoted, digits, e ∙ sym (join_words (codes "simple") words) ∙ ap (λ w. join_with_byte 32 (codes "simple" ∷ w)) same)
+
+no_space_from : (w : List ℕ) → list_all (λ b. not (b == 32)) w ≡ true → NoSpace w
+no_space_from [] e = tt
+no_space_from (b ∷ w) e =
+    elim (b == 32) as (λ t. (b == 32) ≡ t → (not t && list_all (λ b. not (b == 32)) w) ≡ true → NoSpace (b ∷ w)) [
+      | true ↦ λ is h. cc h
+      | false ↦ λ is h. (eqb-false b 32 is, no_space_from w h)
+    ] refl e
+
+first_no_space : (keyword : Keyword) → NoSpace (first_word keyword)
+first_no_space Config = no_space_from (first_word Config) refl
+first_no_space Limit = no_space_from (first_word Limit) refl
+first_no_space Turns = no_space_from (first_word Turns) refl
+first_no_space Handle = no_space_from (first_word Handle) refl
+first_no_space Step = no_space_from (first_word Step) refl
+first_no_space Cut = no_space_from (first_word Cut) refl
+first_no_space Simple = no_space_from (first_word Simple) refl
+
+-- the line that a word begins, told by two letters
+keyword_at : List ℕ → Keyword
+keyword_at [] = Config
+keyword_at (a ∷ []) = Config
+keyword_at (a ∷ b ∷ w) =
+    cond (a == 99) (cond (b == 111) Config Cut) (cond (a == 108) Limit (cond (a == 116) Turns (cond (a == 104) Handle (cond (b == 116) Step Simple))))
+
+keyword_at-first_word : (keyword : Keyword) → keyword_at (first_word keyword) ≡ keyword
+unfolding keyword_at
+keyword_at-first_word Config = refl
+keyword_at-first_word Limit = refl
+keyword_at-first_word Turns = refl
+keyword_at-first_word Handle = refl
+keyword_at-first_word Step = refl
+keyword_at-first_word Cut = refl
+keyword_at-first_word Simple = refl
+
+same_keyword : (a b : Keyword) → first_word a ≡ first_word b → a ≡ b
+same_keyword a b e = sym (keyword_at-first_word a) ∙ ap keyword_at e ∙ keyword_at-first_word b
+
+says_nothing : (s : List ℕ) → SaysSomething s → (s ≡ []) ⊎ ((rest : List ℕ) × (s ≡ 35 ∷ rest)) → ⊥
+says_nothing [] says h = says
+says_nothing (b ∷ rest) says (inl e) = cc e
+says_nothing (b ∷ rest) says (inr (more, e)) = let head : b ≡ 35 = cc in says head
+
+pub line_found : (s word : List ℕ) (left : Option (List ℕ)) (keyword : Keyword) (found : Option Line) → SaysSomething s →
+    Takes IsWord (Some s) (Some word) left → word ≡ first_word keyword → ReadsRest keyword left found → ReadsLine s found
+line_found s word left keyword (Some read) says taken first (l, words, of, e, stands) =
+    let spelled : s ≡ first_word keyword ++ behind words = cc_tail taken.2 ∙ ap (λ t. t ++ left_text left) (sym taken.1.0 ∙ first) ∙ ap (λ t. first_word keyword ++ t) e in
+    (l, words_spell keyword l words s of spelled, stands)
+line_found s word left keyword None says taken first none = λ l spells. elim (spelled_words l s spells) [
+  | inl nothing ↦ says_nothing s says nothing
+  | inr (other, words, of, e) ↦
+      let both : first_word other ++ left_text (left_of words) ≡ taken.0 ++ left_text left = ap (λ t. first_word other ++ t) (left_of_is words) ∙ sym e ∙ cc_tail taken.2 in
+      let same = word_ends (first_word other) taken.0 (left_of words) left (first_no_space other) taken.1.1 both in
+      let keyword_same = same_keyword other keyword (same.0 ∙ sym taken.1.0 ∙ first) in
+      none l words (subst (λ (k : Keyword). WordsOf k l words) keyword_same of) (ap left_text (sym same.1) ∙ left_of_is words)
+]
+
+pub line_unknown : (s word : List ℕ) (left : Option (List ℕ)) → SaysSomething s → Takes IsWord (Some s) (Some word) left →
+    ((keyword : Keyword) → word ≢ first_word keyword) → ReadsLine s None
+line_unknown s word left says taken unknown = λ l spells. elim (spelled_words l s spells) [
+  | inl nothing ↦ says_nothing s says nothing
+  | inr (other, words, of, e) ↦
+      let both : first_word other ++ left_text (left_of words) ≡ taken.0 ++ left_text left = ap (λ t. first_word other ++ t) (left_of_is words) ∙ sym e ∙ cc_tail taken.2 in
+      let same = word_ends (first_word other) taken.0 (left_of words) left (first_no_space other) taken.1.1 both in
+      unknown other (taken.1.0 ∙ sym same.0)
+]
+
+pub line_wordless : (s : List ℕ) (left : Option (List ℕ)) → SaysSomething s → Takes IsWord (Some s) None left → ReadsLine s None
+line_wordless s left says none = λ l spells. elim (spelled_words l s spells) [
+  | inl nothing ↦ says_nothing s says nothing
+  | inr (other, words, of, e) ↦ no_word IsWord (Some s) left none (first_word other) (first_word other) words (refl, first_no_space other) (ap (λ t. 32 ∷ t) e)
+]

@@ -1,0 +1,76 @@
+-- The parts of a report's text that several calls write.
+use Rattle.std.specs.Prelude.{ℕ, ℤ, List, [], ◌∷◌, ◌++◌, map, flat_map, codes, decimal}
+use Rattle.std.specs.List.{enumerate_from, join_with_byte}
+use Rattle.pg_spec.specs.DbErrors.{DbError}
+use Rattle.hex.specs.Hex.{encode_lower}
+use Rattle.pg_spec.specs.Report.{Answer, Report}
+use Rattle.pg_spec.specs.ReportText.{line, signed, quoted, answer_items, answer_lines, answer_words, async_line, book_line, item_line, script_lines, turn_line}
+use Rattle.pg_errors.specs.declared.async_message.Notification.{Notification}
+use Rattle.pg_desk.specs.declared.event.Booking.{Booking}
+use Rattle.pg_desk.specs.declared.event.Stamp.{Stamp}
+use Rattle.pg_text.specs.declared.command.Answer as command
+use Rattle.pg_text.specs.declared.report.Pair.{Pair}
+use Rattle.pg_text.specs.Views.{answer_of, booking_of}
+
+-- a line for each setting
+abbrev pub parameter_lines : List Pair → List ℕ
+parameter_lines pairs = flat_map (λ (pair : List ℕ × List ℕ). line (codes "parameter" ∷ quoted pair.0 ∷ quoted pair.1 ∷ [])) (map (λ p. (p.name, p.value)) pairs)
+
+-- severity, code and message
+abbrev pub error_fields : DbError → List ℕ
+error_fields error = join_with_byte 32 (quoted error.severity ∷ quoted error.code ∷ quoted error.message ∷ [])
+
+-- each word behind a space
+abbrev pub behind_spaces : {A : Type 0} → (A → List ℕ) → List A → List ℕ
+behind_spaces word items = flat_map (λ item. 32 ∷ word item) items
+
+-- the lines of the answers of a handle, whose commands are counted from this number
+abbrev pub answers_from : ℕ → ℕ → List command.Answer → List ℕ
+answers_from handle command answers = flat_map (answer_lines handle) (enumerate_from command (map answer_of answers))
+
+-- the lines of the answers of the handles, counted from this number
+abbrev pub scripts_from : ℕ → List (List command.Answer) → List ℕ
+scripts_from handle scripts = flat_map script_lines (enumerate_from handle (map (map answer_of) scripts))
+
+-- the lines of the requests, counted from this number
+abbrev pub book_from : ℕ → List Booking → List ℕ
+book_from k book = flat_map book_line (enumerate_from k (map booking_of book))
+
+-- the line of the bytes that were sent
+abbrev pub sent_line : List ℕ → List ℕ
+sent_line sent = line (codes "sent" ∷ encode_lower sent ∷ [])
+
+-- the process of the server, and its key
+unfoldable pub process_line : ℤ → ℤ → List ℕ
+process_line process_id secret_key = line (codes "process" ∷ signed process_id ∷ signed secret_key ∷ [])
+
+-- what is said of the session as a whole
+abbrev pub session_lines : Report → List ℕ
+session_lines r =
+    process_line r.process_id r.secret_key
+    ++ flat_map (λ pair. line (codes "parameter" ∷ quoted pair.0 ∷ quoted pair.1 ∷ [])) r.parameters
+    ++ flat_map async_line r.asynchronous
+
+-- what the scripts did, and what went over the link
+abbrev pub work_lines : Report → List ℕ
+work_lines r =
+    flat_map script_lines (enumerate_from 0 r.answers)
+    ++ flat_map book_line (enumerate_from 0 r.book)
+    ++ flat_map turn_line r.trace
+    ++ sent_line r.sent
+
+-- what stands behind `async` for a notice
+abbrev pub notice_words : DbError → List ℕ
+notice_words notice = codes "notice " ++ (error_fields notice ++ 10 ∷ [])
+
+-- what stands behind `async` for a notification
+abbrev pub notification_words : Notification → List ℕ
+notification_words n = line (codes "notification" ∷ signed n.process_id ∷ quoted n.channel ∷ quoted n.payload ∷ [])
+
+-- owner, command and turn, each behind a space, and a space behind them
+abbrev pub stamp_words : Stamp → List ℕ
+stamp_words stamp = 32 ∷ decimal stamp.owner ++ 32 ∷ decimal stamp.command ++ 32 ∷ decimal stamp.turn ++ 32 ∷ []
+
+-- an answer behind the numbers of its handle and command
+abbrev pub answered : Answer → List ℕ
+answered answer = 32 ∷ line (answer_words answer) ++ flat_map item_line (answer_items answer)

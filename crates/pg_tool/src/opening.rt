@@ -1,0 +1,66 @@
+//! The startup of a session.
+
+ghost use Rattle.std.specs.Prelude.{◌≡◌, ◌^◌, ◌<◌, ◌≤◌, ℕ, List, OnOk};
+ghost use Rattle.pg_spec.specs.Links.{LinkView};
+ghost use Rattle.pg_wire.specs.LinkCalls.{Continues};
+ghost use Rattle.pg_connect.specs.Startups.{Opening};
+ghost use Rattle.pg_tool.specs.Openings.{OpenEnds, WaitEnds};
+
+use futures::task::Poll;
+use pg_connect::Startup;
+use pg_errors::{Cause, Error};
+use pg_wire::{Link, LinkWait};
+
+/// How a poll of the startup left it.
+#[derive(Clone, Copy, PartialEq, Eq, Drop)]
+enum Opens {
+    Done,
+    Moved,
+    Quiet,
+}
+
+/// Polls a startup once.
+fn poll_once<L: Link>(startup: &mut Startup, link: &mut L) -> Result<Opens, Error> {
+    match startup.poll(link) {
+        Poll::Ready(Ok(())) => Ok(Opens::Done),
+        Poll::Ready(Err(error)) => Err(error),
+        Poll::Pending => Ok(if startup.moved() {
+            Opens::Moved
+        } else {
+            Opens::Quiet
+        }),
+    }
+}
+
+/// Waits for the link behind turns that moved nothing, in which its count of calls that weren't ready
+/// went from `before` to `after`.
+pub(crate) fn wait_for<L: Link>(link: &mut L, before: u64, after: u64) -> Result<(), Error> {
+    match link.wait() {
+        LinkWait::Ready => Ok(()),
+        LinkWait::Idle => Err(Error::Stalled { before, after }),
+        LinkWait::Failed => Err(Error::Io(Cause::Link)),
+    }
+}
+
+/// Polls the startup until it answers. Where a poll moved nothing the link is waited for, and where the
+/// next one moves nothing either, the session is stalled.
+pub(crate) fn open<L: Link>(startup: &mut Startup, link: &mut L) -> Result<(), Error> {
+    let mut waited = false;
+    'polls: for _ in 0..u64::MAX {
+        let before = link.quiet();
+        let opens = poll_once(startup, link)?;
+        let after = link.quiet();
+        match opens {
+            Opens::Done => return Ok(()),
+            Opens::Moved => waited = false,
+            Opens::Quiet => {
+                if waited {
+                    return Err(Error::Stalled { before, after });
+                }
+                wait_for(link, before, after)?;
+                waited = true;
+            }
+        }
+    }
+    Err(Error::OutOfMemory)
+}
