@@ -8,6 +8,8 @@ mod error;
 mod error_fields;
 mod severity;
 mod sql_state;
+#[cfg(test)]
+mod tests;
 
 pub use async_message::{AsyncMessage, Notification};
 pub use cause::{Cause, ScramFault};
