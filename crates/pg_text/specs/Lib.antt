@@ -5,3 +5,5 @@ pub mod Lines
 pub mod Views
 pub mod Written
 pub mod Quotes
+pub mod Laws
+pub mod Texts
