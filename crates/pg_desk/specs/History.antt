@@ -22,15 +22,24 @@ pub record Taken : Type 0 where
   pub id : ℕ
   pub messages : List RawMessage
 
+-- what a list of events stands for
 pub record State : Type 0 where
+  -- the requests, request k at place k
   pub book : List Booking
+  -- the parts that went out
   pub gone_out : List (List ℕ)
+  -- the batches that came
   pub deliveries : List Delivery
+  -- the batches that readers took
   pub takes : List Taken
+  -- the requests whose reader hung up
   pub hung_up : List ℕ
+  -- the next numbers
   pub statements : ℕ
   pub portals : ℕ
+  -- no request is booked any more
   pub closed : Bool
+  -- nothing comes any more
   pub failed : Bool
 
 -- nothing has happened; the counters start at these numbers
@@ -72,10 +81,12 @@ taken k (t ∷ ts) = if t.id == k then t.messages ∷ taken k ts else taken k ts
 abbrev pub waiting : State → ℕ → List (List RawMessage)
 waiting s k = drop (length (taken k s.takes)) (given k s.deliveries)
 
+-- the number stands in the list
 abbrev pub is_in : ℕ → List ℕ → Bool
 is_in k [] = false
 is_in k (x ∷ xs) = (x == k) || is_in k xs
 
+-- the reader of request k hung up
 abbrev pub is_hung_up : State → ℕ → Bool
 is_hung_up s k = is_in k s.hung_up
 
@@ -83,9 +94,11 @@ is_hung_up s k = is_in k s.hung_up
 abbrev pub HasOpen : State → Type 0
 HasOpen s = finished s.deliveries < length s.gone_out
 
+-- no request is taken any more
 abbrev pub ended : State → Bool
 ended s = s.closed || s.failed
 
+-- the state after an event: an answer that is refused changes nothing
 abbrev pub after : State → Event → State
 after s (Book stamp part copying (Ok id)) = record s { book = s.book ++ record { stamp = stamp; parts = part ∷ [] } ∷ [] }
 after s (TakeEvent id (Ok (taking.Batch messages))) = record s { takes = s.takes ++ record { id = id; messages = messages } ∷ [] }
@@ -98,15 +111,17 @@ after s (CloseRequests (Ok x)) = record s { closed = true }
 after s (Fail (Ok x)) = record s { failed = true }
 after s _ = s
 
+-- the state after a list of events
 abbrev pub after_all : State → List Event → State
 after_all s [] = s
 after_all s (e ∷ es) = after_all (after s e) es
 
--- what take answers: no memory is needed for it in a plain hub
+-- what take answers of a request that is booked and wasn't hung up, by the batches that wait for it
 abbrev pub take_of_waiting : State → ℕ → List (List RawMessage) → Take
 take_of_waiting s id (messages ∷ more) = taking.Batch messages
 take_of_waiting s id [] = if s.failed then taking.Gone else (if nat_lt id (finished s.deliveries) then taking.Over else taking.Empty)
 
+-- what take answers; a request that isn't booked is gone, as one whose reader hung up
 abbrev pub take_answer : State → ℕ → Take
 take_answer s id =
     if nat_lt id (length s.book)
@@ -118,6 +133,7 @@ abbrev pub out_of_rest : State → List (List ℕ) → Out
 out_of_rest s (part ∷ parts) = out.Part part
 out_of_rest s [] = if nat_lt (finished s.deliveries) (length s.gone_out) then out.Nothing else (if s.closed then out.NoMore else out.Nothing)
 
+-- the next part is the first of the wire that hasn't gone out
 abbrev pub out_answer : State → Out
 out_answer s = out_of_rest s (drop (length s.gone_out) (wire s.book))
 
@@ -156,6 +172,7 @@ Allows s (CloseRequests (Err e)) = e ≡ fault.OutOfMemory
 Allows s (Fail (Ok x)) = Unit {0}
 Allows s (Fail (Err e)) = e ≡ fault.OutOfMemory
 
+-- each answer follows from the state before its call
 abbrev pub IsLegal : State → List Event → Type 0
 IsLegal s [] = Unit {0}
 IsLegal s (e ∷ es) = Allows s e × IsLegal (after s e) es
@@ -216,6 +233,7 @@ leaves_event (CloseRequests (Err e)) = false
 leaves_event (Fail (Err e)) = false
 leaves_event e = true
 
+-- the events that a list which is stored holds
 abbrev pub kept : List Event → List Event
 kept [] = []
 kept (e ∷ es) = if leaves_event e then e ∷ kept es else kept es

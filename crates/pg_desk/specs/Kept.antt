@@ -5,10 +5,12 @@ use Rattle.pg_desk.specs.declared.event.Event.{Event}
 use Rattle.pg_desk.specs.declared.event.Event.TheVariants.{Book, Take as TakeEvent, HangUp, NextStatement, NextPortal, NextOut, Deliver as DeliverEvent, CloseRequests, Fail}
 use Rattle.pg_desk.specs.History.{State, after, after_all, IsLegal, IsExact, leaves_event, kept}
 
+-- one event more in front
 kept-step : (b : Bool) (e : Event) (xs ys zs : List Event) → xs ≡ ys ++ zs → (if b then e ∷ xs else xs) ≡ (if b then e ∷ ys else ys) ++ zs
 kept-step true e xs ys zs h = ap (λ (l : List Event). e ∷ l) h
 kept-step false e xs ys zs h = h
 
+-- the stored part of joined lists is the stored parts, joined
 pub kept-joined : (es fs : List Event) → kept (es ++ fs) ≡ kept es ++ kept fs
 kept-joined [] fs = refl
 kept-joined (e ∷ es) fs = kept-step (leaves_event e) e (kept (es ++ fs)) (kept es) (kept fs) (kept-joined es fs)
@@ -41,6 +43,7 @@ pub record StoredPart (s : State) (es : List Event) : Type 0 where
   pub state : after_all s (kept es) ≡ after_all s es
   pub legal : IsLegal s es → IsLegal s (kept es)
 
+-- one event more in front
 stored-step : (s : State) (e : Event) (es : List Event) (b : Bool) → leaves_event e ≡ b → StoredPart (after s e) es →
     (after_all s (if b then e ∷ kept es else kept es) ≡ after_all (after s e) es) × (IsLegal s (e ∷ es) → IsLegal s (if b then e ∷ kept es else kept es))
 stored-step s e es true is h = (h.state, λ l. (l.0, h.legal l.1))
@@ -53,10 +56,12 @@ pub stored-part : (s : State) (es : List Event) → StoredPart s es
 stored-part s [] = record { state = refl; legal = λ l. l }
 stored-part s (e ∷ es) = let p = stored-step s e es (leaves_event e) refl (stored-part (after s e) es) in record { state = p.0; legal = p.1 }
 
+-- what is exact is legal
 pub legal-if-exact : (s : State) (es : List Event) → IsExact s es → IsLegal s es
 legal-if-exact s [] h = tt
 legal-if-exact s (e ∷ es) h = (h.0, legal-if-exact (after s e) es h.2)
 
+-- legal lists of events are joined
 pub legal-joined : (s : State) (es fs : List Event) → IsLegal s es → IsLegal (after_all s es) fs → IsLegal s (es ++ fs)
 legal-joined s [] fs h k = k
 legal-joined s (e ∷ es) fs h k = (h.0, legal-joined (after s e) es fs h.1 k)

@@ -4,6 +4,8 @@
 
 mod desk_trait;
 mod event;
+mod laws;
 
 pub use desk_trait::{Desk, Engine};
 pub use event::{Booking, Deliver, DeskFault, Event, Out, Stamp, Take};
+pub use laws::every_interleaving;

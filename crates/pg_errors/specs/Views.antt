@@ -1,5 +1,5 @@
 -- What errors and messages aside stand for.
-use Rattle.std.specs.Prelude.{List, ℕ, Option, Some, None, option_map, unwrap_or}
+use Rattle.std.specs.Prelude.{Option, Some, None, option_map}
 use Rattle.pg_spec.specs.DbErrors as db
 use Rattle.pg_spec.specs.Faults as spec
 use Rattle.pg_spec.specs.Report as said
@@ -42,6 +42,7 @@ cause_of cause.Fields = spec.Fields
 cause_of cause.FieldCount = spec.FieldCount
 cause_of cause.NotUtf8 = spec.NotText
 cause_of (cause.Frame fault) = or_no_cause spec.Frame (frame_fault fault)
+cause_of cause.Counter = spec.Counter
 cause_of cause.NoUser = spec.NoUser
 cause_of cause.Nonce = spec.Nonce
 cause_of cause.NoPassword = spec.NoPassword

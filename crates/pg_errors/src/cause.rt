@@ -33,6 +33,8 @@ pub enum Cause {
     NotUtf8,
     /// The writer of a frame refused it.
     Frame(FrameFault),
+    /// A counter of statements or portals is at its last value.
+    Counter,
     NoUser,
     Nonce,
     NoPassword,

@@ -35,6 +35,8 @@ pub data Cause : Type 0 where
   FieldCount : Cause
   NotText : Cause
   Frame : FrameFault → Cause
+  -- a counter of statements or portals is at its last value
+  Counter : Cause
   NoUser : Cause
   Nonce : Cause
   NoPassword : Cause

@@ -1,0 +1,15 @@
+pub mod Pieces
+pub mod Cuts
+pub mod ZeroEnded
+pub mod Asides
+pub mod Taken
+pub mod ErrorSteps
+pub mod TurnCounts
+pub mod Plans
+pub mod GivingLaws
+pub mod MemoryLaws
+pub mod StreamLaws
+pub mod Items
+pub mod Counts
+pub mod Cells
+pub mod Pairs

@@ -1,12 +1,14 @@
 //! Whole messages of one request, which are read one after another.
 
-ghost use Rattle.std.specs.Prelude.{◌≡◌, [], IfOk};
+ghost use Rattle.std.specs.Prelude.{◌≡◌, [], IfOk, length};
 ghost use Rattle.pg_spec.specs.RawMessages.{messages, bytes_left};
 ghost use Rattle.pg_wire.specs.Backend.{Nexts};
 
 use crate::fault::WireFault;
+use crate::front::count;
 use crate::message::Message;
 use bytes::Bytes;
+use pg_types::OutOfMemory;
 use std::alloc::{AllocError, Global};
 use std::marker::Model;
 
@@ -44,12 +46,28 @@ impl BackendMessages {
         BackendMessages { bytes }
     }
 
+    /// How many messages they are.
+    pub fn len(&self) -> usize
+        ensures { result ≡ length self.now }
+    {
+        count(self.bytes.as_slice())
+    }
+
+    /// The same messages once more. They share the bytes.
+    pub fn share(&self) -> Result<BackendMessages, OutOfMemory>
+        ensures { IfOk result (λ b. b ≡ self.now) }
+    {
+        match self.bytes.clone() {
+            Ok(bytes) => Ok(BackendMessages { bytes }),
+            Err(_) => Err(OutOfMemory),
+        }
+    }
+
     /// Takes the next message off the front, or says what is wrong with it: UnknownTag or Layout. The
     /// messages are as before where none is left or the next one is refused.
     pub fn next(&mut self) -> Result<Option<Message>, WireFault>
         ensures { Nexts self.old self.new result }
     {
-        let _ = &self.bytes;
-        Err(WireFault::OutOfMemory)
+        Message::parse(&mut self.bytes)
     }
 }

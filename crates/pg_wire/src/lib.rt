@@ -5,13 +5,25 @@
 mod backend;
 mod body;
 mod codec;
+mod error_fields;
 mod fault;
+mod front;
 mod frontend;
+mod giving;
 mod header;
+mod layout;
 mod link;
 mod memory_link;
+mod memory_stream;
 mod message;
+mod ranges;
+mod row_fields;
+mod std_stream;
 mod stream;
+#[cfg(test)]
+mod tests;
+mod texts;
+mod turning;
 
 pub use backend::BackendMessages;
 pub use body::{
@@ -22,10 +34,15 @@ pub use body::{
     ReadyForQueryBody, RowDescriptionBody,
 };
 pub use codec::{BackendMessage, FrontendMessage, PostgresCodec};
+pub use error_fields::{ErrorField, ErrorFields};
 pub use fault::{FrameFault, WireFault};
-pub use frontend::{StartupParams, query, startup_message, terminate};
+pub use frontend::{StartupParams, copy_data, query, startup_message, terminate};
 pub use header::Header;
 pub use link::{Link, LinkRead, LinkStep, LinkWait, LinkWrite};
 pub use memory_link::MemoryLink;
+pub use memory_stream::{MemorySink, MemorySource};
 pub use message::Message;
+pub use ranges::DataRowRanges;
+pub use std_stream::{ReadSource, WriteSink};
+pub use row_fields::{Field, Fields};
 pub use stream::{Sink, SinkFlush, SinkWrite, Source, SourceRead};

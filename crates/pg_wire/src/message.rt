@@ -1,5 +1,7 @@
 //! Messages of the server.
 
+ghost use Rattle.pg_wire.specs.Parse.{Parses};
+
 use crate::body::{
     AuthenticationGssContinueBody, AuthenticationMd5PasswordBody, AuthenticationSaslBody,
     AuthenticationSaslContinueBody, AuthenticationSaslFinalBody, BackendKeyDataBody,
@@ -7,6 +9,10 @@ use crate::body::{
     ErrorResponseBody, NotificationResponseBody, ParameterDescriptionBody, ParameterStatusBody,
     ReadyForQueryBody, RowDescriptionBody,
 };
+use crate::fault::WireFault;
+use crate::front::{Found, front};
+use crate::layout::message_of;
+use bytes::Bytes;
 
 /// A message of the server, its parts not yet read (PostgreSQL documentation, "Message Formats").
 #[derive(Drop)]
@@ -42,4 +48,31 @@ pub enum Message {
     PortalSuspended,
     ReadyForQuery(ReadyForQueryBody),
     RowDescription(RowDescriptionBody),
+}
+
+impl Message {
+    /// Cuts one whole message off the front. None comes where no whole message stands there, BadLength
+    /// where none does and the header there is below 4, UnknownTag for a tag that no message has, Layout
+    /// where the body breaks its layout. After None or an error the bytes are as before. It copies no byte.
+    pub fn parse(buf: &mut Bytes) -> Result<Option<Message>, WireFault>
+        ensures { Parses buf.old buf.new result }
+    {
+        let n = match front(buf.as_slice()) {
+            Found::Whole(n) => n,
+            Found::Short => return Ok(None),
+            Found::Bad => return Err(WireFault::BadLength),
+        };
+        let tag = buf.as_slice()[0];
+        let body = match buf.slice(5..n) {
+            Ok(body) => body,
+            Err(_) => return Err(WireFault::OutOfMemory),
+        };
+        match message_of(tag, body) {
+            Ok(message) => {
+                buf.advance(n);
+                Ok(Some(message))
+            }
+            Err(fault) => Err(fault),
+        }
+    }
 }

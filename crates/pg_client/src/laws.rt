@@ -1,0 +1,27 @@
+//! What the events of a state's whole life say of its answer. Each body does nothing.
+
+ghost use Rattle.std.specs.Prelude.{◌≡◌, ℕ, List, Option, Result};
+ghost use Rattle.pg_spec.specs.Frames.{query_frame};
+ghost use Rattle.pg_errors.specs.declared.error.Error.{Error};
+ghost use Rattle.pg_query.specs.Dialogue.{Answer};
+ghost use Rattle.pg_query.specs.Scripts.{IsRead};
+ghost use Rattle.pg_query.specs.Meaning.{Place};
+ghost use Rattle.pg_query.specs.Lives.{Turn, Lives, deeds};
+ghost use Rattle.pg_query.specs.declared.simple_message.SimpleMessage.{SimpleMessage};
+ghost use Rattle.pg_client.specs.Simple.{simple_query};
+ghost use Rattle.pg_client.specs.SimpleLife.{AnswersBy, AwaitsBy};
+
+/// A simple query that answered booked one request, of its text. A front of the messages that it took
+/// decides its answer, unless the desk gave no more of them. A text that can't be sent books nothing.
+pub fn simple_query_answers()
+    ensures { (text : List ℕ) (take : Option ℕ) (begin end : Place (List SimpleMessage)) (turns : List Turn) (r : Result (List SimpleMessage) Error) →
+        begin.dialogue ≡ simple_query text take → Lives begin turns end → end.dialogue ≡ Answer r →
+        AnswersBy take (query_frame text) (deeds turns) r }
+{}
+
+/// Where it awaits a message, no front of those that it took decides an answer.
+pub fn simple_query_awaits()
+    ensures { (text : List ℕ) (take : Option ℕ) (begin end : Place (List SimpleMessage)) (turns : List Turn) →
+        begin.dialogue ≡ simple_query text take → Lives begin turns end → IsRead end.dialogue →
+        AwaitsBy take (query_frame text) (deeds turns) }
+{}

@@ -1,0 +1,9 @@
+//! What a client asks of a server, as states that are polled.
+#![tactic(auto)]
+
+mod laws;
+mod simple_query;
+mod simple_reading;
+
+pub use laws::{simple_query_answers, simple_query_awaits};
+pub use simple_query::SimpleQueryState;

@@ -1,0 +1,170 @@
+-- What single calls pass on, on the way in.
+use Rattle.std.proofs.Common.{◌≡◌, ℕ, ◌+◌, ◌-◌, ◌^◌, ◌≤◌, Bool, true, false, not, ◌||◌, List, [], ◌∷◌, ◌++◌, length, map, Option, Some, None, Ok, refl, sym, ap, subst, ◌∙◌, arith}
+use Rattle.std.specs.Prelude.{min, max}
+use Rattle.std.specs.List.{list_any}
+use Rattle.std.proofs.lemmas.List.{append-nil}
+use Rattle.pg_spec.specs.Batches.{is_nothing}
+use Rattle.pg_spec.specs.Links.{LinkView, Grew, Rose}
+use Rattle.pg_spec.specs.Messages.{message_of}
+use Rattle.pg_spec.specs.Parameters.{parameter_reports}
+use Rattle.pg_spec.specs.RawMessages.{RawMessage, messages, bytes_left, sync_of, async_of, is_aside}
+use Rattle.pg_wire.specs.declared.message.Message.{Message}
+use Rattle.pg_wire.specs.Decode.{CutsOff, CutsBatch}
+use Rattle.pg_wire.specs.LinkCalls.{Keeps, SameBytes}
+use Rattle.pg_wire.specs.Messages.{message_view}
+use Rattle.pg_desk.specs.declared.event.Event.{Event}
+use Rattle.pg_connect.specs.declared.streams.Streams.{Streams}
+use Rattle.pg_connect.specs.Kept.{keep, keep_all}
+use Rattle.pg_connect.specs.Passed.{delivered_in, delivered_by, bytes_out_in, bytes_out_by, moves_in}
+use Rattle.pg_connect.specs.Passes.{Passes, waiting, delayed_in, CameOff, IsUnread, goodbye, moves, risen}
+use Rattle.pg_connect.proofs.Joining.{grew_same, goodbye_same, keeps_same}
+use Rattle.pg_connect.proofs.Sends.{or_false, or_true}
+use Rattle.pg_connect.proofs.Sorting.{batch_calm, calm_sync, calm_async, calm_reports, Sorted}
+
+-- The same, but for what is read: nothing is sent.
+pub record SameWay (s t : Streams) : Type 0 where
+  pub unsent : t.unsent ≡ s.unsent
+  pub closing : t.closing ≡ s.closing
+  pub limit : t.max_bytes ≡ s.max_bytes
+
+-- calls that send nothing
+pub reads : (s t : Streams) (before after : LinkView) (got : List ℕ) (read lost : List RawMessage) (over : Bool) (events : List Event) (handed : List RawMessage) →
+    s.unread ≡ None → IsUnread t.unread lost →
+    Grew before.given after.given got → after.taken ≡ before.taken →
+    messages (s.buffer.items ++ got) ≡ read ++ (lost ++ messages t.buffer.items) → bytes_left (s.buffer.items ++ got) ≡ bytes_left t.buffer.items →
+    waiting s.held ++ sync_of read ≡ delivered_by events ++ waiting t.held →
+    delayed_in s ++ async_of read ≡ handed ++ delayed_in t →
+    t.parameters ≡ keep_all s.parameters (parameter_reports read) →
+    SameWay s t → bytes_out_by events ≡ [] → t.given ≡ s.given + length got → t.delivered ≡ risen s.delivered (length (delivered_by events)) →
+    t.moved ≡ (s.moved || (moves got [] handed events || over)) → (over ≡ true → Rose before.ends after.ends) → Keeps before after →
+    Passes s t before after events handed
+reads s t before after got read lost over events handed all_read unread given taken off left delivered out kept same none count counted moved ended link = record {
+  got = got;
+  sent = [];
+  read = read;
+  lost = lost;
+  over = over;
+  given = given;
+  taken = grew_same before.taken after.taken taken;
+  came_off = off;
+  rest = left;
+  all_read = all_read;
+  unread = unread;
+  delivered = delivered;
+  handed_out = out;
+  kept = kept;
+  out = ap (λ x. (s.unsent ++ x) ++ goodbye s.closing t.closing) none ∙ ap (λ x. (s.unsent ++ []) ++ goodbye s.closing x) same.closing
+      ∙ ap (λ x. (s.unsent ++ []) ++ x) (goodbye_same s.closing) ∙ append-nil (s.unsent ++ []) ∙ append-nil s.unsent ∙ sym same.unsent;
+  still_closing = λ is. same.closing ∙ is;
+  nothing_more = λ is. none;
+  count = count;
+  delivered_count = counted;
+  limit = same.limit;
+  moved = moved;
+  ended = ended;
+  link = link;
+}
+
+-- What is read and what is kept of it are as before.
+pub record SameRead (s t : Streams) : Type 0 where
+  pub buffer : t.buffer.items ≡ s.buffer.items
+  pub unread : t.unread ≡ None
+  pub held : waiting t.held ≡ waiting s.held
+  pub delayed : delayed_in t ≡ delayed_in s
+  pub parameters : t.parameters ≡ s.parameters
+  pub given : t.given ≡ s.given
+  pub delivered : t.delivered ≡ s.delivered
+
+unread_none : (o : Option Message) → o ≡ None → IsUnread o []
+unread_none o none = subst (λ (x : Option Message). IsUnread x []) (sym none) refl
+
+not_risen : (a b : ℕ) → b ≡ a → b ≡ risen a 0
+not_risen a b same = omega (arith, same)
+
+-- nothing was read or passed on
+pub reads_nothing : (s t : Streams) (before after : LinkView) → s.unread ≡ None → SameBytes before after → SameRead s t → SameWay s t → t.moved ≡ s.moved →
+    Keeps before after → Passes s t before after [] []
+reads_nothing s t before after read bytes same way moved link =
+    reads s t before after [] [] [] false [] [] read (unread_none t.unread same.unread) (grew_same before.given after.given bytes.given) bytes.taken
+    (ap messages (append-nil s.buffer.items ∙ sym same.buffer)) (ap bytes_left (append-nil s.buffer.items ∙ sym same.buffer))
+    (append-nil (waiting s.held) ∙ sym same.held) (append-nil (delayed_in s) ∙ sym same.delayed) same.parameters
+    way refl (omega (arith, same.given)) (not_risen s.delivered t.delivered same.delivered) (moved ∙ or_false s.moved) (λ is. absurd cc) link
+
+-- the link gave its end
+pub reads_end : (s t : Streams) (before after : LinkView) → s.unread ≡ None → SameBytes before after → SameRead s t → SameWay s t → t.moved ≡ true →
+    Rose before.ends after.ends → Keeps before after → Passes s t before after [] []
+reads_end s t before after read bytes same way moved rose link =
+    reads s t before after [] [] [] true [] [] read (unread_none t.unread same.unread) (grew_same before.given after.given bytes.given) bytes.taken
+    (ap messages (append-nil s.buffer.items ∙ sym same.buffer)) (ap bytes_left (append-nil s.buffer.items ∙ sym same.buffer))
+    (append-nil (waiting s.held) ∙ sym same.held) (append-nil (delayed_in s) ∙ sym same.delayed) same.parameters
+    way refl (omega (arith, same.given)) (not_risen s.delivered t.delivered same.delivered) (moved ∙ or_true s.moved) (λ is. rose) link
+
+-- a batch came off, and is held
+pub reads_batch : (s t : Streams) (l : LinkView) (batch : List RawMessage) (complete : Bool) → s.unread ≡ None → t.unread ≡ None →
+    CutsBatch s.buffer.items t.buffer.items batch complete → waiting s.held ≡ [] → waiting t.held ≡ batch → delayed_in t ≡ delayed_in s →
+    t.parameters ≡ s.parameters → t.given ≡ s.given → t.delivered ≡ s.delivered → SameWay s t → t.moved ≡ s.moved → Passes s t l l [] []
+reads_batch s t l batch complete read unread cut none held delayed parameters given delivered way moved =
+    let calm = batch_calm complete batch cut.batch in
+    reads s t l l [] batch [] false [] [] read (unread_none t.unread unread) (grew_same l.given l.given refl) refl
+    (ap messages (append-nil s.buffer.items) ∙ cut.cuts.messages) (ap bytes_left (append-nil s.buffer.items) ∙ cut.cuts.left)
+    (ap (λ x. x ++ sync_of batch) none ∙ calm_sync batch calm ∙ sym held)
+    (ap (λ x. delayed_in s ++ x) (calm_async batch calm) ∙ append-nil (delayed_in s) ∙ sym delayed)
+    (parameters ∙ ap (keep_all s.parameters) (sym (calm_reports batch calm)))
+    way refl (omega (arith, given)) (not_risen s.delivered t.delivered delivered) (moved ∙ or_false s.moved) (λ is. absurd cc) (keeps_same l)
+
+-- a message aside came off, and is kept or handed out
+pub reads_aside : (s t : Streams) (l : LinkView) (raw : RawMessage) (async : List RawMessage) (reports : List (List ℕ × List ℕ)) → s.unread ≡ None → t.unread ≡ None →
+    CutsOff s.buffer.items t.buffer.items (raw ∷ []) → Sorted raw async reports → waiting t.held ≡ waiting s.held → delayed_in s ≡ [] → delayed_in t ≡ delayed_in s →
+    t.parameters ≡ keep_all s.parameters reports → t.given ≡ s.given → t.delivered ≡ s.delivered → SameWay s t → t.moved ≡ (s.moved || not (is_nothing async)) →
+    Passes s t l l [] async
+reads_aside s t l raw async reports read unread cuts sorted held none delayed parameters given delivered way moved =
+    reads s t l l [] (raw ∷ []) [] false [] async read (unread_none t.unread unread) (grew_same l.given l.given refl) refl
+    (ap messages (append-nil s.buffer.items) ∙ cuts.messages) (ap bytes_left (append-nil s.buffer.items) ∙ cuts.left)
+    (ap (λ x. waiting s.held ++ x) sorted.sync ∙ append-nil (waiting s.held) ∙ sym held)
+    (ap (λ x. x ++ async_of (raw ∷ [])) none ∙ sorted.async_is ∙ sym (append-nil async) ∙ ap (λ x. async ++ x) (sym (delayed ∙ none)))
+    (parameters ∙ ap (keep_all s.parameters) (sym sorted.reports_are))
+    way refl (omega (arith, given)) (not_risen s.delivered t.delivered delivered) (moved ∙ ap (λ x. s.moved || x) (or_false (not (is_nothing async)) ∙ or_false (not (is_nothing async) || false))) (λ is. absurd cc) (keeps_same l)
+
+-- a message aside came off, and can't be read
+pub reads_lost : (s t : Streams) (l : LinkView) (raw : RawMessage) (message : Message) → s.unread ≡ None → t.unread ≡ Some message →
+    CutsOff s.buffer.items t.buffer.items (raw ∷ []) → is_aside raw ≡ true → message_of raw ≡ Ok (message_view message) →
+    waiting t.held ≡ waiting s.held → delayed_in t ≡ delayed_in s → t.parameters ≡ s.parameters → t.given ≡ s.given → t.delivered ≡ s.delivered →
+    SameWay s t → t.moved ≡ s.moved → Passes s t l l [] []
+reads_lost s t l raw message read unread cuts aside means held delayed parameters given delivered way moved =
+    reads s t l l [] [] (raw ∷ []) false [] [] read
+    (subst (λ (x : Option Message). IsUnread x (raw ∷ [])) (sym unread) (record { raw = raw; alone = refl; aside = aside; means = means }))
+    (grew_same l.given l.given refl) refl
+    (ap messages (append-nil s.buffer.items) ∙ cuts.messages) (ap bytes_left (append-nil s.buffer.items) ∙ cuts.left)
+    (append-nil (waiting s.held) ∙ sym held) (append-nil (delayed_in s) ∙ sym delayed) parameters
+    way refl (omega (arith, given)) (not_risen s.delivered t.delivered delivered) (moved ∙ or_false s.moved) (λ is. absurd cc) (keeps_same l)
+
+-- the hub answered to the batch that is held
+pub delivers : (s t : Streams) (l : LinkView) (e : Event) → s.unread ≡ None → t.unread ≡ None → waiting s.held ≡ delivered_in e ++ waiting t.held → bytes_out_in e ≡ [] →
+    t.buffer.items ≡ s.buffer.items → delayed_in t ≡ delayed_in s → t.parameters ≡ s.parameters → t.given ≡ s.given → t.delivered ≡ risen s.delivered (length (delivered_in e)) →
+    SameWay s t → t.moved ≡ (s.moved || moves_in e) → Passes s t l l (e ∷ []) []
+delivers s t l e read unread held none buffer delayed parameters given delivered way moved =
+    reads s t l l [] [] [] false (e ∷ []) [] read (unread_none t.unread unread) (grew_same l.given l.given refl) refl
+    (ap messages (append-nil s.buffer.items ∙ sym buffer)) (ap bytes_left (append-nil s.buffer.items ∙ sym buffer))
+    (append-nil (waiting s.held) ∙ held ∙ ap (λ x. x ++ waiting t.held) (sym (append-nil (delivered_in e))))
+    (append-nil (delayed_in s) ∙ sym delayed) parameters way (ap (λ x. x ++ []) none) (omega (arith, given))
+    (delivered ∙ ap (λ x. risen s.delivered (length x)) (sym (append-nil (delivered_in e))))
+    (moved ∙ ap (λ x. s.moved || x) (or_false (moves_in e) ∙ or_false (moves_in e || false))) (λ is. absurd cc) (keeps_same l)
+
+-- the link gave a piece
+pub reads_piece : (s t : Streams) (before after : LinkView) (piece : List ℕ) → s.unread ≡ None → t.unread ≡ None → Grew before.given after.given piece → after.taken ≡ before.taken →
+    t.buffer.items ≡ s.buffer.items ++ piece → waiting t.held ≡ waiting s.held → delayed_in t ≡ delayed_in s → t.parameters ≡ s.parameters →
+    t.given ≡ s.given + length piece → t.delivered ≡ s.delivered → SameWay s t → is_nothing piece ≡ false → t.moved ≡ true → Keeps before after → Passes s t before after [] []
+reads_piece s t before after piece read unread given taken buffer held delayed parameters count delivered way some moved link =
+    reads s t before after piece [] [] false [] [] read (unread_none t.unread unread) given taken (ap messages (sym buffer)) (ap bytes_left (sym buffer))
+    (append-nil (waiting s.held) ∙ sym held) (append-nil (delayed_in s) ∙ sym delayed) parameters way refl count (not_risen s.delivered t.delivered delivered)
+    (moved ∙ or_true s.moved ∙ ap (λ x. s.moved || (((not x || false) || (false || false)) || false)) (sym some)) (λ is. absurd cc) link
+
+-- a notice that was delayed is handed out
+pub reads_delayed : (s t : Streams) (l : LinkView) (raw : RawMessage) → s.unread ≡ None → t.unread ≡ None → t.buffer.items ≡ s.buffer.items → waiting t.held ≡ waiting s.held →
+    delayed_in s ≡ raw ∷ delayed_in t → t.parameters ≡ s.parameters → t.given ≡ s.given → t.delivered ≡ s.delivered → SameWay s t → t.moved ≡ true →
+    Passes s t l l [] (raw ∷ [])
+reads_delayed s t l raw read unread buffer held delayed parameters given delivered way moved =
+    reads s t l l [] [] [] false [] (raw ∷ []) read (unread_none t.unread unread) (grew_same l.given l.given refl) refl
+    (ap messages (append-nil s.buffer.items ∙ sym buffer)) (ap bytes_left (append-nil s.buffer.items ∙ sym buffer))
+    (append-nil (waiting s.held) ∙ sym held) (append-nil (delayed_in s) ∙ delayed) parameters way refl (omega (arith, given)) (not_risen s.delivered t.delivered delivered)
+    (moved ∙ or_true s.moved) (λ is. absurd cc) (keeps_same l)

@@ -1,0 +1,57 @@
+-- The startup frame, taken piece by piece.
+use Rattle.std.proofs.Common.{◌≡◌, ℕ, ◌≤◌, Bool, true, List, [], ◌∷◌, ◌++◌, take, drop, length, ◌⊎◌, inl, inr, append_assoc, take-append-drop, refl, sym, ◌∙◌, ap, subst}
+use Rattle.pg_spec.specs.Links.{LinkView, Grew}
+use Rattle.pg_wire.specs.LinkCalls.{Keeps, SameBytes, Takes}
+use Rattle.pg_connect.specs.declared.startup.Startup.{Startup}
+use Rattle.pg_connect.specs.StartupPolls.{Sends}
+use Rattle.pg_connect.proofs.Joining.{keeps_same, keeps_then, grew_same, grew_then}
+
+-- a call of the link that took nothing
+pub sends-none : (s : Startup) (a b : LinkView) → SameBytes a b → Keeps a b → Sends s s a b
+sends-none s a b bytes keeps = record {
+  sent = [];
+  taken = grew_same a.taken b.taken bytes.taken;
+  given = bytes.given;
+  out = refl;
+  same = refl;
+  link = keeps;
+  flushes = λ h. inl h;
+}
+
+pub sends-nothing : (s : Startup) (a : LinkView) → Sends s s a a
+sends-nothing s a = sends-none s a a (record { given = refl; taken = refl; due = refl }) (keeps_same a)
+
+-- one call that took a piece
+pub sends-piece : (s : Startup) (a b : LinkView) (n : ℕ) → Takes a b s.unsent n → Keeps a b → Sends s (record s { unsent = drop n s.unsent; moved = true }) a b
+sends-piece s a b n takes keeps = record {
+  sent = take n s.unsent;
+  taken = takes.taken;
+  given = takes.given;
+  out = sym (take-append-drop n s.unsent);
+  same = refl;
+  link = keeps;
+  flushes = λ h. inl h;
+}
+
+by_flag : (s t u : Startup) → u.flushed ≡ true → (u.flushed ≡ true → (t.flushed ≡ true) ⊎ (u.unsent ≡ [])) → (t.flushed ≡ true → (s.flushed ≡ true) ⊎ (t.unsent ≡ [])) →
+    (t.unsent ≡ [] → u.unsent ≡ []) → (s.flushed ≡ true) ⊎ (u.unsent ≡ [])
+by_flag s t u h f g none = elim (f h) [
+  | inl t_is ↦ elim (g t_is) [ inl s_is ↦ inl s_is | inr empty ↦ inr (none empty) ]
+  | inr empty ↦ inr empty
+]
+
+rest-none : (xs ys : List ℕ) → xs ++ ys ≡ [] → ys ≡ []
+rest-none [] ys e = e
+rest-none (x ∷ xs) ys e = absurd cc
+
+-- two calls, one after the other
+pub sends-then : (s t u : Startup) (a b c : LinkView) → Sends s t a b → Sends t u b c → Sends s u a c
+sends-then s t u a b c first then = record {
+  sent = first.sent ++ then.sent;
+  taken = grew_then a.taken b.taken c.taken first.sent then.sent first.taken then.taken;
+  given = then.given ∙ first.given;
+  out = first.out ∙ ap (λ (l : List ℕ). first.sent ++ l) then.out ∙ sym (append_assoc first.sent then.sent u.unsent);
+  same = then.same ∙ ap (λ (x : Startup). record x { unsent = u.unsent; flushed = u.flushed; moved = u.moved }) first.same;
+  link = keeps_then a b c first.link then.link;
+  flushes = λ h. by_flag s t u h then.flushes first.flushes (λ empty. rest-none then.sent u.unsent (sym then.out ∙ empty));
+}

@@ -1,0 +1,271 @@
+-- A read step and then the write and flush steps, as one turn.
+use Rattle.std.proofs.Common.{◌≡◌, ℕ, ◌≤◌, Bool, true, false, ◌||◌, List, [], ◌∷◌, ◌++◌, Option, None, Result, Ok, Err, refl, sym, ap, subst, ◌∙◌, arith, inl, inr, ◌⊎◌}
+use Rattle.std.specs.Prelude.{IfSome}
+use Rattle.std.proofs.lemmas.List.{append-nil}
+use Rattle.pg_spec.specs.Links.{LinkView, Plan, Rose, due_by}
+use Rattle.pg_spec.specs.RawMessages.{RawMessage}
+use Rattle.pg_wire.specs.LinkCalls.{Keeps, SameBytes}
+use Rattle.pg_desk.specs.declared.event.Event.{Event}
+use Rattle.pg_errors.specs.declared.async_message.AsyncMessage.{AsyncMessage}
+use Rattle.pg_connect.specs.declared.fault.ConnectionFault.{ConnectionFault}
+use Rattle.pg_connect.specs.declared.fault.ConnectionFault.TheVariants as fault
+use Rattle.pg_connect.specs.declared.ends.FlushEnd.{FlushEnd}
+use Rattle.pg_connect.specs.declared.ends.FlushEnd.TheVariants as flushing
+use Rattle.pg_connect.specs.declared.ends.ReadEnd.{ReadEnd}
+use Rattle.pg_connect.specs.declared.ends.ReadEnd.TheVariants as ending
+use Rattle.pg_connect.specs.declared.ends.SendEnd.{SendEnd}
+use Rattle.pg_connect.specs.declared.ends.SendEnd.TheVariants as sending
+use Rattle.pg_connect.specs.declared.ends.TurnEnd.{TurnEnd}
+use Rattle.pg_connect.specs.declared.ends.TurnEnd.TheVariants as turn
+use Rattle.pg_connect.specs.declared.ends.WriteEnd.{WriteEnd}
+use Rattle.pg_connect.specs.declared.ends.WriteEnd.TheVariants as writes
+use Rattle.pg_connect.specs.declared.streams.Streams.{Streams}
+use Rattle.pg_connect.specs.Passes.{Goes, Hands, OnlyReads, OnlySends}
+use Rattle.pg_connect.specs.Ends.{WasBlocked, last_is, has_no_more, Closes, Written, WriteEnds}
+use Rattle.pg_connect.specs.Reads.{ReadEnds, NothingDue, WasDry, AllDecoded, EndsInside, Carries, HandedBy, is_full}
+use Rattle.pg_connect.specs.Polls.{FlushEnds, SendEnds, SendWaits, Sends, StopsWriting, TurnEnds, Turns, HandedTurn, Waits, ReadDry, BeganToClose, NothingDueBefore, some_is}
+use Rattle.pg_connect.proofs.Joining.{passes-joined, goes-also, rose_later, rose_before, blocked_later}
+use Rattle.pg_connect.proofs.Sends.{passes_nothing}
+use Rattle.pg_connect.proofs.Parts.{Joins}
+use Rattle.pg_connect.proofs.Passing.{last_behind, decoded_same}
+
+-- ---- sending
+
+-- a write step that took all, and a flush step behind it
+pub flushed : {H : Type 0} (becomes : H → List Event → H → Type 0) (h i : H) (s t : Streams) (l m n : LinkView) (may : Bool) (w : WriteEnd) (r : Result SendEnd ConnectionFault) →
+    t.unread ≡ None → w ≡ writes.AllTaken → Goes becomes h i s t l m [] (Written s t l m may (Ok w)) → SameBytes m n → Keeps m n →
+    ((es : List Event) → Keeps l m → WriteEnds t l m (Ok writes.AllTaken) es → SendEnds t l n r es) → Goes becomes h i s t l n [] (Sends s t l n may r)
+flushed becomes h i s t l m n may w r read all goes same keeps ends =
+    goes-also becomes h i s t t l m n [] [] (Written s t l m may (Ok w)) (Sends s t l n may r) goes (passes_nothing t m n [] read same keeps refl refl refl)
+    (λ es was. record {
+      end = ends es goes.passes.link (subst (λ (x : WriteEnd). WriteEnds t l m (Ok x) es) all was.end);
+      closes = was.closes;
+    })
+
+pub flush_blocked : (t : Streams) (l m n : LinkView) (closing : Bool) (f : FlushEnd) (es : List Event) → f ≡ flushing.Blocked → FlushEnds closing m n (Ok f) → Keeps l m →
+    SendEnds t l n (Ok sending.Waits) es
+flush_blocked t l m n closing f es is ends keeps =
+    let was : WasBlocked m n = subst (λ (x : FlushEnd). FlushEnds closing m n (Ok x)) is ends in
+    let blocked : WasBlocked l n = blocked_later l m n keeps was in
+    record { writing = inl blocked; closing = λ x. blocked }
+
+not_both : (b : Bool) → b ≡ true → b ≡ false → ⊥
+not_both b one other = let e : true ≡ false = sym one ∙ other in cc
+
+pub flush_done : (t : Streams) (l m n : LinkView) (f : FlushEnd) (es : List Event) → f ≡ flushing.Flushed → FlushEnds t.closing m n (Ok f) →
+    WriteEnds t l m (Ok writes.AllTaken) es → SendEnds t l n (Ok sending.Waits) es
+flush_done t l m n f es is ends was =
+    let active : t.closing ≡ false = subst (λ (x : FlushEnd). FlushEnds t.closing m n (Ok x)) is ends in
+    record { writing = inr (was.0, was.1 active); closing = λ x. absurd (not_both t.closing x active) }
+
+pub flush_over : (t : Streams) (l m n : LinkView) (f : FlushEnd) (es : List Event) → f ≡ flushing.ShutDown → FlushEnds t.closing m n (Ok f) →
+    WriteEnds t l m (Ok writes.AllTaken) es → SendEnds t l n (Ok sending.Over) es
+flush_over t l m n f es is ends was = (subst (λ (x : FlushEnd). FlushEnds t.closing m n (Ok x)) is ends, was.0)
+
+pub flush_error : (t : Streams) (closing : Bool) (l m n : LinkView) (e : ConnectionFault) (events : List Event) → Keeps l m → FlushEnds closing m n (Err e) → SendEnds t l n (Err e) events
+flush_error t closing l m n fault.Link events keeps is = rose_later l.faults m.faults n.faults keeps.counts.faults is
+flush_error t closing l m n fault.Closed events keeps is = absurd is
+flush_error t closing l m n fault.OutOfMemory events keeps is = absurd is
+flush_error t closing l m n _ events keeps is = absurd is
+
+-- ---- a turn
+
+some_first : (a b : Bool) → a ≡ true → (a || b) ≡ true
+some_first true b is = refl
+some_first false b is = absurd cc
+
+some_later : (a b : Bool) → b ≡ true → (a || b) ≡ true
+some_later true b is = refl
+some_later false b is = is
+
+some_of_last : (p : Event → Bool) (es fs : List Event) → last_is p es ≡ true → some_is p (es ++ fs) ≡ true
+some_of_last p [] fs is = absurd cc
+some_of_last p (e ∷ []) fs is = some_first (p e) (some_is p fs) is
+some_of_last p (e ∷ f ∷ es) fs is = some_later (p e) (some_is p ((f ∷ es) ++ fs)) (some_of_last p (f ∷ es) fs is)
+
+-- by its parts: what the plan lets come was given
+abbrev due : Option Plan → Option (List ℕ) → Option (List ℕ) → Type 0
+due p g t = IfSome p (λ plan. IfSome g (λ given. IfSome t (λ taken. due_by plan given taken ≡ [])))
+
+due_before : (l m n : LinkView) → m.taken ≡ l.taken → n.given ≡ m.given → n.plan ≡ m.plan → NothingDue m → NothingDueBefore l n
+due_before l m n taken given plan is =
+    subst (λ (t : Option (List ℕ)). due n.plan n.given t) taken
+    (subst (λ (g : Option (List ℕ)). due n.plan g m.taken) (sym given)
+    (subst (λ (p : Option Plan). due p m.given m.taken) (sym plan) is))
+
+written_later : (t : Streams) (l m n : LinkView) (es fs : List Event) → Keeps l m → StopsWriting t m n fs → StopsWriting t l n (es ++ fs)
+written_later t l m n es fs keeps was = elim was [
+  | inl blocked ↦ inl (blocked_later l m n keeps blocked)
+  | inr none ↦ inr (none.0, last_behind _ es fs none.1)
+]
+
+-- what the read step says of the link, at the end of the turn
+dry_turn : (s mid t : Streams) (l m n : LinkView) → Keeps m n → OnlyReads s mid l m → OnlySends mid t m n → WasDry l m → AllDecoded mid → ReadDry t l n
+dry_turn s mid t l m n after reads sends dry decoded = record {
+  rose = rose_before l.dry m.dry n.dry dry.rose after.counts.dry;
+  quiet = rose_before l.quiet m.quiet n.quiet dry.quiet after.counts.quiet;
+  decoded = decoded_same mid t sends.buffer decoded;
+  nothing_due = λ steady. due_before l m n reads.taken sends.given after.plan (dry.nothing_due steady);
+}
+
+-- an active connection that may not close goes on so
+stays_open : (s mid t : Streams) (fs : List Event) → s.closing ≡ false → mid.closing ≡ s.closing → Closes mid t false fs → t.closing ≡ false
+stays_open s mid t fs active same closes = pick t.closing (λ x. never (closes x))
+  where
+    never : (mid.closing ≡ true) ⊎ ((false ≡ true) × (last_is has_no_more fs ≡ true)) → ⊥
+    never (inl closing) = not_both mid.closing closing (same ∙ active)
+    never (inr may) = let no : false ≡ true = may.0 in cc
+    pick : (b : Bool) → (b ≡ true → ⊥) → b ≡ false
+    pick true fails = absurd (fails refl)
+    pick false fails = refl
+
+-- where it begins to close, reading ended dry
+closes_dry : (s mid t : Streams) (l n : LinkView) (es fs : List Event) → mid.closing ≡ s.closing → ReadDry t l n → Closes mid t true fs → BeganToClose s t l n (es ++ fs)
+closes_dry s mid t l n es fs same dry closes x = elim (closes x) [
+  | inl closing ↦ inl (sym same ∙ closing)
+  | inr may ↦ inr (dry, last_behind _ es fs may.1)
+]
+
+send_error : (s t : Streams) (l m n : LinkView) (e : ConnectionFault) (es fs : List Event) → Keeps l m → SendEnds t m n (Err e) fs → TurnEnds s t l n (Err e) (es ++ fs)
+send_error s t l m n fault.Link es fs keeps is = rose_later l.faults m.faults n.faults keeps.counts.faults is
+send_error s t l m n fault.Closed es fs keeps is = inr (last_behind _ es fs is)
+send_error s t l m n fault.OutOfMemory es fs keeps is = tt
+send_error s t l m n _ es fs keeps is = absurd is
+
+pub read_error : (s t : Streams) (l n : LinkView) (e : ConnectionFault) (es : List Event) → s.closing ≡ false → t.closing ≡ s.closing → ReadEnds t l n (Err e) es → TurnEnds s t l n (Err e) es
+read_error s t l n fault.Link es active same is = is
+read_error s t l n fault.Closed es active same is = inl (record { rose = is.0; buffer = is.1; active = active; stays = same ∙ active })
+read_error s t l n fault.Ended es active same is = is
+read_error s t l n fault.BadLength es active same is = is
+read_error s t l n fault.Layout es active same is = is
+read_error s t l n (fault.Unreadable c) es active same is = is
+read_error s t l n (fault.Unasked e) es active same is = is
+read_error s t l n (fault.LimitReached given limit) es active same is = is
+read_error s t l n fault.OutOfMemory es active same is = tt
+
+-- both steps, with what each says of its events
+goes-all : {H : Type 0} (becomes : H → List Event → H → Type 0) → Joins becomes → (h i k : H) (a b c : Streams) (l m n : LinkView)
+    (hs : List RawMessage) (E F G : List Event → Type 0) →
+    Goes becomes h i a b l m hs E → Goes becomes i k b c m n [] F → ((es fs : List Event) → E es → F fs → G (es ++ fs)) → Goes becomes h k a c l n hs G
+goes-all becomes joins h i k a b c l m n hs E F G first more ends =
+    subst (λ (x : List RawMessage). Goes becomes h k a c l n x G) (append-nil hs) (record {
+      events = first.events ++ more.events;
+      became = joins h i k first.events more.events first.became more.became;
+      passes = passes-joined a b c l m n first.events more.events hs [] first.passes more.passes;
+      ended = ends first.events more.events first.ended more.ended;
+    })
+
+-- what the read step did, at the arm's own value
+pub at_read : {H : Type 0} (becomes : H → List Event → H → Type 0) (h i : H) (s t : Streams) (l m : LinkView) (x y : ReadEnd) → y ≡ x →
+    Hands becomes h i s t l m (HandedBy (Ok y)) (ReadEnds t l m (Ok y)) → Hands becomes h i s t l m (HandedBy (Ok x)) (ReadEnds t l m (Ok x))
+at_read becomes h i s t l m x y is hands = subst (λ (z : ReadEnd). Hands becomes h i s t l m (HandedBy (Ok z)) (ReadEnds t l m (Ok z))) is hands
+
+pub at_send : {H : Type 0} (becomes : H → List Event → H → Type 0) (h i : H) (s t : Streams) (l m : LinkView) (may : Bool) (x y : SendEnd) → y ≡ x →
+    Goes becomes h i s t l m [] (Sends s t l m may (Ok y)) → Goes becomes h i s t l m [] (Sends s t l m may (Ok x))
+at_send becomes h i s t l m may x y is goes = subst (λ (z : SendEnd). Goes becomes h i s t l m [] (Sends s t l m may (Ok z))) is goes
+
+pub turned_handed : {H : Type 0} (becomes : H → List Event → H → Type 0) → Joins becomes → (h i k : H) (a b c : Streams) (l m n : LinkView) (message : AsyncMessage) →
+    a.closing ≡ false → OnlyReads a b l m → Hands becomes h i a b l m (HandedBy (Ok (ending.Handed message))) (ReadEnds b l m (Ok (ending.Handed message))) →
+    Goes becomes i k b c m n [] (Sends b c m n false (Ok sending.Waits)) → Turns becomes h k a c l n (Ok (turn.Handed message))
+turned_handed becomes joins h i k a b c l m n message active reads first more = record {
+  handed = first.handed;
+  which = first.is;
+  goes = goes-all becomes joins h i k a b c l m n first.handed (ReadEnds b l m (Ok (ending.Handed message))) (Sends b c m n false (Ok sending.Waits)) (TurnEnds a c l n (Ok (turn.Handed message))) first.goes more
+      (λ es fs e f. record {
+        active = active;
+        stays = stays_open a b c fs active reads.closing f.closes;
+        writing = written_later c l m n es fs first.goes.passes.link f.end.writing;
+      });
+}
+
+pub turned_full : {H : Type 0} (becomes : H → List Event → H → Type 0) → Joins becomes → (h i k : H) (a b c : Streams) (l m n : LinkView) →
+    a.closing ≡ false → OnlyReads a b l m → Hands becomes h i a b l m (HandedBy (Ok ending.Full)) (ReadEnds b l m (Ok ending.Full)) →
+    Goes becomes i k b c m n [] (Sends b c m n false (Ok sending.Waits)) → Turns becomes h k a c l n (Ok turn.Waits)
+turned_full becomes joins h i k a b c l m n active reads first more = record {
+  handed = first.handed;
+  which = first.is;
+  goes = goes-all becomes joins h i k a b c l m n first.handed (ReadEnds b l m (Ok ending.Full)) (Sends b c m n false (Ok sending.Waits)) (TurnEnds a c l n (Ok turn.Waits)) first.goes more
+      (λ es fs e f. record {
+        reading = inr (inl (some_of_last is_full es fs e));
+        writing = written_later c l m n es fs first.goes.passes.link f.end.writing;
+        closing = λ x. absurd (not_both c.closing x (stays_open a b c fs active reads.closing f.closes));
+        began = λ x. absurd (not_both c.closing x (stays_open a b c fs active reads.closing f.closes));
+      });
+}
+
+pub turned_dry : {H : Type 0} (becomes : H → List Event → H → Type 0) → Joins becomes → (h i k : H) (a b c : Streams) (l m n : LinkView) →
+    OnlyReads a b l m → OnlySends b c m n → Hands becomes h i a b l m (HandedBy (Ok ending.Dry)) (ReadEnds b l m (Ok ending.Dry)) →
+    Goes becomes i k b c m n [] (Sends b c m n true (Ok sending.Waits)) → Turns becomes h k a c l n (Ok turn.Waits)
+turned_dry becomes joins h i k a b c l m n reads sends first more = record {
+  handed = first.handed;
+  which = first.is;
+  goes = goes-all becomes joins h i k a b c l m n first.handed (ReadEnds b l m (Ok ending.Dry)) (Sends b c m n true (Ok sending.Waits)) (TurnEnds a c l n (Ok turn.Waits)) first.goes more
+      (λ es fs e f.
+        let dry = dry_turn a b c l m n more.passes.link reads sends e.0 e.1 in
+        record {
+          reading = inr (inr dry);
+          writing = written_later c l m n es fs first.goes.passes.link f.end.writing;
+          closing = λ x. blocked_later l m n first.goes.passes.link (f.end.closing x);
+          began = closes_dry a b c l n es fs reads.closing dry f.closes;
+        });
+}
+
+pub turned_over : {H : Type 0} (becomes : H → List Event → H → Type 0) → Joins becomes → (h i k : H) (a b c : Streams) (l m n : LinkView) →
+    OnlyReads a b l m → OnlySends b c m n → Hands becomes h i a b l m (HandedBy (Ok ending.Dry)) (ReadEnds b l m (Ok ending.Dry)) →
+    Goes becomes i k b c m n [] (Sends b c m n true (Ok sending.Over)) → Turns becomes h k a c l n (Ok turn.Over)
+turned_over becomes joins h i k a b c l m n reads sends first more = record {
+  handed = first.handed;
+  which = first.is;
+  goes = goes-all becomes joins h i k a b c l m n first.handed (ReadEnds b l m (Ok ending.Dry)) (Sends b c m n true (Ok sending.Over)) (TurnEnds a c l n (Ok turn.Over)) first.goes more
+      (λ es fs e f. record {
+        closing = f.end.0;
+        sent = f.end.1;
+        began = closes_dry a b c l n es fs reads.closing (dry_turn a b c l m n more.passes.link reads sends e.0 e.1) f.closes;
+      });
+}
+
+-- a connection that may not close isn't over
+pub never_over : {H R : Type 0} (becomes : H → List Event → H → Type 0) (i k : H) (a b c : Streams) (l m n : LinkView) → a.closing ≡ false → OnlyReads a b l m →
+    Goes becomes i k b c m n [] (Sends b c m n false (Ok sending.Over)) → R
+never_over becomes i k a b c l m n active reads more =
+    absurd (not_both c.closing more.ended.end.0 (stays_open a b c more.events active reads.closing more.ended.closes))
+
+pub turned_error : {H : Type 0} (becomes : H → List Event → H → Type 0) → Joins becomes → (h i k : H) (a b c : Streams) (l m n : LinkView) (may : Bool)
+    (W : List RawMessage → Type 0) (E : List Event → Type 0) (e : ConnectionFault) →
+    Hands becomes h i a b l m W E → Goes becomes i k b c m n [] (Sends b c m n may (Err e)) → Turns becomes h k a c l n (Err e)
+turned_error becomes joins h i k a b c l m n may W E e first more = record {
+  handed = first.handed;
+  which = tt;
+  goes = goes-all becomes joins h i k a b c l m n first.handed E (Sends b c m n may (Err e)) (TurnEnds a c l n (Err e)) first.goes more
+      (λ es fs x f. send_error a c l m n e es fs first.goes.passes.link f.end);
+}
+
+-- a turn that reads nothing
+pub turned_closing : {H : Type 0} (becomes : H → List Event → H → Type 0) (h i : H) (s t : Streams) (l m : LinkView) (x : SendEnd) (r : Result TurnEnd ConnectionFault) →
+    ((handed : List RawMessage) → handed ≡ [] → HandedTurn r handed) → Goes becomes h i s t l m [] (Sends s t l m false (Ok x)) →
+    ((es : List Event) → Sends s t l m false (Ok x) es → TurnEnds s t l m r es) → Turns becomes h i s t l m r
+turned_closing becomes h i s t l m x r none goes ends = record {
+  handed = [];
+  which = none [] refl;
+  goes = record { events = goes.events; became = goes.became; passes = goes.passes; ended = ends goes.events goes.ended };
+}
+
+pub closing_waits : (s t : Streams) (l m : LinkView) (es : List Event) → s.closing ≡ true → Sends s t l m false (Ok sending.Waits) es → TurnEnds s t l m (Ok turn.Waits) es
+closing_waits s t l m es closing was = record { reading = inl closing; writing = was.end.writing; closing = was.end.closing; began = λ x. inl closing }
+
+pub closing_over : (s t : Streams) (l m : LinkView) (es : List Event) → s.closing ≡ true → Sends s t l m false (Ok sending.Over) es → TurnEnds s t l m (Ok turn.Over) es
+closing_over s t l m es closing was = record { closing = was.end.0; sent = was.end.1; began = λ x. inl closing }
+
+closing_failed : (s t : Streams) (l m : LinkView) (e : ConnectionFault) (es : List Event) → SendEnds t l m (Err e) es → TurnEnds s t l m (Err e) es
+closing_failed s t l m fault.Link es is = is
+closing_failed s t l m fault.Closed es is = inr is
+closing_failed s t l m fault.OutOfMemory es is = tt
+closing_failed s t l m _ es is = absurd is
+
+pub closing_error : {H : Type 0} (becomes : H → List Event → H → Type 0) (h i : H) (s t : Streams) (l m : LinkView) (e : ConnectionFault) →
+    Goes becomes h i s t l m [] (Sends s t l m false (Err e)) → Turns becomes h i s t l m (Err e)
+closing_error becomes h i s t l m e goes = record {
+  handed = [];
+  which = tt;
+  goes = record { events = goes.events; became = goes.became; passes = goes.passes; ended = closing_failed s t l m e goes.events goes.ended.end };
+}

@@ -1,0 +1,114 @@
+-- What is taken off the front of the bytes.
+use Rattle.std.proofs.Common.{◌≡◌, ℕ, ◌+◌, Bool, true, false, not, List, [], ◌∷◌, ◌++◌, length, map, take, drop, Option, Some, None, Result, Ok, Err, refl, sym, ap, subst, ◌∙◌}
+use Rattle.std.specs.declared.alloc.Global.{Global}
+use Rattle.bytes.specs.declared.unique.BytesMut.{BytesMut}
+use Rattle.pg_spec.specs.Batches.{is_nothing}
+use Rattle.pg_spec.specs.Bytes.{◌>>=◌}
+use Rattle.pg_spec.specs.Links.{LinkView, Rose}
+use Rattle.pg_spec.specs.Report as said
+use Rattle.pg_wire.specs.LinkCalls.{Keeps, Gives, SameBytes}
+use Rattle.pg_errors.specs.declared.async_message.AsyncMessage.TheVariants.{Notice}
+use Rattle.pg_errors.specs.declared.db_error.DbError.{DbError}
+use Rattle.pg_wire.specs.declared.message.Message.{Message}
+use Rattle.pg_wire.specs.declared.fault.WireFault.{WireFault}
+use Rattle.pg_wire.specs.declared.fault.WireFault.TheVariants as wire
+use Rattle.pg_wire.specs.Decode.{CutsAside, Decodes}
+use Rattle.pg_wire.specs.Messages.{message_view}
+use Rattle.pg_errors.specs.Views as errors
+use Rattle.pg_connect.specs.declared.fault.ConnectionFault.{ConnectionFault}
+use Rattle.pg_connect.specs.declared.ends.Off.{Off}
+use Rattle.pg_connect.specs.declared.ends.Off.TheVariants as off
+use Rattle.pg_connect.specs.declared.streams.Streams.{Streams}
+use Rattle.pg_connect.specs.Kept.{keep}
+use Rattle.pg_connect.specs.Passes.{Passes, PassesOn, notice_of, delayed_in}
+use Rattle.pg_connect.specs.Reads.{TakesAside, HandedOff, Carries, FirstReads}
+use Rattle.pg_connect.proofs.Joining.{keeps_same}
+use Rattle.pg_connect.proofs.Sends.{or_false, or_true, some_taken}
+use Rattle.pg_connect.proofs.Sorting.{sorted_handed, kept_aside}
+use Rattle.pg_connect.proofs.Arriving.{reads_nothing, reads_end, reads_aside, reads_lost, reads_piece, reads_delayed}
+
+-- a message aside was passed on, or is left unread
+pub aside_taken : (s mid t : Streams) (l : LinkView) (message : Message) (r : Result Off ConnectionFault) → s.unread ≡ None → delayed_in s ≡ [] →
+    CutsAside s.buffer.items mid.buffer.items message → mid ≡ record s { buffer = mid.buffer } → TakesAside mid t message r → PassesOn s t l l [] (HandedOff r)
+aside_taken s mid t l message (Ok (off.Handed handed)) read none cut same takes =
+    let is : t ≡ record s { buffer = mid.buffer; moved = true } = takes.1 ∙ ap (λ (x : Streams). record x { moved = true }) same in
+    let sorted = sorted_handed cut.raw (message_view message) (errors.async_of handed) cut.aside cut.means takes.0 in
+    record {
+      handed = cut.raw ∷ [];
+      is = record { raw = cut.raw; alone = refl; means = sorted.1 };
+      passes = subst (λ (x : Streams). Passes s x l l [] (cut.raw ∷ [])) (sym is)
+          (reads_aside s (record s { buffer = mid.buffer; moved = true }) l cut.raw (cut.raw ∷ []) [] read read cut.cuts sorted.0 refl none refl refl refl refl
+          (record { unsent = refl; closing = refl; limit = refl }) (or_true s.moved));
+    }
+aside_taken s mid t l message (Ok off.Kept) read none cut same takes =
+    let kept = kept_aside mid t message cut.raw cut.aside cut.means takes in
+    let is : t ≡ record s { buffer = mid.buffer; parameters = keep s.parameters kept.report } =
+    kept.same ∙ ap (λ (x : Streams). record x { parameters = keep x.parameters kept.report }) same in
+    record {
+      handed = [];
+      is = refl;
+      passes = subst (λ (x : Streams). Passes s x l l [] []) (sym is)
+          (reads_aside s (record s { buffer = mid.buffer; parameters = keep s.parameters kept.report }) l cut.raw [] (kept.report ∷ []) read read cut.cuts kept.sorted refl none refl refl refl refl
+          (record { unsent = refl; closing = refl; limit = refl }) (or_false s.moved));
+    }
+aside_taken s mid t l message (Ok off.Held) read none cut same takes = absurd takes
+aside_taken s mid t l message (Ok off.Nothing) read none cut same takes = absurd takes
+aside_taken s mid t l message (Err e) read none cut same takes =
+    let is : t ≡ record s { buffer = mid.buffer; unread = Some message } = takes.1 ∙ ap (λ (x : Streams). record x { unread = Some message }) same in
+    record {
+      handed = [];
+      is = refl;
+      passes = subst (λ (x : Streams). Passes s x l l [] []) (sym is)
+          (reads_lost s (record s { buffer = mid.buffer; unread = Some message }) l cut.raw message read refl cut.cuts cut.aside cut.means refl refl refl refl refl
+          (record { unsent = refl; closing = refl; limit = refl }) refl);
+    }
+
+-- a refusal leaves the bytes
+pub decode_refused : (old new : List ℕ) (e : WireFault) → Decodes old new (Err e) → new ≡ old
+decode_refused old new wire.OutOfMemory is = is
+decode_refused old new wire.BadLength is = is.same
+decode_refused old new wire.Layout is = is.same
+decode_refused old new wire.UnknownTag is = absurd is
+decode_refused old new wire.NotUtf8 is = absurd is
+
+not_true : (b : Bool) → not b ≡ true → b ≡ false
+not_true true e = absurd cc
+not_true false e = refl
+
+-- the link gave a piece, and it was taken in
+pub piece_taken : (s t : Streams) (l m : LinkView) (out : List ℕ) (n : ℕ) → s.unread ≡ None → Gives l m out n → Keeps l m →
+    t.buffer.items ≡ s.buffer.items ++ take n out → t ≡ record s { buffer = t.buffer; given = s.given + length (take n out); moved = true } → Passes s t l m [] []
+piece_taken s t l m out n read gives keeps buffer same =
+    subst (λ (x : Streams). Passes s x l m [] []) (sym same)
+    (reads_piece s (record s { buffer = t.buffer; given = s.given + length (take n out); moved = true }) l m (take n out) read read gives.given gives.taken buffer
+    refl refl refl refl refl (record { unsent = refl; closing = refl; limit = refl }) (not_true (is_nothing (take n out)) (some_taken n out gives.some gives.fits)) refl keeps)
+
+-- nothing was read: the bytes are as before, wherever they stand
+pub piece_none : (s : Streams) (b : BytesMut Global) (l m : LinkView) → s.unread ≡ None → b.items ≡ s.buffer.items → SameBytes l m → Keeps l m →
+    Passes s (record s { buffer = b }) l m [] []
+piece_none s b l m read same bytes keeps =
+    reads_nothing s (record s { buffer = b }) l m read bytes
+    (record { buffer = same; unread = read; held = refl; delayed = refl; parameters = refl; given = refl; delivered = refl })
+    (record { unsent = refl; closing = refl; limit = refl }) refl keeps
+
+-- the link gave its end
+pub piece_end : (s : Streams) (b : BytesMut Global) (l m : LinkView) → s.unread ≡ None → b.items ≡ s.buffer.items → SameBytes l m → Rose l.ends m.ends → Keeps l m →
+    Passes s (record s { buffer = b; moved = true }) l m [] []
+piece_end s b l m read same bytes rose keeps =
+    reads_end s (record s { buffer = b; moved = true }) l m read bytes
+    (record { buffer = same; unread = read; held = refl; delayed = refl; parameters = refl; given = refl; delivered = refl })
+    (record { unsent = refl; closing = refl; limit = refl }) refl rose keeps
+
+-- a notice that was delayed is handed out
+pub delayed_taken : (s t : Streams) (l : LinkView) (e : DbError) → s.unread ≡ None → FirstReads s e → t.delayed.items ≡ drop 1 s.delayed.items →
+    t ≡ record s { delayed = t.delayed; moved = true } → PassesOn s t l l [] (λ handed. Carries handed (Notice e))
+delayed_taken s t l e read first left same =
+    let rest : t.delayed.items ≡ first.others = left ∙ ap (drop 1) first.first in
+    record {
+      handed = notice_of first.notice ∷ [];
+      is = record { raw = notice_of first.notice; alone = refl; means = ap (λ (o : Option _). o >>= (λ notice. Some (said.Notice notice))) first.means };
+      passes = subst (λ (x : Streams). Passes s x l l [] (notice_of first.notice ∷ [])) (sym same)
+          (reads_delayed s (record s { delayed = t.delayed; moved = true }) l (notice_of first.notice) read read refl refl
+          (ap (map notice_of) first.first ∙ ap (λ x. notice_of first.notice ∷ map notice_of x) (sym rest)) refl refl refl
+          (record { unsent = refl; closing = refl; limit = refl }) refl);
+    }

@@ -1,0 +1,17 @@
+use Rattle.std.proofs.Common.{◌≡◌, ◌≤◌, ◌-◌, ℕ, List, []}
+use Rattle.pg_spec.specs.Links.{LinkView}
+use Rattle.pg_wire.specs.LinkCalls.{Keeps}
+use Rattle.pg_connect.specs.Startups.{Opening}
+use Rattle.pg_connect.proofs.startup.Startup.listen.Given as goal
+
+abbrev pub invariant-pieces : goal.invariant-pieces
+invariant-pieces g l = record {
+  same : l.self ≡ record l.initial.self { phase = l.self.phase; buffer = l.self.buffer; given = l.self.given; moved = l.self.moved };
+  within : l.self.given ≤ l.self.max_bytes;
+  link : Keeps (g.L.Link.view l.initial.link) (g.L.Link.view l.link);
+  opening : (name nonce : List ℕ) (begin : LinkView) → Opening name nonce begin (g.L.Link.view l.initial.link) l.initial.self →
+      Opening name nonce begin (g.L.Link.view l.link) l.self
+}
+
+abbrev pub decreases-pieces : goal.decreases-pieces
+decreases-pieces g l = l.self.max_bytes - l.self.given

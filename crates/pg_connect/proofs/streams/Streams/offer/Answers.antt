@@ -1,0 +1,33 @@
+use Rattle.std.proofs.Common.{[], refl, ap, ◌∙◌}
+use Rattle.pg_connect.specs.declared.streams.Streams.{Streams}
+use Rattle.pg_connect.proofs.Joining.{passes-joined, keeps_same}
+use Rattle.pg_connect.proofs.Sends.{passes_took_of, passes_nothing}
+use Rattle.pg_connect.proofs.streams.Streams.offer.Goals as goal
+
+pub loop-link-init : goal.loop-link-init
+loop-link-init g c = record {
+  passes = passes_nothing c.args.self.now (g.L.Link.view c.args.link.now) (g.L.Link.view c.args.link.now) [] c.requires (record { given = refl; taken = refl; due = refl }) (keeps_same _) refl refl refl;
+  only = record { given = refl; count = refl; buffer = refl; unread = refl };
+  closing = refl;
+  unread = c.requires;
+}
+
+pub loop-link-preserved : goal.loop-link-preserved
+loop-link-preserved g c =
+    let s = c.loop-link.self in
+    let t = c.took.new.self in
+    let was = c.loop-link.invariant in
+    record {
+      passes = passes-joined c.args.self.now s t (g.L.Link.view c.args.link.now) (g.L.Link.view c.loop-link.link) (g.L.Link.view c.write.new.self) [] [] [] []
+          was.passes
+          (passes_took_of s t (g.L.Link.view c.loop-link.link) (g.L.Link.view c.write.new.self) c.in-Took.n c.as_slice.result.now was.unread
+          c.as_slice.ensures c.in-Took.ensures.answer.0 c.in-Took.ensures.keeps c.took.ensures);
+      only = record {
+        given = c.in-Took.ensures.answer.0.given ∙ was.only.given;
+        count = ap (λ (x : Streams). x.given) c.took.ensures ∙ was.only.count;
+        buffer = ap (λ (x : Streams). x.buffer.items) c.took.ensures ∙ was.only.buffer;
+        unread = ap (λ (x : Streams). x.unread) c.took.ensures ∙ was.only.unread;
+      };
+      closing = ap (λ (x : Streams). x.closing) c.took.ensures ∙ was.closing;
+      unread = ap (λ (x : Streams). x.unread) c.took.ensures ∙ was.unread;
+    }

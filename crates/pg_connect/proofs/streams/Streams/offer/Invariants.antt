@@ -1,0 +1,14 @@
+use Rattle.std.proofs.Common.{◌≡◌, [], None, length}
+use Rattle.pg_connect.specs.Passes.{Passes, OnlySends}
+use Rattle.pg_connect.proofs.streams.Streams.offer.Given as goal
+
+abbrev pub invariant-loop-link : goal.invariant-loop-link
+invariant-loop-link g l = record {
+  passes : Passes l.initial.self l.self (g.L.Link.view l.initial.link) (g.L.Link.view l.link) [] [];
+  only : OnlySends l.initial.self l.self (g.L.Link.view l.initial.link) (g.L.Link.view l.link);
+  closing : l.self.closing ≡ l.initial.self.closing;
+  unread : l.self.unread ≡ None;
+}
+
+abbrev pub decreases-loop-link : goal.decreases-loop-link
+decreases-loop-link g l = length l.self.unsent

@@ -1,0 +1,18 @@
+use Rattle.std.proofs.Common.{◌≡◌, ◌≤◌, ◌-◌, [], None}
+use Rattle.pg_connect.specs.Passes.{Goes, OnlyReads}
+use Rattle.pg_connect.proofs.Parts.{Anything}
+use Rattle.pg_connect.proofs.streams.Streams.read_link.Given as goal
+
+abbrev pub invariant-pieces : goal.invariant-pieces
+invariant-pieces g l = record {
+  goes : Goes g.E.Desk.becomes l.initial.hub l.hub l.initial.self l.self (g.L.Link.view l.initial.link) (g.L.Link.view l.link) [] Anything;
+  only : OnlyReads l.initial.self l.self (g.L.Link.view l.initial.link) (g.L.Link.view l.link);
+  held : l.self.held ≡ None;
+  delayed : l.self.delayed.items ≡ [];
+  unread : l.self.unread ≡ None;
+  limit : l.self.max_bytes ≡ l.initial.self.max_bytes;
+  given : l.self.given ≤ l.self.max_bytes;
+}
+
+abbrev pub decreases-pieces : goal.decreases-pieces
+decreases-pieces g l = l.self.max_bytes - l.self.given

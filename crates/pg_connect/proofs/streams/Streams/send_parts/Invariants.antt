@@ -1,0 +1,15 @@
+use Rattle.std.proofs.Common.{◌≡◌, [], false, None}
+use Rattle.pg_connect.specs.Passes.{Goes, OnlySends}
+use Rattle.pg_connect.proofs.Parts.{Anything}
+use Rattle.pg_connect.proofs.streams.Streams.send_parts.Given as goal
+
+abbrev pub invariant-parts : goal.invariant-parts
+invariant-parts g l = record {
+  goes : Goes g.E.Desk.becomes l.initial.hub l.hub l.initial.self l.self (g.L.Link.view l.initial.link) (g.L.Link.view l.link) [] Anything;
+  only : OnlySends l.initial.self l.self (g.L.Link.view l.initial.link) (g.L.Link.view l.link);
+  closing : l.self.closing ≡ false;
+  unread : l.self.unread ≡ None;
+}
+
+abbrev pub decreases-parts : goal.decreases-parts
+decreases-parts g l = g.E.Engine.waiting_parts l.hub

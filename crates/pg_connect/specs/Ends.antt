@@ -1,0 +1,81 @@
+-- How a write step may end, and why.
+use Rattle.std.specs.Prelude.{◌≡◌, ◌⊎◌, Bool, true, false, IsTrue, List, [], ◌∷◌, Result, Ok, Err}
+use Rattle.pg_spec.specs.Links.{LinkView, Rose}
+use Rattle.pg_desk.specs.declared.event.Event.{Event}
+use Rattle.pg_desk.specs.declared.event.Event.TheVariants.{NextOut}
+use Rattle.pg_desk.specs.declared.event.Out.TheVariants.{CopyWaits, Nothing, NoMore as NoMoreParts}
+use Rattle.pg_desk.specs.declared.event.DeskFault.TheVariants as desk
+use Rattle.pg_connect.specs.declared.fault.ConnectionFault.{ConnectionFault}
+use Rattle.pg_connect.specs.declared.fault.ConnectionFault.TheVariants as fault
+use Rattle.pg_connect.specs.declared.ends.PartsEnd.{PartsEnd}
+use Rattle.pg_connect.specs.declared.ends.PartsEnd.TheVariants as parts
+use Rattle.pg_connect.specs.declared.ends.WriteEnd.{WriteEnd}
+use Rattle.pg_connect.specs.declared.ends.WriteEnd.TheVariants as writes
+use Rattle.pg_connect.specs.declared.streams.Streams.{Streams}
+
+-- a write, a flush or a shutdown wasn't ready; a steady link always is
+pub record WasBlocked (before after : LinkView) : Type 0 where
+  pub rose : Rose before.blocked after.blocked
+  pub quiet : Rose before.quiet after.quiet
+  pub not_steady : IsTrue before.steady → ⊥
+
+-- the last of the events passes the test
+abbrev pub last_is : (Event → Bool) → List Event → Bool
+last_is p [] = false
+last_is p (e ∷ []) = p e
+last_is p (e ∷ f ∷ es) = last_is p (f ∷ es)
+
+-- the hub has no part to hand out now
+abbrev pub has_none : Event → Bool
+has_none (NextOut (Ok CopyWaits)) = true
+has_none (NextOut (Ok Nothing)) = true
+has_none (NextOut (Ok NoMoreParts)) = true
+has_none _ = false
+
+-- nothing more will come from the hub
+abbrev pub has_no_more : Event → Bool
+has_no_more (NextOut (Ok NoMoreParts)) = true
+has_no_more _ = false
+
+-- the hub answered that it is closed
+abbrev pub is_closed_out : Event → Bool
+is_closed_out (NextOut (Err desk.Closed)) = true
+is_closed_out _ = false
+
+-- how the bytes that are unsent were offered
+abbrev pub OfferEnds : Streams → LinkView → LinkView → Result Bool ConnectionFault → Type 0
+OfferEnds new before after (Ok true) = new.unsent ≡ []
+OfferEnds new before after (Ok false) = WasBlocked before after
+OfferEnds new before after (Err fault.Link) = Rose before.faults after.faults
+OfferEnds new before after (Err fault.OutOfMemory) = Unit {0}
+OfferEnds new before after (Err _) = ⊥
+
+-- how the parts were sent
+abbrev pub PartsEnds : Streams → LinkView → LinkView → Result PartsEnd ConnectionFault → List Event → Type 0
+PartsEnds new before after (Ok parts.Blocked) events = WasBlocked before after
+PartsEnds new before after (Ok parts.Waits) events = (new.unsent ≡ []) × (last_is has_none events ≡ true)
+PartsEnds new before after (Ok parts.NoMore) events = (new.unsent ≡ []) × (last_is has_no_more events ≡ true)
+PartsEnds new before after (Err fault.Link) events = Rose before.faults after.faults
+PartsEnds new before after (Err fault.Closed) events = last_is is_closed_out events ≡ true
+PartsEnds new before after (Err fault.OutOfMemory) events = Unit {0}
+PartsEnds new before after (Err _) events = ⊥
+
+-- how a write step ended: all that went out was taken, or the link wasn't ready
+abbrev pub WriteEnds : Streams → LinkView → LinkView → Result WriteEnd ConnectionFault → List Event → Type 0
+WriteEnds new before after (Ok writes.Blocked) events = WasBlocked before after
+WriteEnds new before after (Ok writes.AllTaken) events =
+    (new.unsent ≡ []) × (new.closing ≡ false → last_is has_none events ≡ true)
+WriteEnds new before after (Err fault.Link) events = Rose before.faults after.faults
+WriteEnds new before after (Err fault.Closed) events = last_is is_closed_out events ≡ true
+WriteEnds new before after (Err fault.OutOfMemory) events = Unit {0}
+WriteEnds new before after (Err _) events = ⊥
+
+-- A connection begins to close only where it may, and where nothing more will come from the hub.
+abbrev pub Closes : Streams → Streams → Bool → List Event → Type 0
+Closes old new may_close events =
+    new.closing ≡ true → (old.closing ≡ true) ⊎ ((may_close ≡ true) × (last_is has_no_more events ≡ true))
+
+-- how a write step ended, and where it began to close
+pub record Written (old new : Streams) (before after : LinkView) (may_close : Bool) (result : Result WriteEnd ConnectionFault) (events : List Event) : Type 0 where
+  pub end : WriteEnds new before after result events
+  pub closes : Closes old new may_close events

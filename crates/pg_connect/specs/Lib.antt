@@ -1,0 +1,9 @@
+pub mod Faults
+pub mod Kept
+pub mod Passed
+pub mod Passes
+pub mod Ends
+pub mod Startups
+pub mod StartupPolls
+pub mod Reads
+pub mod Polls

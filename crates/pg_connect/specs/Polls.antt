@@ -1,0 +1,123 @@
+-- How a turn of the connection ends, and why.
+use Rattle.std.specs.Prelude.{◌≡◌, ◌<◌, ◌⊎◌, Bool, true, false, IsTrue, ◌||◌, List, [], ◌∷◌, length, IfSome, Result, Ok, Err}
+use Rattle.pg_spec.specs.Links.{LinkView, Rose, due_by}
+use Rattle.pg_spec.specs.RawMessages.{RawMessage, has_bad_header}
+use Rattle.pg_desk.specs.declared.event.Event.{Event}
+use Rattle.pg_connect.specs.declared.fault.ConnectionFault.{ConnectionFault}
+use Rattle.pg_connect.specs.declared.fault.ConnectionFault.TheVariants as fault
+use Rattle.pg_connect.specs.declared.ends.FlushEnd.{FlushEnd}
+use Rattle.pg_connect.specs.declared.ends.FlushEnd.TheVariants as flush
+use Rattle.pg_connect.specs.declared.ends.SendEnd.{SendEnd}
+use Rattle.pg_connect.specs.declared.ends.SendEnd.TheVariants as send
+use Rattle.pg_connect.specs.declared.ends.TurnEnd.{TurnEnd}
+use Rattle.pg_connect.specs.declared.ends.TurnEnd.TheVariants as turn
+use Rattle.pg_connect.specs.declared.streams.Streams.{Streams}
+use Rattle.pg_connect.specs.Ends.{WasBlocked, last_is, has_none, has_no_more, is_closed_out, Closes}
+use Rattle.pg_connect.specs.Passes.{waiting, Goes}
+use Rattle.pg_connect.specs.Reads.{AllDecoded, BreaksLayout, Carries, EndsInside, IsUnasked, LeavesDelayed, LeavesUnread, is_full, has_no_request}
+
+-- how a flush step ended; `closing`: Terminate is queued
+abbrev pub FlushEnds : Bool → LinkView → LinkView → Result FlushEnd ConnectionFault → Type 0
+FlushEnds closing before after (Ok flush.Blocked) = WasBlocked before after
+FlushEnds closing before after (Ok flush.Flushed) = closing ≡ false
+FlushEnds closing before after (Ok flush.ShutDown) = closing ≡ true
+FlushEnds closing before after (Err fault.Link) = Rose before.faults after.faults
+FlushEnds closing before after (Err _) = ⊥
+
+-- Why no more was written: the link wasn't ready, or it took all that went out and the hub has no part.
+abbrev pub StopsWriting : Streams → LinkView → LinkView → List Event → Type 0
+StopsWriting new before after events = WasBlocked before after ⊎ ((new.unsent ≡ []) × (last_is has_none events ≡ true))
+
+-- Why sending has to wait.
+pub record SendWaits (new : Streams) (before after : LinkView) (events : List Event) : Type 0 where
+  pub writing : StopsWriting new before after events
+  pub closing : new.closing ≡ true → WasBlocked before after
+
+-- how the write step and the flush step ended
+abbrev pub SendEnds : Streams → LinkView → LinkView → Result SendEnd ConnectionFault → List Event → Type 0
+SendEnds new before after (Ok send.Waits) events = SendWaits new before after events
+SendEnds new before after (Ok send.Over) events = (new.closing ≡ true) × (new.unsent ≡ [])
+SendEnds new before after (Err fault.Link) events = Rose before.faults after.faults
+SendEnds new before after (Err fault.Closed) events = last_is is_closed_out events ≡ true
+SendEnds new before after (Err fault.OutOfMemory) events = Unit {0}
+SendEnds new before after (Err _) events = ⊥
+
+-- the same, and where the connection began to close
+pub record Sends (old new : Streams) (before after : LinkView) (may_close : Bool) (result : Result SendEnd ConnectionFault) (events : List Event) : Type 0 where
+  pub end : SendEnds new before after result events
+  pub closes : Closes old new may_close events
+
+-- some event passes the test
+abbrev pub some_is : (Event → Bool) → List Event → Bool
+some_is p [] = false
+some_is p (e ∷ es) = p e || some_is p es
+
+-- What the plan lets come, by the bytes that the link took before the call, was given.
+abbrev pub NothingDueBefore : LinkView → LinkView → Type 0
+NothingDueBefore before after = IfSome after.plan (λ plan. IfSome after.given (λ given. IfSome before.taken (λ taken. due_by plan given taken ≡ [])))
+
+-- Reading ended at a link that wasn't ready, with all that came decoded.
+pub record ReadDry (new : Streams) (before after : LinkView) : Type 0 where
+  pub rose : Rose before.dry after.dry
+  pub quiet : Rose before.quiet after.quiet
+  pub decoded : AllDecoded new
+  pub nothing_due : IsTrue before.steady → NothingDueBefore before after
+
+-- A connection that is closing was so before, or reading ended dry in this call and the hub's last answer
+-- was that nothing more will come.
+abbrev pub BeganToClose : Streams → Streams → LinkView → LinkView → List Event → Type 0
+BeganToClose old new before after events =
+    new.closing ≡ true → (old.closing ≡ true) ⊎ (ReadDry new before after × (last_is has_no_more events ≡ true))
+
+-- Why a poll has to wait.
+pub record Waits (old new : Streams) (before after : LinkView) (events : List Event) : Type 0 where
+  pub reading : (old.closing ≡ true) ⊎ ((some_is is_full events ≡ true) ⊎ ReadDry new before after)
+  pub writing : StopsWriting new before after events
+  pub closing : new.closing ≡ true → WasBlocked before after
+  pub began : BeganToClose old new before after events
+
+-- A turn that hands a message out reads no further, and the connection doesn't begin to close.
+pub record HandsOut (old new : Streams) (before after : LinkView) (events : List Event) : Type 0 where
+  pub active : old.closing ≡ false
+  pub stays : new.closing ≡ false
+  pub writing : StopsWriting new before after events
+
+-- Terminate was taken and flushed, and the link is shut down.
+pub record IsOver (old new : Streams) (before after : LinkView) (events : List Event) : Type 0 where
+  pub closing : new.closing ≡ true
+  pub sent : new.unsent ≡ []
+  pub began : BeganToClose old new before after events
+
+-- the link gave its end behind a whole message, while the connection was active
+pub record EndsWhole (old new : Streams) (before after : LinkView) : Type 0 where
+  pub rose : Rose before.ends after.ends
+  pub buffer : new.buffer.items ≡ []
+  pub active : old.closing ≡ false
+  pub stays : new.closing ≡ false
+
+-- what a turn hands out; a message may be lost in an error
+abbrev pub HandedTurn : Result TurnEnd ConnectionFault → List RawMessage → Type 0
+HandedTurn (Ok (turn.Handed message)) handed = Carries handed message
+HandedTurn (Ok _) handed = handed ≡ []
+HandedTurn (Err e) handed = Unit {0}
+
+-- how a turn ended
+abbrev pub TurnEnds : Streams → Streams → LinkView → LinkView → Result TurnEnd ConnectionFault → List Event → Type 0
+TurnEnds old new before after (Ok (turn.Handed message)) events = HandsOut old new before after events
+TurnEnds old new before after (Ok turn.Waits) events = Waits old new before after events
+TurnEnds old new before after (Ok turn.Over) events = IsOver old new before after events
+TurnEnds old new before after (Err fault.Link) events = Rose before.faults after.faults
+TurnEnds old new before after (Err fault.Closed) events = EndsWhole old new before after ⊎ (last_is is_closed_out events ≡ true)
+TurnEnds old new before after (Err fault.Ended) events = EndsInside new before after
+TurnEnds old new before after (Err fault.BadLength) events = has_bad_header new.buffer.items ≡ true
+TurnEnds old new before after (Err fault.Layout) events = BreaksLayout new
+TurnEnds old new before after (Err (fault.Unreadable c)) events = LeavesUnread new c ⊎ LeavesDelayed new c
+TurnEnds old new before after (Err (fault.Unasked e)) events = (last_is has_no_request events ≡ true) × IsUnasked (waiting new.held) (fault.Unasked e)
+TurnEnds old new before after (Err (fault.LimitReached given limit)) events = (given ≡ new.given) × (limit ≡ new.max_bytes) × (limit < given)
+TurnEnds old new before after (Err fault.OutOfMemory) events = Unit {0}
+
+-- What a turn did to the hub, the link and what stands between them, and how it ended.
+pub record Turns {H : Type 0} (becomes : H → List Event → H → Type 0) (a b : H) (old new : Streams) (before after : LinkView) (result : Result TurnEnd ConnectionFault) : Type 0 where
+  pub handed : List RawMessage
+  pub which : HandedTurn result handed
+  pub goes : Goes becomes a b old new before after handed (TurnEnds old new before after result)

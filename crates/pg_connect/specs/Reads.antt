@@ -1,0 +1,262 @@
+-- How the parts of a read step may end, and why.
+use Rattle.std.specs.Prelude.{◌≡◌, ◌<◌, ◌≤◌, ◌⊎◌, Bool, true, false, IsTrue, List, [], ◌∷◌, length, Option, Some, None, IfSome, Result, Ok, Err}
+use Rattle.pg_spec.specs.Causes.{aside_fault, unasked, out_of_turn}
+use Rattle.pg_spec.specs.DbErrors.{db_error_of}
+use Rattle.pg_spec.specs.Faults as faults
+use Rattle.pg_spec.specs.Links.{LinkView, Rose, due_by}
+use Rattle.pg_spec.specs.Messages.{message_of, NoticeResponse}
+use Rattle.pg_spec.specs.RawMessages.{RawMessage, messages, has_bad_header, is_aside}
+use Rattle.pg_spec.specs.Report.{async_message, async_of_raw}
+use Rattle.pg_wire.specs.declared.body.ErrorResponseBody.{ErrorResponseBody}
+use Rattle.pg_wire.specs.declared.message.Message.{Message}
+use Rattle.pg_wire.specs.declared.message.Message.TheVariants as wire
+use Rattle.pg_wire.specs.Messages.{message_view}
+use Rattle.pg_desk.specs.declared.event.Event.{Event}
+use Rattle.pg_desk.specs.declared.event.Event.TheVariants.{Deliver}
+use Rattle.pg_desk.specs.declared.event.Deliver.TheVariants as answer
+use Rattle.pg_errors.specs.declared.async_message.AsyncMessage.{AsyncMessage}
+use Rattle.pg_errors.specs.declared.cause.Cause.{Cause}
+use Rattle.pg_errors.specs.declared.db_error.DbError.{DbError}
+use Rattle.pg_errors.specs.declared.error.Error.{Error}
+use Rattle.pg_errors.specs.declared.error.Error.TheVariants as error
+use Rattle.pg_errors.specs.Parsing.{IsHandedOut}
+use Rattle.pg_errors.specs.Views.{async_of, cause_of, db_error, failure_of}
+use Rattle.pg_connect.specs.declared.fault.ConnectionFault.{ConnectionFault}
+use Rattle.pg_connect.specs.declared.fault.ConnectionFault.TheVariants as fault
+use Rattle.pg_connect.specs.declared.ends.Off.{Off}
+use Rattle.pg_connect.specs.declared.ends.Off.TheVariants as off
+use Rattle.pg_connect.specs.declared.ends.Step.{Step}
+use Rattle.pg_connect.specs.declared.ends.Step.TheVariants as step
+use Rattle.pg_connect.specs.declared.ends.ReadEnd.{ReadEnd}
+use Rattle.pg_connect.specs.declared.ends.ReadEnd.TheVariants as reads
+use Rattle.pg_connect.specs.declared.streams.Streams.{Streams}
+use Rattle.pg_connect.specs.Ends.{last_is}
+use Rattle.pg_connect.specs.Kept.{keep}
+use Rattle.pg_connect.specs.Passes.{waiting}
+
+-- ---- messages that no request asked for
+
+-- why such a message can't be read
+abbrev pub IsUnreadable : Message → ConnectionFault → Type 0
+IsUnreadable message (fault.Unreadable c) = aside_fault (message_view message) ≡ Some (cause_of c)
+IsUnreadable message fault.OutOfMemory = Unit {0}
+IsUnreadable message _ = ⊥
+
+-- a parameter report is kept; nothing is done with a message that is neither reported nor handed out
+abbrev pub KeepsReport : Streams → Streams → Message → Type 0
+KeepsReport old new (wire.ParameterStatus report) = new ≡ record old { parameters = keep old.parameters (report.name, report.value) }
+KeepsReport old new message = (IsHandedOut message → ⊥) × (new ≡ old)
+
+-- what becomes of a message that no request asked for: it is kept, read to be handed out, or refused
+abbrev pub Sorts : Streams → Streams → Message → Result (Option AsyncMessage) ConnectionFault → Type 0
+Sorts old new message (Ok None) = KeepsReport old new message
+Sorts old new message (Ok (Some handed)) = (async_message (message_view message) ≡ Some (async_of handed)) × (new ≡ old)
+Sorts old new message (Err e) = IsUnreadable message e × (new ≡ old)
+
+-- the same where it was taken off the bytes: what is refused stays unread
+abbrev pub TakesAside : Streams → Streams → Message → Result Off ConnectionFault → Type 0
+TakesAside old new message (Ok off.Kept) = KeepsReport old new message
+TakesAside old new message (Ok (off.Handed handed)) = (async_message (message_view message) ≡ Some (async_of handed)) × (new ≡ record old { moved = true })
+TakesAside old new message (Ok _) = ⊥
+TakesAside old new message (Err e) = IsUnreadable message e × (new ≡ record old { unread = Some message })
+
+-- the list is one message, and this is what it reads as
+pub record Carries (handed : List RawMessage) (message : AsyncMessage) : Type 0 where
+  pub raw : RawMessage
+  pub alone : handed ≡ raw ∷ []
+  pub means : async_of_raw raw ≡ Some (async_of message)
+
+-- the first of the notices that are delayed can't be read
+pub record LeavesDelayed (s : Streams) (c : Cause) : Type 0 where
+  pub notice : ErrorResponseBody
+  pub others : List ErrorResponseBody
+  pub first : s.delayed.items ≡ notice ∷ others
+  pub means : aside_fault (NoticeResponse notice.fields) ≡ Some (cause_of c)
+
+-- an error of reading a message, as the fault of the connection
+abbrev pub unreadable_as : Error → ConnectionFault
+unreadable_as (error.Parse c) = fault.Unreadable c
+unreadable_as _ = fault.OutOfMemory
+
+-- why the first notice that is delayed can't be read
+abbrev pub RefusesFirst : Streams → ConnectionFault → Type 0
+RefusesFirst s (fault.Unreadable c) = LeavesDelayed s c
+RefusesFirst s fault.OutOfMemory = Unit {0}
+RefusesFirst s _ = ⊥
+
+-- the first notice that is delayed reads so
+pub record FirstReads (s : Streams) (e : DbError) : Type 0 where
+  pub notice : ErrorResponseBody
+  pub others : List ErrorResponseBody
+  pub first : s.delayed.items ≡ notice ∷ others
+  pub means : db_error_of notice.fields ≡ Some (db_error e)
+
+-- how the first notice that is delayed reads
+abbrev pub ReadsFirst : Streams → Option (Result DbError ConnectionFault) → Type 0
+ReadsFirst s None = s.delayed.items ≡ []
+ReadsFirst s (Some (Ok e)) = FirstReads s e
+ReadsFirst s (Some (Err e)) = RefusesFirst s e
+
+-- ---- why reading ends
+
+-- the mailbox of the request is full
+abbrev pub is_full : Event → Bool
+is_full (Deliver batch complete (answer.Full back)) = true
+is_full _ = false
+
+-- no request is open
+abbrev pub has_no_request : Event → Bool
+has_no_request (Deliver batch complete (answer.NoRequest back)) = true
+has_no_request _ = false
+
+-- what a message means that comes where no request is open
+abbrev pub MeansUnasked : Message → ConnectionFault → Type 0
+MeansUnasked message (fault.Unasked e) = failure_of e ≡ unasked (message_view message)
+MeansUnasked message fault.OutOfMemory = Unit {0}
+MeansUnasked message _ = ⊥
+
+-- what a batch means that comes where no request is open: what its first message means
+abbrev pub IsUnasked : List RawMessage → ConnectionFault → Type 0
+IsUnasked (first ∷ batch) (fault.Unasked e) = failure_of e ≡ out_of_turn first
+IsUnasked batch fault.OutOfMemory = Unit {0}
+IsUnasked batch _ = ⊥
+
+-- every whole message that was given is decoded, and what is left isn't refused
+pub record AllDecoded (s : Streams) : Type 0 where
+  pub none_whole : messages s.buffer.items ≡ []
+  pub no_bad_header : has_bad_header s.buffer.items ≡ false
+
+-- the message in front, which no request asked for, breaks its layout
+pub record BreaksLayout (s : Streams) : Type 0 where
+  pub raw : RawMessage
+  pub rest : List RawMessage
+  pub front : messages s.buffer.items ≡ raw ∷ rest
+  pub aside : is_aside raw ≡ true
+  pub broken : message_of raw ≡ Err faults.Layout
+
+-- the message that came off last can't be read
+pub record LeavesUnread (s : Streams) (c : Cause) : Type 0 where
+  pub message : Message
+  pub unread : s.unread ≡ Some message
+  pub means : aside_fault (message_view message) ≡ Some (cause_of c)
+
+-- ---- the steps
+
+-- what is handed out where a message was taken off
+abbrev pub HandedOff : Result Off ConnectionFault → List RawMessage → Type 0
+HandedOff (Ok (off.Handed message)) handed = Carries handed message
+HandedOff _ handed = handed ≡ []
+
+-- how the message or the batch in front was taken off
+abbrev pub OffEnds : Streams → Streams → Result Off ConnectionFault → Type 0
+OffEnds old new (Ok off.Held) = length new.buffer.items < length old.buffer.items
+OffEnds old new (Ok off.Kept) = (length new.buffer.items < length old.buffer.items) × (new.held ≡ None)
+OffEnds old new (Ok (off.Handed message)) = Unit {0}
+OffEnds old new (Ok off.Nothing) = AllDecoded new × (new.held ≡ None)
+OffEnds old new (Err fault.BadLength) = has_bad_header new.buffer.items ≡ true
+OffEnds old new (Err fault.Layout) = BreaksLayout new
+OffEnds old new (Err (fault.Unreadable c)) = LeavesUnread new c
+OffEnds old new (Err fault.OutOfMemory) = Unit {0}
+OffEnds old new (Err _) = ⊥
+
+-- how a batch that is held was delivered
+abbrev pub DeliverEnds : Streams → Result Bool ConnectionFault → List Event → Type 0
+DeliverEnds new (Ok true) events = new.held ≡ None
+DeliverEnds new (Ok false) events = last_is is_full events ≡ true
+DeliverEnds new (Err (fault.Unasked e)) events = (last_is has_no_request events ≡ true) × IsUnasked (waiting new.held) (fault.Unasked e)
+DeliverEnds new (Err fault.OutOfMemory) events = Unit {0}
+DeliverEnds new (Err _) events = ⊥
+
+-- what is handed out where something was passed on
+abbrev pub HandedIn : Result (Option Step) ConnectionFault → List RawMessage → Type 0
+HandedIn (Ok (Some (step.Handed message))) handed = Carries handed message
+HandedIn _ handed = handed ≡ []
+
+-- how a message or a batch was passed on
+abbrev pub PassEnds : Streams → Streams → Result (Option Step) ConnectionFault → List Event → Type 0
+PassEnds old new (Ok None) events = (length new.buffer.items < length old.buffer.items) × (new.held ≡ None)
+PassEnds old new (Ok (Some (step.Handed message))) events = Unit {0}
+PassEnds old new (Ok (Some step.Full)) events = last_is is_full events ≡ true
+PassEnds old new (Ok (Some step.Nothing)) events = AllDecoded new × (new.held ≡ None)
+PassEnds old new (Err fault.BadLength) events = has_bad_header new.buffer.items ≡ true
+PassEnds old new (Err fault.Layout) events = BreaksLayout new
+PassEnds old new (Err (fault.Unreadable c)) events = LeavesUnread new c
+PassEnds old new (Err (fault.Unasked e)) events = (last_is has_no_request events ≡ true) × IsUnasked (waiting new.held) (fault.Unasked e)
+PassEnds old new (Err fault.OutOfMemory) events = Unit {0}
+PassEnds old new (Err _) events = ⊥
+
+-- what is handed out where all that is buffered was passed on
+abbrev pub HandedAll : Result Step ConnectionFault → List RawMessage → Type 0
+HandedAll (Ok (step.Handed message)) handed = Carries handed message
+HandedAll _ handed = handed ≡ []
+
+-- how all that is buffered was passed on
+abbrev pub AllEnds : Streams → Result Step ConnectionFault → List Event → Type 0
+AllEnds new (Ok (step.Handed message)) events = Unit {0}
+AllEnds new (Ok step.Full) events = last_is is_full events ≡ true
+AllEnds new (Ok step.Nothing) events = AllDecoded new × (new.held ≡ None)
+AllEnds new (Err fault.BadLength) events = has_bad_header new.buffer.items ≡ true
+AllEnds new (Err fault.Layout) events = BreaksLayout new
+AllEnds new (Err (fault.Unreadable c)) events = LeavesUnread new c
+AllEnds new (Err (fault.Unasked e)) events = (last_is has_no_request events ≡ true) × IsUnasked (waiting new.held) (fault.Unasked e)
+AllEnds new (Err fault.OutOfMemory) events = Unit {0}
+AllEnds new (Err _) events = ⊥
+
+-- what is handed out of the notices that are delayed
+abbrev pub HandedLate : Result (Option AsyncMessage) ConnectionFault → List RawMessage → Type 0
+HandedLate (Ok (Some message)) handed = Carries handed message
+HandedLate _ handed = handed ≡ []
+
+-- how the notices that are delayed were looked at
+abbrev pub LateEnds : Streams → Result (Option AsyncMessage) ConnectionFault → Type 0
+LateEnds new (Ok None) = new.delayed.items ≡ []
+LateEnds new (Ok (Some message)) = Unit {0}
+LateEnds new (Err e) = RefusesFirst new e
+
+-- what is due by the plan was given
+abbrev pub NothingDue : LinkView → Type 0
+NothingDue link = IfSome link.plan (λ plan. IfSome link.given (λ given. IfSome link.taken (λ taken. due_by plan given taken ≡ [])))
+
+-- a read wasn't ready; a steady link had nothing due then
+pub record WasDry (before after : LinkView) : Type 0 where
+  pub rose : Rose before.dry after.dry
+  pub quiet : Rose before.quiet after.quiet
+  pub nothing_due : IsTrue before.steady → NothingDue after
+
+-- how a piece was read
+abbrev pub PieceEnds : Streams → Streams → LinkView → LinkView → Result Bool ConnectionFault → Type 0
+PieceEnds old new before after (Ok true) = (old.given < new.given) × (new.given ≤ new.max_bytes)
+PieceEnds old new before after (Ok false) = WasDry before after × (new.buffer.items ≡ old.buffer.items) × (new.given ≡ old.given)
+PieceEnds old new before after (Err fault.Link) = Rose before.faults after.faults
+PieceEnds old new before after (Err fault.Closed) = Rose before.ends after.ends × (new.buffer.items ≡ [])
+PieceEnds old new before after (Err fault.Ended) = Rose before.ends after.ends × (0 < length new.buffer.items) × (new.buffer.items ≡ old.buffer.items)
+PieceEnds old new before after (Err (fault.LimitReached given most)) = (given ≡ new.given) × (most ≡ new.max_bytes) × (most < given)
+PieceEnds old new before after (Err fault.OutOfMemory) = Unit {0}
+PieceEnds old new before after (Err _) = ⊥
+
+-- what is handed out by a read step
+abbrev pub HandedBy : Result ReadEnd ConnectionFault → List RawMessage → Type 0
+HandedBy (Ok (reads.Handed message)) handed = Carries handed message
+HandedBy _ handed = handed ≡ []
+
+-- the input ended inside a message
+pub record EndsInside (s : Streams) (before after : LinkView) : Type 0 where
+  pub rose : Rose before.ends after.ends
+  pub some : 0 < length s.buffer.items
+  pub decoded : AllDecoded s
+
+-- How a read step ended: a message is handed out, a mailbox is full, or the link isn't ready and all is
+-- decoded. Or why it was broken off.
+abbrev pub ReadEnds : Streams → LinkView → LinkView → Result ReadEnd ConnectionFault → List Event → Type 0
+ReadEnds new before after (Ok (reads.Handed message)) events = Unit {0}
+ReadEnds new before after (Ok reads.Full) events = last_is is_full events ≡ true
+ReadEnds new before after (Ok reads.Dry) events = WasDry before after × AllDecoded new
+ReadEnds new before after (Err fault.Link) events = Rose before.faults after.faults
+ReadEnds new before after (Err fault.Closed) events = Rose before.ends after.ends × (new.buffer.items ≡ [])
+ReadEnds new before after (Err fault.Ended) events = EndsInside new before after
+ReadEnds new before after (Err fault.BadLength) events = has_bad_header new.buffer.items ≡ true
+ReadEnds new before after (Err fault.Layout) events = BreaksLayout new
+ReadEnds new before after (Err (fault.Unreadable c)) events = LeavesUnread new c ⊎ LeavesDelayed new c
+ReadEnds new before after (Err (fault.Unasked e)) events = (last_is has_no_request events ≡ true) × IsUnasked (waiting new.held) (fault.Unasked e)
+ReadEnds new before after (Err (fault.LimitReached given most)) events = (given ≡ new.given) × (most ≡ new.max_bytes) × (most < given)
+ReadEnds new before after (Err fault.OutOfMemory) events = Unit {0}

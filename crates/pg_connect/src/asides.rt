@@ -1,0 +1,188 @@
+//! Messages that no request asked for, and those that come where no request is open.
+
+ghost use Rattle.std.specs.Prelude.{◌≡◌, ◌<◌, true, [], None, drop, Some, length, IfOk, IfErr, is_ok, OnOk};
+ghost use Rattle.pg_spec.specs.Links.{LinkView};
+ghost use Rattle.pg_connect.specs.Kept.{keep};
+ghost use Rattle.pg_connect.specs.Passes.{PassesOn};
+ghost use Rattle.pg_connect.specs.Reads.{IsUnreadable, Sorts, TakesAside, MeansUnasked, IsUnasked, unreadable_as, ReadsFirst, HandedLate, LateEnds};
+
+use crate::{ConnectionFault, Off, Streams};
+use pg_errors::{AsyncMessage, Cause, DbError, Error};
+use pg_wire::{BackendMessages, Message, ParameterStatusBody, WireFault};
+use std::alloc::Global;
+
+impl Streams {
+    /// Keeps a parameter report in place of an earlier one for its name.
+    fn keep(&mut self, alloc: Global, report: &ParameterStatusBody) -> Result<(), ConnectionFault>
+        ensures ok { OnOk result (self.new ≡ record self.old { parameters = keep self.old.parameters (report.now.name, report.now.value) }) }
+        ensures fault { IfErr result (λ e. IsUnreadable (Message.ParameterStatus report.now) e × (self.new ≡ self.old)) }
+    {
+        let name = match report.name() {
+            Ok(name) => name,
+            Err(_) => return Err(ConnectionFault::Unreadable(Cause::NotUtf8)),
+        };
+        let value = match report.value() {
+            Ok(value) => value,
+            Err(_) => return Err(ConnectionFault::Unreadable(Cause::NotUtf8)),
+        };
+        let name = match String::from_str(alloc, name) {
+            Ok(name) => name,
+            Err(_) => return Err(ConnectionFault::OutOfMemory),
+        };
+        let value = match String::from_str(alloc, value) {
+            Ok(value) => value,
+            Err(_) => return Err(ConnectionFault::OutOfMemory),
+        };
+        match self.parameters.keep(name, value) {
+            Ok(()) => Ok(()),
+            Err(_) => Err(ConnectionFault::OutOfMemory),
+        }
+    }
+
+    /// Keeps a parameter report, or reads a message to be handed out. None comes where there is none to
+    /// be handed out.
+    fn sort(
+        &mut self,
+        alloc: Global,
+        message: &Message,
+    ) -> Result<Option<AsyncMessage>, ConnectionFault>
+        ensures { Sorts self.old self.new message.now result }
+    {
+        if let Message::ParameterStatus(report) = message {
+            return match self.keep(alloc, report) {
+                Ok(()) => Ok(None),
+                Err(e) => Err(e),
+            };
+        }
+        match AsyncMessage::read(alloc, message) {
+            Ok(handed) => Ok(handed),
+            Err(Error::Parse(cause)) => Err(ConnectionFault::Unreadable(cause)),
+            Err(_) => Err(ConnectionFault::OutOfMemory),
+        }
+    }
+
+    /// Leaves a message unread, for what it can't be passed on.
+    fn refuse(&mut self, message: Message)
+        ensures { self.new ≡ record self.old { unread = Some message } }
+    {
+        self.unread = Some(message);
+    }
+
+    /// Hands a message out.
+    fn hand_out(&mut self, handed: AsyncMessage) -> Off
+        ensures off { result ≡ Off.Handed handed }
+        ensures moved { self.new ≡ record self.old { moved = true } }
+    {
+        self.moved = true;
+        Off::Handed(handed)
+    }
+
+    /// Passes on a message that came off the bytes, or leaves it unread.
+    pub(crate) fn take_aside(
+        &mut self,
+        alloc: Global,
+        message: Message,
+    ) -> Result<Off, ConnectionFault>
+        ensures { TakesAside self.old self.new message result }
+    {
+        match self.sort(alloc, &message) {
+            Ok(Some(handed)) => Ok(self.hand_out(handed)),
+            Ok(None) => Ok(Off::Kept),
+            Err(e) => {
+                self.refuse(message);
+                Err(e)
+            }
+        }
+    }
+}
+
+/// Why a message of the server can't be read.
+fn unreadable(e: Error) -> ConnectionFault
+    ensures { result ≡ unreadable_as e }
+{
+    match e {
+        Error::Parse(cause) => ConnectionFault::Unreadable(cause),
+        _ => ConnectionFault::OutOfMemory,
+    }
+}
+
+impl Streams {
+    /// Reads the first notice that is delayed, if there is one.
+    fn first_notice(&self, alloc: Global) -> Option<Result<DbError, ConnectionFault>>
+        ensures { ReadsFirst self.now result }
+    {
+        let notice = match self.delayed.front() {
+            Some(notice) => notice,
+            None => return None,
+        };
+        match DbError::parse(alloc, notice) {
+            Ok(error) => Some(Ok(error)),
+            Err(e) => Some(Err(unreadable(e))),
+        }
+    }
+
+    /// Drops the first notice that is delayed, which is handed out.
+    fn drop_notice(&mut self)
+        ensures delayed { self.new.delayed.items ≡ drop 1 self.old.delayed.items }
+        ensures same { self.new ≡ record self.old { delayed = self.new.delayed; moved = true } }
+    {
+        let _ = self.delayed.pop_front();
+        self.moved = true;
+    }
+
+    /// Hands out the first notice that is delayed, if there is one. One that can't be read stays.
+    pub(crate) fn hand_delayed(
+        &mut self,
+        alloc: Global,
+    ) -> Result<Option<AsyncMessage>, ConnectionFault>
+        requires { self.old.unread ≡ None }
+        ensures passes { (l : LinkView) → PassesOn self.old self.new l l [] (HandedLate result) }
+        ensures end { LateEnds self.new result }
+        ensures unread { self.new.unread ≡ None }
+        ensures given { self.new.given ≡ self.old.given }
+        ensures limit { self.new.max_bytes ≡ self.old.max_bytes }
+        ensures closing { self.new.closing ≡ self.old.closing }
+    {
+        match self.first_notice(alloc) {
+            None => Ok(None),
+            Some(Ok(notice)) => {
+                self.drop_notice();
+                Ok(Some(AsyncMessage::Notice(notice)))
+            }
+            Some(Err(e)) => Err(e),
+        }
+    }
+}
+
+/// What a message means that comes where no request is open.
+fn meaning(alloc: Global, message: &Message) -> ConnectionFault
+    ensures { MeansUnasked message.now result }
+{
+    if let Message::ErrorResponse(body) = message {
+        return match DbError::parse(alloc, body) {
+            Ok(error) => ConnectionFault::Unasked(Error::Db(error)),
+            Err(e) => match e {
+                Error::Parse(cause) => ConnectionFault::Unasked(Error::Parse(cause)),
+                _ => ConnectionFault::OutOfMemory,
+            },
+        };
+    }
+    ConnectionFault::Unasked(Error::UnexpectedMessage)
+}
+
+/// What a batch means for which no request is open: what its first message means.
+pub(crate) fn unasked(alloc: Global, batch: &BackendMessages) -> ConnectionFault
+    requires { 0 < length batch.now }
+    ensures { IsUnasked batch.now result }
+{
+    let mut look = match batch.share() {
+        Ok(look) => look,
+        Err(_) => return ConnectionFault::OutOfMemory,
+    };
+    match look.next() {
+        Ok(Some(message)) => meaning(alloc, &message),
+        Ok(None) => ConnectionFault::Unasked(Error::UnexpectedMessage),
+        Err(WireFault::OutOfMemory) => ConnectionFault::OutOfMemory,
+        Err(fault) => ConnectionFault::Unasked(Error::Parse(Cause::Wire(fault))),
+    }
+}

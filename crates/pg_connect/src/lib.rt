@@ -1,0 +1,19 @@
+//! The startup and the connection: each poll reads, writes and flushes, over any link and any hub.
+#![tactic(auto)]
+
+mod asides;
+mod ends;
+mod fault;
+mod flushing;
+mod parameters;
+mod reading;
+mod sending;
+mod startup;
+mod streams;
+mod turning;
+
+pub use ends::{FlushEnd, Off, PartsEnd, ReadEnd, SendEnd, Step, TurnEnd, WriteEnd};
+pub use fault::ConnectionFault;
+pub use parameters::Parameters;
+pub use startup::{Heard, Phase, Startup};
+pub use streams::{Held, Streams};

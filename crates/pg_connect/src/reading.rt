@@ -1,0 +1,267 @@
+//! The read step: messages come off the bytes of the link and are passed on.
+
+ghost use Rattle.std.specs.Prelude.{◌≡◌, ◌^◌, ◌<◌, ◌≤◌, ◌++◌, ◌+◌, [], true, None, Some, length, OnOk};
+ghost use Rattle.pg_spec.specs.Batches.{is_batch};
+ghost use Rattle.pg_spec.specs.Links.{LinkView};
+ghost use Rattle.pg_connect.specs.Passes.{Passes, PassesOn, Goes, Hands, OnlyReads, risen, waiting};
+ghost use Rattle.pg_connect.specs.Reads.{IsUnasked, HandedOff, OffEnds, DeliverEnds, HandedIn, PassEnds, HandedAll, AllEnds, PieceEnds, HandedBy, ReadEnds};
+
+use crate::asides::unasked;
+use crate::{ConnectionFault, Held, Off, ReadEnd, Step, Streams};
+use pg_desk::{Deliver, Engine};
+use pg_wire::{BackendMessage, BackendMessages, Link, LinkRead, PostgresCodec, WireFault};
+use std::alloc::Global;
+
+/// How many bytes are read at once, at most.
+const PIECE: usize = 8192;
+
+impl Streams {
+    /// Holds a batch until it can be delivered.
+    fn hold(&mut self, batch: BackendMessages, complete: bool)
+        requires cut { is_batch complete batch ≡ true }
+        requires some { 0 < length batch }
+        ensures held { waiting self.new.held ≡ batch }
+        ensures same { self.new ≡ record self.old { held = self.new.held } }
+    {
+        self.held = Some(Held { batch, complete });
+    }
+
+    /// Takes the batch or the message in front off the bytes. A batch is held then.
+    pub(crate) fn take_off(&mut self, alloc: Global) -> Result<Off, ConnectionFault>
+        requires held { self.old.held ≡ None }
+        requires delayed { self.old.delayed.items ≡ [] }
+        requires unread { self.old.unread ≡ None }
+        ensures passes { (l : LinkView) → PassesOn self.old self.new l l [] (HandedOff result) }
+        ensures end { OffEnds self.old self.new result }
+        ensures delayed { self.new.delayed.items ≡ [] }
+        ensures unread { OnOk result (self.new.unread ≡ None) }
+        ensures closing { self.new.closing ≡ self.old.closing }
+    {
+        match PostgresCodec::decode(&mut self.buffer) {
+            Ok(None) => Ok(Off::Nothing),
+            Ok(Some(BackendMessage::Normal {
+                messages,
+                request_complete,
+            })) => {
+                self.hold(messages, request_complete);
+                Ok(Off::Held)
+            }
+            Ok(Some(BackendMessage::Async(message))) => self.take_aside(alloc, message),
+            Err(WireFault::BadLength) => Err(ConnectionFault::BadLength),
+            Err(WireFault::Layout) => Err(ConnectionFault::Layout),
+            Err(_) => Err(ConnectionFault::OutOfMemory),
+        }
+    }
+
+    /// Counts messages that the hub took or discarded.
+    fn count(&mut self, messages: usize)
+        ensures { self.new ≡ record self.old { delivered = risen self.old.delivered messages; moved = true } }
+    {
+        self.delivered = self.delivered.saturating_add(messages as u64);
+        self.moved = true;
+    }
+
+    /// Gives the batch that is held, if one is, to the hub. `false`: its mailbox is full.
+    pub(crate) fn deliver_held<E: Engine>(
+        &mut self,
+        alloc: Global,
+        hub: &mut E,
+    ) -> Result<bool, ConnectionFault>
+        requires { self.old.unread ≡ None }
+        ensures goes { (l : LinkView) → Goes E.becomes hub.old hub.new self.old self.new l l [] (DeliverEnds self.new result) }
+        ensures buffer { self.new.buffer ≡ self.old.buffer }
+        ensures delayed { self.new.delayed.items ≡ self.old.delayed.items }
+        ensures unread { self.new.unread ≡ None }
+        ensures closing { self.new.closing ≡ self.old.closing }
+    {
+        let held = match self.held.take() {
+            None => return Ok(true),
+            Some(held) => held,
+        };
+        let Held { batch, complete } = held;
+        let messages = batch.len();
+        match hub.deliver(batch, complete) {
+            Deliver::Taken => {
+                self.count(messages);
+                Ok(true)
+            }
+            Deliver::Full(batch) => {
+                self.hold(batch, complete);
+                Ok(false)
+            }
+            Deliver::NoRequest(batch) => {
+                let fault = unasked(alloc, &batch);
+                self.hold(batch, complete);
+                Err(fault)
+            }
+            Deliver::OutOfMemory(batch) => {
+                self.hold(batch, complete);
+                Err(ConnectionFault::OutOfMemory)
+            }
+        }
+    }
+
+    /// Passes on the batch or the message in front. `None`: it went on.
+    pub(crate) fn pass_on<E: Engine>(
+        &mut self,
+        alloc: Global,
+        hub: &mut E,
+    ) -> Result<Option<Step>, ConnectionFault>
+        requires held { self.old.held ≡ None }
+        requires delayed { self.old.delayed.items ≡ [] }
+        requires unread { self.old.unread ≡ None }
+        ensures goes { (l : LinkView) → Hands E.becomes hub.old hub.new self.old self.new l l (HandedIn result) (PassEnds self.old self.new result) }
+        ensures delayed { self.new.delayed.items ≡ [] }
+        ensures unread { OnOk result (self.new.unread ≡ None) }
+        ensures closing { self.new.closing ≡ self.old.closing }
+    {
+        match self.take_off(alloc) {
+            Ok(Off::Held) => match self.deliver_held(alloc, hub) {
+                Ok(true) => Ok(None),
+                Ok(false) => Ok(Some(Step::Full)),
+                Err(e) => Err(e),
+            },
+            Ok(Off::Kept) => Ok(None),
+            Ok(Off::Handed(message)) => Ok(Some(Step::Handed(message))),
+            Ok(Off::Nothing) => Ok(Some(Step::Nothing)),
+            Err(e) => Err(e),
+        }
+    }
+
+    /// Passes on all that is buffered, up to a message to hand out or a full mailbox.
+    pub(crate) fn pass_all<E: Engine>(
+        &mut self,
+        alloc: Global,
+        hub: &mut E,
+    ) -> Result<Step, ConnectionFault>
+        requires held { self.old.held ≡ None }
+        requires delayed { self.old.delayed.items ≡ [] }
+        requires unread { self.old.unread ≡ None }
+        ensures goes { (l : LinkView) → Hands E.becomes hub.old hub.new self.old self.new l l (HandedAll result) (AllEnds self.new result) }
+        ensures delayed { self.new.delayed.items ≡ [] }
+        ensures unread { OnOk result (self.new.unread ≡ None) }
+        ensures closing { self.new.closing ≡ self.old.closing }
+    {
+        'front: loop {
+            match self.pass_on(alloc, hub) {
+                Ok(None) => {}
+                Ok(Some(step)) => return Ok(step),
+                Err(e) => return Err(e),
+            }
+        }
+    }
+
+    /// Takes in a piece, for which there is room.
+    fn take_in(&mut self, piece: &[u8])
+        requires room { length piece.now ≤ self.old.buffer.spare }
+        requires fits { self.old.given + length piece.now < 2 ^ 64 }
+        ensures buffer { self.new.buffer.items ≡ self.old.buffer.items ++ piece.now }
+        ensures same { self.new ≡ record self.old { buffer = self.new.buffer; given = self.old.given + length piece.now; moved = true } }
+    {
+        self.buffer.extend_reserved(piece);
+        self.given += piece.len() as u64;
+        self.moved = true;
+    }
+
+    /// Reads a piece of the link into the buffer. `false`: the link isn't ready.
+    pub(crate) fn read_piece<L: Link>(&mut self, link: &mut L) -> Result<bool, ConnectionFault>
+        requires limit { self.old.max_bytes < 2 ^ 63 }
+        requires given { self.old.given ≤ self.old.max_bytes }
+        requires unread { self.old.unread ≡ None }
+        ensures passes { Passes self.old self.new (L.view link.old) (L.view link.new) [] [] }
+        ensures only { OnlyReads self.old self.new (L.view link.old) (L.view link.new) }
+        ensures end { PieceEnds self.old self.new (L.view link.old) (L.view link.new) result }
+        ensures held { self.new.held ≡ self.old.held }
+        ensures delayed { self.new.delayed.items ≡ self.old.delayed.items }
+        ensures unread { self.new.unread ≡ None }
+    {
+        match self.buffer.reserve(PIECE) {
+            Ok(()) => {}
+            Err(_) => return Err(ConnectionFault::OutOfMemory),
+        }
+        let mut piece = [0u8; PIECE];
+        match link.read(&mut piece) {
+            LinkRead::Got(n) => {
+                self.take_in(&piece[..n]);
+                if self.given > self.max_bytes {
+                    return Err(ConnectionFault::LimitReached {
+                        given: self.given,
+                        limit: self.max_bytes,
+                    });
+                }
+                Ok(true)
+            }
+            LinkRead::NotReady => Ok(false),
+            LinkRead::End => {
+                self.moved = true;
+                if self.buffer.is_empty() {
+                    Err(ConnectionFault::Closed)
+                } else {
+                    Err(ConnectionFault::Ended)
+                }
+            }
+            LinkRead::Failed => Err(ConnectionFault::Link),
+        }
+    }
+
+    /// Reads piece after piece, with all that came passed on before the next read.
+    pub(crate) fn read_link<L: Link, E: Engine>(
+        &mut self,
+        alloc: Global,
+        link: &mut L,
+        hub: &mut E,
+    ) -> Result<ReadEnd, ConnectionFault>
+        requires limit { self.old.max_bytes < 2 ^ 63 }
+        requires given { self.old.given ≤ self.old.max_bytes }
+        requires held { self.old.held ≡ None }
+        requires delayed { self.old.delayed.items ≡ [] }
+        requires unread { self.old.unread ≡ None }
+        ensures goes { Hands E.becomes hub.old hub.new self.old self.new (L.view link.old) (L.view link.new) (HandedBy result)
+            (ReadEnds self.new (L.view link.old) (L.view link.new) result) }
+        ensures only { OnlyReads self.old self.new (L.view link.old) (L.view link.new) }
+        ensures unread { OnOk result (self.new.unread ≡ None) }
+        ensures within { OnOk result (self.new.given ≤ self.new.max_bytes) }
+    {
+        'pieces: loop {
+            match self.pass_all(alloc, hub) {
+                Ok(Step::Nothing) => {}
+                Ok(Step::Full) => return Ok(ReadEnd::Full),
+                Ok(Step::Handed(message)) => return Ok(ReadEnd::Handed(message)),
+                Err(e) => return Err(e),
+            }
+            match self.read_piece(link) {
+                Ok(true) => {}
+                Ok(false) => return Ok(ReadEnd::Dry),
+                Err(e) => return Err(e),
+            }
+        }
+    }
+
+    /// The read step: what is delayed and held first, then the link.
+    pub(crate) fn read_step<L: Link, E: Engine>(
+        &mut self,
+        alloc: Global,
+        link: &mut L,
+        hub: &mut E,
+    ) -> Result<ReadEnd, ConnectionFault>
+        requires limit { self.old.max_bytes < 2 ^ 63 }
+        requires given { self.old.given ≤ self.old.max_bytes }
+        requires unread { self.old.unread ≡ None }
+        ensures goes { Hands E.becomes hub.old hub.new self.old self.new (L.view link.old) (L.view link.new) (HandedBy result)
+            (ReadEnds self.new (L.view link.old) (L.view link.new) result) }
+        ensures only { OnlyReads self.old self.new (L.view link.old) (L.view link.new) }
+        ensures unread { OnOk result (self.new.unread ≡ None) }
+        ensures within { OnOk result (self.new.given ≤ self.new.max_bytes) }
+    {
+        match self.hand_delayed(alloc) {
+            Ok(None) => {}
+            Ok(Some(message)) => return Ok(ReadEnd::Handed(message)),
+            Err(e) => return Err(e),
+        }
+        match self.deliver_held(alloc, hub) {
+            Ok(true) => self.read_link(alloc, link, hub),
+            Ok(false) => Ok(ReadEnd::Full),
+            Err(e) => Err(e),
+        }
+    }
+}

@@ -1,0 +1,94 @@
+//! A turn: read, write, flush.
+
+ghost use Rattle.std.specs.Prelude.{◌≡◌, ◌^◌, ◌<◌, ◌≤◌, [], true, false, None, OnOk};
+ghost use Rattle.pg_connect.specs.Passes.{Goes, OnlySends};
+ghost use Rattle.pg_connect.specs.Polls.{Sends, Turns};
+
+use crate::flushing::flush_step;
+use crate::{ConnectionFault, FlushEnd, ReadEnd, SendEnd, Streams, TurnEnd, WriteEnd};
+use pg_desk::Engine;
+use pg_wire::Link;
+use std::alloc::Global;
+
+impl Streams {
+    /// The write step, and the flush step where nothing is unsent.
+    pub(crate) fn send<L: Link, E: Engine>(
+        &mut self,
+        link: &mut L,
+        hub: &mut E,
+        may_close: bool,
+    ) -> Result<SendEnd, ConnectionFault>
+        requires { self.old.unread ≡ None }
+        ensures goes { Goes E.becomes hub.old hub.new self.old self.new (L.view link.old) (L.view link.new) []
+            (Sends self.old self.new (L.view link.old) (L.view link.new) may_close result) }
+        ensures only { OnlySends self.old self.new (L.view link.old) (L.view link.new) }
+    {
+        match self.write_step(link, hub, may_close) {
+            Ok(WriteEnd::AllTaken) => {}
+            Ok(WriteEnd::Blocked) => return Ok(SendEnd::Waits),
+            Err(e) => return Err(e),
+        }
+        match flush_step(link, self.closing) {
+            Ok(FlushEnd::Blocked) => Ok(SendEnd::Waits),
+            Ok(FlushEnd::Flushed) => Ok(SendEnd::Waits),
+            Ok(FlushEnd::ShutDown) => Ok(SendEnd::Over),
+            Err(e) => Err(e),
+        }
+    }
+
+    /// A turn where the connection is closing: nothing is read.
+    fn close_turn<L: Link, E: Engine>(
+        &mut self,
+        link: &mut L,
+        hub: &mut E,
+    ) -> Result<TurnEnd, ConnectionFault>
+        requires closing { self.old.closing ≡ true }
+        requires unread { self.old.unread ≡ None }
+        ensures turns { Turns E.becomes hub.old hub.new self.old self.new (L.view link.old) (L.view link.new) result }
+        ensures unread { self.new.unread ≡ None }
+        ensures within { self.new.given ≡ self.old.given }
+    {
+        match self.send(link, hub, false) {
+            Ok(SendEnd::Waits) => Ok(TurnEnd::Waits),
+            Ok(SendEnd::Over) => Ok(TurnEnd::Over),
+            Err(e) => Err(e),
+        }
+    }
+
+    /// A turn: reads where the connection isn't closing, writes and flushes.
+    pub(crate) fn turn<L: Link, E: Engine>(
+        &mut self,
+        alloc: Global,
+        link: &mut L,
+        hub: &mut E,
+    ) -> Result<TurnEnd, ConnectionFault>
+        requires limit { self.old.max_bytes < 2 ^ 63 }
+        requires given { self.old.given ≤ self.old.max_bytes }
+        requires unread { self.old.unread ≡ None }
+        ensures turns { Turns E.becomes hub.old hub.new self.old self.new (L.view link.old) (L.view link.new) result }
+        ensures unread { OnOk result (self.new.unread ≡ None) }
+        ensures within { OnOk result (self.new.given ≤ self.new.max_bytes) }
+    {
+        if self.closing {
+            return self.close_turn(link, hub);
+        }
+        match self.read_step(alloc, link, hub) {
+            Ok(ReadEnd::Handed(message)) => match self.send(link, hub, false) {
+                Ok(SendEnd::Waits) => Ok(TurnEnd::Handed(message)),
+                Ok(SendEnd::Over) => Ok(TurnEnd::Over),
+                Err(e) => Err(e),
+            },
+            Ok(ReadEnd::Full) => match self.send(link, hub, false) {
+                Ok(SendEnd::Waits) => Ok(TurnEnd::Waits),
+                Ok(SendEnd::Over) => Ok(TurnEnd::Over),
+                Err(e) => Err(e),
+            },
+            Ok(ReadEnd::Dry) => match self.send(link, hub, true) {
+                Ok(SendEnd::Waits) => Ok(TurnEnd::Waits),
+                Ok(SendEnd::Over) => Ok(TurnEnd::Over),
+                Err(e) => Err(e),
+            },
+            Err(e) => Err(e),
+        }
+    }
+}

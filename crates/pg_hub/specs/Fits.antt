@@ -1,0 +1,60 @@
+-- What lists of events a hub stands for, and what its calls do to it.
+use Rattle.std.specs.Prelude.{◌≡◌, ◌≤◌, ◌<◌, ℕ, List, [], ◌∷◌, length, drop, Bool, true, false, ◌||◌, Ok}
+use Rattle.pg_hub.specs.declared.mailbox.Mailbox.{Mailbox}
+use Rattle.pg_desk.specs.declared.event.Event.{Event}
+use Rattle.pg_desk.specs.declared.event.Event.TheVariants.{Book, Take as TakeEvent, HangUp, NextOut, Deliver as DeliverEvent}
+use Rattle.pg_desk.specs.declared.event.Take.TheVariants.{Batch}
+use Rattle.pg_desk.specs.declared.event.Out.TheVariants.{Part}
+use Rattle.pg_desk.specs.declared.event.Deliver.TheVariants.{Taken}
+use Rattle.pg_hub.specs.Standing.{Standing, IsStanding}
+use Rattle.pg_hub.specs.Mail.{waits, is_gone, at}
+use Rattle.pg_desk.specs.History.{State, wire, finished, given, taken, waiting, is_hung_up, after_all, IsExact}
+
+-- a mailbox has what waits, and knows whether its reader hung up
+pub record MailFits (s : State) (k : ℕ) (mailbox : Mailbox) : Type 0 where
+  pub gone : is_gone mailbox ≡ is_hung_up s k
+  pub waits : is_hung_up s k ≡ false → waits mailbox ≡ waiting s k
+
+-- the hub stands for a state of a list of events
+pub record Fits (s : State) (h : Standing) : Type 0 where
+  pub standing : IsStanding h
+  pub book : h.book ≡ s.book
+  pub mail : (k : ℕ) → k < length s.book → MailFits s k (at h.mail k)
+  pub outgoing : h.outgoing ≡ drop (length s.gone_out) (wire s.book)
+  pub gone_out : h.gone_out ≡ length s.gone_out
+  pub finished : h.finished ≡ finished s.deliveries
+  pub statements : h.statements ≡ s.statements
+  pub portals : h.portals ≡ s.portals
+  pub closed : h.closed ≡ s.closed
+  pub failed : h.failed ≡ s.failed
+  -- nothing was given before it was asked for, and nobody hung up on what isn't booked
+  pub none_given : (k : ℕ) → length s.gone_out ≤ k → given k s.deliveries ≡ []
+  pub none_hung_up : (k : ℕ) → length s.book ≤ k → is_hung_up s k ≡ false
+  -- nobody took more than came
+  pub none_invented : (k : ℕ) → length (taken k s.takes) ≤ length (given k s.deliveries)
+  -- each request has one part
+  pub all_parts : length (wire s.book) ≡ length s.book
+
+-- Something was booked, taken as a batch, hung up, taken out as a part, delivered or discarded.
+abbrev pub moves_one : Event → Bool
+moves_one (Book stamp part copying (Ok id)) = true
+moves_one (TakeEvent id (Ok (Batch messages))) = true
+moves_one (HangUp id (Ok x)) = true
+moves_one (NextOut (Ok (Part part))) = true
+moves_one (DeliverEvent messages complete Taken) = true
+moves_one e = false
+
+-- one of the events moves something
+abbrev pub moves : List Event → Bool
+moves [] = false
+moves (e ∷ es) = moves_one e || moves es
+
+-- From every state that the hub stands for, the events are legal and exact, and lead to a state that it stands for
+-- then. And the hub knows whether they moved something.
+pub record HubBecomes (a : Standing) (es : List Event) (b : Standing) : Type 0 where
+  pub stands : (s : State) → Fits s a → IsExact s es × Fits (after_all s es) b
+  pub touched : b.touched ≡ (moves es || a.touched)
+
+-- what is_closed answers
+abbrev pub IsClosedBy : Standing → Bool → Type 0
+IsClosedBy h answer = answer ≡ (h.closed || h.failed)

@@ -1,0 +1,14 @@
+//! The hub: it books the requests of all handles, hands their parts out in order, and keeps what comes for
+//! each until its reader takes it. And the reader of the messages of one request, over any desk.
+#![tactic(auto)]
+
+mod hub;
+mod mailbox;
+mod responses;
+#[cfg(test)]
+mod tests;
+
+pub use hub::Hub;
+pub use mailbox::Mailbox;
+pub use pg_desk::{Booking, Deliver, Desk, DeskFault, Engine, Event, Out, Stamp, Take};
+pub use responses::Responses;

@@ -1,0 +1,238 @@
+-- Where one event leads a dialogue, with the messages that came and aren't read yet.
+use Rattle.std.proofs.Common.{◌≡◌, ℕ, arith, length, List, [], ◌∷◌, ◌++◌, Bool, false, Option, Some, None, is_none, refl, sym, ◌∙◌, ap, subst, inl, inr, Result, Ok, Err, MatchResult}
+use Rattle.pg_spec.specs.Faults as spec
+use Rattle.pg_spec.specs.RawMessages.{RawMessage}
+use Rattle.pg_wire.specs.Backend.{RefusedBy}
+use Rattle.pg_wire.specs.Faults.{wire_fault}
+use Rattle.pg_wire.specs.declared.fault.WireFault.{WireFault}
+use Rattle.pg_query.specs.Messages.{IsMalformed, Means}
+use Rattle.pg_desk.specs.declared.event.Stamp.{Stamp}
+use Rattle.pg_desk.specs.declared.event.Take.TheVariants as taking
+use Rattle.pg_desk.specs.declared.event.Event.{Event}
+use Rattle.pg_desk.specs.declared.event.Event.TheVariants as call
+use Rattle.pg_errors.specs.declared.error.Error.{Error}
+use Rattle.pg_errors.specs.declared.error.Error.TheVariants.{Closed, OutOfMemory}
+use Rattle.pg_query.specs.declared.script.Want.TheVariants as want
+use Rattle.pg_query.specs.declared.script.Action.TheVariants as act
+use Rattle.pg_query.specs.declared.script.Want.{Want}
+use Rattle.pg_query.specs.Faults.{of_fault}
+use Rattle.pg_desk.specs.declared.event.DeskFault.{DeskFault}
+use Rattle.pg_query.specs.declared.query.Query.{Query}
+use Rattle.pg_query.specs.declared.query.Reply.{Reply}
+use Rattle.pg_query.specs.Dialogue.{Dialogue, Answer, Ask, Send, Leave, Read, HangUp, Call, Hear, feed, feed_one, after_reply, Told, Steps, Walks}
+use Rattle.pg_query.specs.Scripts.{IsRead, IsLast, Waiting, wanting, GoesOn}
+use Rattle.pg_query.specs.declared.running.Running.{Running}
+use Rattle.pg_query.specs.Meaning.{Place, meaning_at, PullsOne, Goes, GoesToAnswer}
+
+pub feed-answer : {T : Type 0} (ms : List RawMessage) (r : Result T Error) → feed ms (Answer r) ≡ Answer r
+feed-answer [] r = refl
+feed-answer (m ∷ ms) r = feed-answer ms r
+
+feed-ask : {T : Type 0} (ms : List RawMessage) (copying : Bool) (part : List ℕ) (d : Dialogue T) → feed ms (Ask copying part d) ≡ Ask copying part d
+feed-ask [] copying part d = refl
+feed-ask (m ∷ ms) copying part d = feed-ask ms copying part d
+
+feed-send : {T : Type 0} (ms : List RawMessage) (part : List ℕ) (d : Dialogue T) → feed ms (Send part d) ≡ Send part (feed ms d)
+feed-send [] part d = refl
+feed-send (m ∷ ms) part d = feed-send ms part (feed_one m d)
+
+feed-leave : {T : Type 0} (ms : List RawMessage) (id : ℕ) (d : Dialogue T) → feed ms (Leave id d) ≡ Leave id (feed ms d)
+feed-leave [] id d = refl
+feed-leave (m ∷ ms) id d = feed-leave ms id (feed_one m d)
+
+pub feed-hang-up : {T : Type 0} (ms : List RawMessage) (d : Dialogue T) → feed ms (HangUp d) ≡ HangUp d
+feed-hang-up [] d = refl
+feed-hang-up (m ∷ ms) d = feed-hang-up ms d
+
+feed-call : {T : Type 0} (ms : List RawMessage) (q : Query) (next : Reply → Dialogue T) → feed ms (Call q next) ≡ Call q (λ r. feed ms (next r))
+feed-call [] q next = refl
+feed-call (m ∷ ms) q next = feed-call ms q (λ r. feed_one m (next r))
+
+-- one event, from a dialogue that computes to another
+step : {T : Type 0} (stamp : Stamp) (d c : Dialogue T) (id : ℕ) (e : Event) (d' : Dialogue T) (id' : ℕ) → d ≡ c → Steps stamp c id e d' id' → Walks stamp d id (e ∷ []) d' id'
+step {T} stamp d c id e d' id' same h = (d', id', subst (λ (x : Dialogue T). Steps stamp x id e d' id') (sym same) h, (refl, refl))
+
+-- what each action does, with the messages that came
+pub asked : {T : Type 0} (stamp : Stamp) (ms : List RawMessage) (id : ℕ) (copying : Bool) (part : List ℕ) (d : Dialogue T) (new : ℕ) → Walks stamp (feed ms (Ask copying part d)) id (call.Book stamp part copying (Ok new) ∷ []) d new
+asked stamp ms id copying part d new = step stamp (feed ms (Ask copying part d)) (Ask copying part d) id _ d new (feed-ask ms copying part d) (refl, refl, refl, refl, refl)
+
+pub ask-refused : {T : Type 0} (stamp : Stamp) (ms : List RawMessage) (id : ℕ) (copying : Bool) (part : List ℕ) (d : Dialogue T) (e : DeskFault) → Walks stamp (feed ms (Ask copying part d)) id (call.Book stamp part copying (Err e) ∷ []) (Answer (Err (of_fault e))) id
+ask-refused stamp ms id copying part d e = step stamp (feed ms (Ask copying part d)) (Ask copying part d) id _ _ id (feed-ask ms copying part d) (refl, refl, refl, refl, refl)
+
+pub send-refused : {T : Type 0} (stamp : Stamp) (ms : List RawMessage) (id : ℕ) (part : List ℕ) (d : Dialogue T) (e : DeskFault) → Walks stamp (feed ms (Send part d)) id (call.Book stamp part false (Err e) ∷ []) (Answer (Err (of_fault e))) id
+send-refused stamp ms id part d e = step stamp (feed ms (Send part d)) (Send part (feed ms d)) id _ _ id (feed-send ms part d) (refl, refl, refl, refl, refl)
+
+sends : {T : Type 0} (stamp : Stamp) (ms : List RawMessage) (id : ℕ) (part : List ℕ) (d : Dialogue T) (new : ℕ) → Steps stamp (feed ms (Send part d)) id (call.Book stamp part false (Ok new)) (Leave new (feed ms d)) id
+sends {T} stamp ms id part d new = subst (λ (x : Dialogue T). Steps stamp x id (call.Book stamp part false (Ok new)) (Leave new (feed ms d)) id) (sym (feed-send ms part d)) (refl, refl, refl, refl, refl)
+
+pub sent : {T : Type 0} (stamp : Stamp) (ms : List RawMessage) (id : ℕ) (part : List ℕ) (d : Dialogue T) (new : ℕ) → Walks stamp (feed ms (Send part d)) id (call.Book stamp part false (Ok new) ∷ call.HangUp new (Ok tt) ∷ []) (feed ms d) id
+sent stamp ms id part d new = (Leave new (feed ms d), id, sends stamp ms id part d new, (feed ms d, id, (refl, refl, refl), (refl, refl)))
+
+pub send-kept : {T : Type 0} (stamp : Stamp) (ms : List RawMessage) (id : ℕ) (part : List ℕ) (d : Dialogue T) (new : ℕ) (e : DeskFault) → Walks stamp (feed ms (Send part d)) id (call.Book stamp part false (Ok new) ∷ call.HangUp new (Err e) ∷ []) (Answer (Err (of_fault e))) id
+send-kept stamp ms id part d new e = (Leave new (feed ms d), id, sends stamp ms id part d new, (Answer (Err (of_fault e)), id, (refl, refl, refl), (refl, refl)))
+
+pub hung-up : {T : Type 0} (stamp : Stamp) (ms : List RawMessage) (id : ℕ) (d : Dialogue T) → Walks stamp (feed ms (HangUp d)) id (call.HangUp id (Ok tt) ∷ []) d id
+hung-up stamp ms id d = step stamp (feed ms (HangUp d)) (HangUp d) id _ d id (feed-hang-up ms d) (refl, refl, refl)
+
+pub hang-up-refused : {T : Type 0} (stamp : Stamp) (ms : List RawMessage) (id : ℕ) (d : Dialogue T) (e : DeskFault) → Walks stamp (feed ms (HangUp d)) id (call.HangUp id (Err e) ∷ []) (Answer (Err (of_fault e))) id
+hang-up-refused stamp ms id d e = step stamp (feed ms (HangUp d)) (HangUp d) id _ _ id (feed-hang-up ms d) (refl, refl, refl)
+
+pub called : {T : Type 0} (stamp : Stamp) (ms : List RawMessage) (id : ℕ) (q : Query) (next : Reply → Dialogue T) (e : Event) (r : Result Reply DeskFault) → Told q e r →
+    Walks stamp (feed ms (Call q next)) id (e ∷ []) (after_reply r (λ x. feed ms (next x))) id
+called stamp ms id q next e r h = step stamp (feed ms (Call q next)) (Call q (λ x. feed ms (next x))) id e _ id (feed-call ms q next) (r, h, refl, refl)
+
+-- where the script went on after events that lead to this dialogue
+pub resumed : {S D T : Type 0} (becomes : D → List Event → D → Type 0) (stamp : Stamp) (a : D) (p : Place T) (b : D)
+    (dialogue : S → Dialogue T) (waits : (s : S) → Waiting (dialogue s)) (from : Dialogue T) (new : Running S T) (es : List Event) → becomes a es b →
+    Walks stamp p.dialogue p.reads es (feed new.batch from) new.id →
+    (r : Result (Want T) Error) → MatchResult r (λ w. GoesOn dialogue waits from w new.script) (λ e. e ≡ OutOfMemory) →
+    MatchResult r (λ w. Goes becomes stamp a p b (meaning_at dialogue new w)) (λ e. GoesToAnswer becomes stamp a p b (Err e))
+resumed {S} {D} {T} becomes stamp a p b dialogue waits from new es ev w (Ok x) h =
+    record { events = es; became = ev; walked = subst (λ (c : Dialogue T). Walks stamp p.dialogue p.reads es (feed new.batch c) new.id) (sym h.is) w }
+resumed becomes stamp a p b dialogue waits from new es ev w (Err e) h =
+    record { last = record { dialogue = feed new.batch from; reads = new.id }; goes = record { events = es; became = ev; walked = w }; answers = inr (ap Err h) }
+
+-- where the desk refused
+pub refused : {D T : Type 0} (becomes : D → List Event → D → Type 0) (stamp : Stamp) (a : D) (p : Place T) (b : D) (es : List Event) → becomes a es b →
+    (f : DeskFault) (id : ℕ) → Walks stamp p.dialogue p.reads es (Answer (Err (of_fault f))) id → (e : Error) → e ≡ of_fault f →
+    GoesToAnswer becomes stamp a p b (Err e)
+refused becomes stamp a p b es ev f id w e same =
+    record { last = record { dialogue = Answer (Err (of_fault f)); reads = id }; goes = record { events = es; became = ev; walked = w }; answers = inl (ap (λ (x : Error). Answer (Err x)) (sym same)) }
+
+-- the same walk, where its end is named otherwise
+pub end-at : {T : Type 0} (stamp : Stamp) (p : Place T) (es : List Event) (c d : Dialogue T) (ms : List RawMessage) (n id : ℕ) → d ≡ feed ms c → n ≡ id →
+    Walks stamp p.dialogue p.reads es d n → Walks stamp p.dialogue p.reads es (feed ms c) id
+end-at {T} stamp p es c d ms n id e f w = subst (λ (x : Dialogue T). Walks stamp p.dialogue p.reads es x id) e (subst (λ (m : ℕ). Walks stamp p.dialogue p.reads es d m) f w)
+
+pub walk-joined : {T : Type 0} (stamp : Stamp) (d : Dialogue T) (id : ℕ) (es fs : List Event) (d' d'' : Dialogue T) (id' id'' : ℕ) →
+    Walks stamp d id es d' id' → Walks stamp d' id' fs d'' id'' → Walks stamp d id (es ++ fs) d'' id''
+walk-joined {T} stamp d id [] fs d' d'' id' id'' w v =
+    subst (λ (x : Dialogue T). Walks stamp x id fs d'' id'') w.0 (subst (λ (n : ℕ). Walks stamp d' n fs d'' id'') w.1 v)
+walk-joined stamp d id (e ∷ es) fs d' d'' id' id'' (c, n, s, w) v = (c, n, s, walk-joined stamp c n es fs d' d'' id' id'' w v)
+
+-- events of one call and of the next
+abbrev pub goes-joined : {D T : Type 0} (becomes : D → List Event → D → Type 0) → ((a b c : D) (es fs : List Event) → becomes a es b → becomes b fs c → becomes a (es ++ fs) c) →
+    (stamp : Stamp) (a : D) (p : Place T) (b : D) (q : Place T) (c : D) (r : Place T) → Goes becomes stamp a p b q → Goes becomes stamp b q c r → Goes becomes stamp a p c r
+goes-joined becomes joins stamp a p b q c r h k = record {
+  events = h.events ++ k.events;
+  became = joins a b c h.events k.events h.became k.became;
+  walked = walk-joined stamp p.dialogue p.reads h.events k.events q.dialogue r.dialogue q.reads r.reads h.walked k.walked;
+}
+
+pub answer-joined : {D T : Type 0} (becomes : D → List Event → D → Type 0) → ((a b c : D) (es fs : List Event) → becomes a es b → becomes b fs c → becomes a (es ++ fs) c) →
+    (stamp : Stamp) (a : D) (p : Place T) (b : D) (q : Place T) (c : D) (r : Result T Error) → Goes becomes stamp a p b q → GoesToAnswer becomes stamp b q c r → GoesToAnswer becomes stamp a p c r
+answer-joined becomes joins stamp a p b q c r h k = record {
+  last = k.last;
+  goes = goes-joined becomes joins stamp a p b q c k.last h k.goes;
+  answers = k.answers;
+}
+
+pub goes-nowhere : {D T : Type 0} (becomes : D → List Event → D → Type 0) → ((a : D) → becomes a [] a) → (stamp : Stamp) (a : D) (p : Place T) → Goes becomes stamp a p a p
+goes-nowhere becomes stays stamp a p = record { events = []; became = stays a; walked = (refl, refl) }
+
+-- a script that answers
+pub answered : {S D T : Type 0} (becomes : D → List Event → D → Type 0) (stamp : Stamp) (a : D) (p : Place T) (b : D) (dialogue : S → Dialogue T) (new : Running S T) →
+    (w : Want T) → Goes becomes stamp a p b (meaning_at dialogue new w) → (r : Result T Error) → w ≡ want.Answer r → GoesToAnswer becomes stamp a p b r
+answered {S} {D} {T} becomes stamp a p b dialogue new w h r e =
+    record {
+      last = meaning_at dialogue new w;
+      goes = h;
+      answers = inl (ap (λ (x : Want T). feed new.batch (wanting x (dialogue new.script))) e ∙ feed-answer new.batch r);
+    }
+
+-- the same walk, where its end is another name of the place
+pub goes-same : {D T : Type 0} (becomes : D → List Event → D → Type 0) (stamp : Stamp) (a : D) (p : Place T) (b : D) (q r : Place T) → r ≡ q →
+    Goes becomes stamp a p b q → Goes becomes stamp a p b r
+goes-same {D} {T} becomes stamp a p b q r e h = subst (λ (x : Place T). Goes becomes stamp a p b x) (sym e) h
+
+-- behind the last message that is read, the others count for nothing
+last-drops : {T : Type 0} (ms : List RawMessage) (w : Want T) (d : Dialogue T) → IsLast w → feed ms (wanting w d) ≡ wanting w d
+last-drops ms (want.Answer r) d h = feed-answer ms r
+last-drops ms want.Read d h = absurd h
+last-drops ms (want.Act (act.Ask copying part)) d h = absurd h
+last-drops ms (want.Act (act.Send part)) d h = absurd h
+last-drops ms (want.Act act.HangUp) d h = feed-hang-up ms d
+last-drops ms (want.Act (act.Call q)) d h = absurd h
+
+-- the message that was refused
+pub record Refused (old : List RawMessage) (fault : WireFault) : Type 0 where
+  pub raw : RawMessage
+  pub rest : List RawMessage
+  pub front : old ≡ raw ∷ rest
+  pub means : Means raw (Err fault)
+
+refused-by : (old new : List RawMessage) (o : Option spec.WireFault) → is_none o ≡ false → RefusedBy old new o →
+    (raw : RawMessage) × (rest : List RawMessage) × (old ≡ raw ∷ rest) × IsMalformed raw o
+refused-by old new None h r = absurd cc
+refused-by old new (Some fault) h r = (r.raw, r.rest, r.front, r.means)
+
+pub refused-first : (old new : List RawMessage) (fault : WireFault) → is_none (wire_fault fault) ≡ false → RefusedBy old new (wire_fault fault) → Refused old fault
+refused-first old new fault h r = let f = refused-by old new (wire_fault fault) h r in record { raw = f.0; rest = f.1; front = f.2; means = f.3 }
+
+-- a malformed message is given to the script, and those behind it are dropped
+pub pulled-last : {S T : Type 0} (dialogue : S → Dialogue T) (waits : (s : S) → Waiting (dialogue s)) (old new : Running S T) (raw : RawMessage) (rest : List RawMessage) →
+    old.batch ≡ raw ∷ rest → new.batch ≡ [] → new.id ≡ old.id → (w : Want T) → GoesOn dialogue waits (feed_one raw (dialogue old.script)) w new.script → IsLast w →
+    PullsOne dialogue waits old new w
+pulled-last {S} {T} dialogue waits old new raw rest front none id w h last = record {
+  same =
+      let fed : feed new.batch (wanting w (dialogue new.script)) ≡ feed old.batch (dialogue old.script) =
+      ap (λ (l : List RawMessage). feed l (wanting w (dialogue new.script))) none
+      ∙ sym (last-drops rest w (dialogue new.script) last)
+      ∙ ap (λ (x : Dialogue T). feed rest x) h.is
+      ∙ sym (ap (λ (l : List RawMessage). feed l (dialogue old.script)) front) in
+      ap (λ (x : Dialogue T). let q : Place T = record { dialogue = x; reads = new.id } in q) fed
+      ∙ ap (λ (n : ℕ). let q : Place T = record { dialogue = feed old.batch (dialogue old.script); reads = n } in q) id;
+  wanted = h.wanted;
+  fewer = omega (arith, ap length none, ap length front);
+}
+
+-- a take from the desk, where the batch was used up
+pub took : {T : Type 0} (stamp : Stamp) (d : Dialogue T) (id : ℕ) (ms : List RawMessage) → IsRead d → Walks stamp d id (call.Take id (Ok (taking.Batch ms)) ∷ []) (feed ms d) id
+took stamp (Read cleanup decides next) id ms s = (_, id, (refl, refl, refl), (refl, refl))
+took stamp (Answer r) id ms s = absurd s
+took stamp (Ask copying part d) id ms s = absurd s
+took stamp (Send part d) id ms s = absurd s
+took stamp (Leave i d) id ms s = absurd s
+took stamp (HangUp d) id ms s = absurd s
+took stamp (Call q next) id ms s = absurd s
+took stamp (Hear next) id ms s = absurd s
+
+pub took-nothing : {T : Type 0} (stamp : Stamp) (d : Dialogue T) (id : ℕ) → IsRead d → Walks stamp d id (call.Take id (Ok taking.Empty) ∷ []) d id
+took-nothing stamp (Read cleanup decides next) id s = (_, id, (refl, refl, refl), (refl, refl))
+took-nothing stamp (Answer r) id s = absurd s
+took-nothing stamp (Ask copying part d) id s = absurd s
+took-nothing stamp (Send part d) id s = absurd s
+took-nothing stamp (Leave i d) id s = absurd s
+took-nothing stamp (HangUp d) id s = absurd s
+took-nothing stamp (Call q next) id s = absurd s
+took-nothing stamp (Hear next) id s = absurd s
+
+pub took-over : {T : Type 0} (stamp : Stamp) (d : Dialogue T) (id : ℕ) → IsRead d → Walks stamp d id (call.Take id (Ok taking.Over) ∷ []) (Answer (Err Closed)) id
+took-over stamp (Read cleanup decides next) id s = (_, id, (refl, refl, refl), (refl, refl))
+took-over stamp (Answer r) id s = absurd s
+took-over stamp (Ask copying part d) id s = absurd s
+took-over stamp (Send part d) id s = absurd s
+took-over stamp (Leave i d) id s = absurd s
+took-over stamp (HangUp d) id s = absurd s
+took-over stamp (Call q next) id s = absurd s
+took-over stamp (Hear next) id s = absurd s
+
+pub took-gone : {T : Type 0} (stamp : Stamp) (d : Dialogue T) (id : ℕ) → IsRead d → Walks stamp d id (call.Take id (Ok taking.Gone) ∷ []) (Answer (Err Closed)) id
+took-gone stamp (Read cleanup decides next) id s = (_, id, (refl, refl, refl), (refl, refl))
+took-gone stamp (Answer r) id s = absurd s
+took-gone stamp (Ask copying part d) id s = absurd s
+took-gone stamp (Send part d) id s = absurd s
+took-gone stamp (Leave i d) id s = absurd s
+took-gone stamp (HangUp d) id s = absurd s
+took-gone stamp (Call q next) id s = absurd s
+took-gone stamp (Hear next) id s = absurd s
+
+pub take-refused : {T : Type 0} (stamp : Stamp) (d : Dialogue T) (id : ℕ) (e : DeskFault) → IsRead d → Walks stamp d id (call.Take id (Err e) ∷ []) (Answer (Err (of_fault e))) id
+take-refused stamp (Read cleanup decides next) id e s = (_, id, (refl, refl, refl), (refl, refl))
+take-refused stamp (Answer r) id e s = absurd s
+take-refused stamp (Ask copying part d) id e s = absurd s
+take-refused stamp (Send part d) id e s = absurd s
+take-refused stamp (Leave i d) id e s = absurd s
+take-refused stamp (HangUp d) id e s = absurd s
+take-refused stamp (Call q next) id e s = absurd s
+take-refused stamp (Hear next) id e s = absurd s

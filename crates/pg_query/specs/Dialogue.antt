@@ -1,0 +1,122 @@
+-- What a command asks of its desk and what it answers, as a tree, and how events lead along it.
+use Rattle.std.specs.Prelude.{◌≡◌, ℕ, List, [], ◌∷◌, ◌++◌, Bool, false, if◌then◌else◌, Result, Ok, Err}
+use Rattle.pg_spec.specs.RawMessages.{RawMessage}
+use Rattle.pg_desk.specs.declared.event.Stamp.{Stamp}
+use Rattle.pg_desk.specs.declared.event.DeskFault.{DeskFault}
+use Rattle.pg_desk.specs.declared.event.DeskFault.TheVariants as fault
+use Rattle.pg_desk.specs.declared.event.Take.TheVariants as taking
+use Rattle.pg_desk.specs.declared.event.Event.{Event}
+use Rattle.pg_desk.specs.declared.event.Event.TheVariants as call
+use Rattle.pg_errors.specs.declared.error.Error.{Error}
+use Rattle.pg_errors.specs.declared.error.Error.TheVariants.{Closed}
+use Rattle.pg_query.specs.declared.query.Query.{Query}
+use Rattle.pg_query.specs.declared.query.Query.TheVariants as query
+use Rattle.pg_query.specs.declared.query.Reply.{Reply}
+use Rattle.pg_query.specs.declared.query.Reply.TheVariants as reply
+use Rattle.pg_query.specs.declared.query.Cleanup.{Cleanup}
+use Rattle.pg_query.specs.declared.query.Cleanup.TheVariants.{Release, Post}
+use Rattle.pg_query.specs.Faults.{of_fault}
+
+-- A command from one moment on. It ends in its answer.
+pub data Dialogue (T : Type 0) : Type 0 where
+  Answer : Result T Error → Dialogue T
+  -- books a request, a copy or not, whose messages are read from now on
+  Ask : Bool → List ℕ → Dialogue T → Dialogue T
+  -- books a request that is hung up at once
+  Send : List ℕ → Dialogue T → Dialogue T
+  -- hangs up a request that was sent
+  Leave : ℕ → Dialogue T → Dialogue T
+  -- reads messages of the request up to the first by which they decide, and goes on with those read
+  Read : List Cleanup → (List RawMessage → Bool) → (List RawMessage → Dialogue T) → Dialogue T
+  -- hangs up the request that is read
+  HangUp : Dialogue T → Dialogue T
+  -- asks the desk something, and goes on with what it is told
+  Call : Query → (Reply → Dialogue T) → Dialogue T
+  -- stands between a query and its reply; no command writes it
+  Hear : (Reply → Dialogue T) → Dialogue T
+
+-- The dialogue after one more message came that is not read yet. A request that is hung up, or makes place for another, has none.
+abbrev pub feed_one : {T : Type 0} → RawMessage → Dialogue T → Dialogue T
+feed_one m (Answer r) = Answer r
+feed_one m (Ask copying part d) = Ask copying part d
+feed_one m (Send part d) = Send part (feed_one m d)
+feed_one m (Leave id d) = Leave id (feed_one m d)
+feed_one m (Read cleanup decides next) =
+    if decides (m ∷ []) then next (m ∷ []) else Read cleanup (λ ms. decides (m ∷ ms)) (λ ms. next (m ∷ ms))
+feed_one m (HangUp d) = HangUp d
+feed_one m (Call q next) = Call q (λ r. feed_one m (next r))
+feed_one m (Hear next) = Hear (λ r. feed_one m (next r))
+
+-- the same of several messages, in order
+abbrev pub feed : {T : Type 0} → List RawMessage → Dialogue T → Dialogue T
+feed [] d = d
+feed (m ∷ ms) d = feed ms (feed_one m d)
+
+-- what a query is told by an event
+abbrev pub Told : Query → Event → Result Reply DeskFault → Type 0
+Told query.NextStatement (call.NextStatement (Ok n)) r = r ≡ Ok (reply.Number n)
+Told query.NextStatement (call.NextStatement (Err fault.Encode)) r = r ≡ Ok reply.Spent
+Told query.NextStatement (call.NextStatement (Err e)) r = r ≡ Err e
+Told query.NextPortal (call.NextPortal (Ok n)) r = r ≡ Ok (reply.Number n)
+Told query.NextPortal (call.NextPortal (Err fault.Encode)) r = r ≡ Ok reply.Spent
+Told query.NextPortal (call.NextPortal (Err e)) r = r ≡ Err e
+Told _ _ r = ⊥
+
+-- where a reply leads
+abbrev pub after_reply : {T : Type 0} → Result Reply DeskFault → (Reply → Dialogue T) → Dialogue T
+after_reply (Ok r) next = next r
+after_reply (Err e) next = Answer (Err (of_fault e))
+
+-- By this event a dialogue that reads request `id` goes on as another, which reads `id'`.
+abbrev pub Steps : {T : Type 0} → Stamp → Dialogue T → ℕ → Event → Dialogue T → ℕ → Type 0
+Steps stamp (Ask copying part d) id (call.Book stamp' part' copying' (Ok new)) d' id' =
+    (stamp' ≡ stamp) × (part' ≡ part) × (copying' ≡ copying) × (d' ≡ d) × (id' ≡ new)
+Steps stamp (Ask copying part d) id (call.Book stamp' part' copying' (Err e)) d' id' =
+    (stamp' ≡ stamp) × (part' ≡ part) × (copying' ≡ copying) × (d' ≡ Answer (Err (of_fault e))) × (id' ≡ id)
+Steps stamp (Send part d) id (call.Book stamp' part' copying (Ok new)) d' id' =
+    (stamp' ≡ stamp) × (part' ≡ part) × (copying ≡ false) × (d' ≡ Leave new d) × (id' ≡ id)
+Steps stamp (Send part d) id (call.Book stamp' part' copying (Err e)) d' id' =
+    (stamp' ≡ stamp) × (part' ≡ part) × (copying ≡ false) × (d' ≡ Answer (Err (of_fault e))) × (id' ≡ id)
+Steps stamp (Leave sent d) id (call.HangUp which (Ok x)) d' id' = (which ≡ sent) × (d' ≡ d) × (id' ≡ id)
+Steps stamp (Leave sent d) id (call.HangUp which (Err e)) d' id' = (which ≡ sent) × (d' ≡ Answer (Err (of_fault e))) × (id' ≡ id)
+Steps stamp (Read cleanup decides next) id (call.Take which (Ok (taking.Batch ms))) d' id' =
+    (which ≡ id) × (d' ≡ feed ms (Read cleanup decides next)) × (id' ≡ id)
+Steps stamp (Read cleanup decides next) id (call.Take which (Ok taking.Empty)) d' id' = (which ≡ id) × (d' ≡ Read cleanup decides next) × (id' ≡ id)
+Steps stamp (Read cleanup decides next) id (call.Take which (Ok taking.Over)) d' id' = (which ≡ id) × (d' ≡ Answer (Err Closed)) × (id' ≡ id)
+Steps stamp (Read cleanup decides next) id (call.Take which (Ok taking.Gone)) d' id' = (which ≡ id) × (d' ≡ Answer (Err Closed)) × (id' ≡ id)
+Steps stamp (Read cleanup decides next) id (call.Take which (Err e)) d' id' = (which ≡ id) × (d' ≡ Answer (Err (of_fault e))) × (id' ≡ id)
+Steps stamp (HangUp d) id (call.HangUp which (Ok x)) d' id' = (which ≡ id) × (d' ≡ d) × (id' ≡ id)
+Steps stamp (HangUp d) id (call.HangUp which (Err e)) d' id' = (which ≡ id) × (d' ≡ Answer (Err (of_fault e))) × (id' ≡ id)
+Steps stamp (Call q next) id e d' id' = (r : Result Reply DeskFault) × Told q e r × (d' ≡ after_reply r next) × (id' ≡ id)
+Steps stamp _ id _ d' id' = ⊥
+
+-- a whole list of events
+abbrev pub Walks : {T : Type 0} → Stamp → Dialogue T → ℕ → List Event → Dialogue T → ℕ → Type 0
+Walks stamp d id [] d' id' = (d' ≡ d) × (id' ≡ id)
+Walks {T} stamp d id (e ∷ es) d' id' = (mid : Dialogue T) × (n : ℕ) × Steps stamp d id e mid n × Walks stamp mid n es d' id'
+
+-- what a command does where it is given up, as a dialogue of its own
+abbrev pub cleaning : List Cleanup → Dialogue (Unit {0})
+cleaning [] = Answer (Ok tt)
+cleaning (Release ∷ cs) = HangUp (cleaning cs)
+cleaning (Post part ∷ cs) = Send part (cleaning cs)
+
+-- One dialogue, and another behind its answer. What is left to do at each message of the first is done behind its own.
+abbrev pub behind : {A T : Type 0} → List Cleanup → Dialogue A → (Result A Error → Dialogue T) → Dialogue T
+behind extra (Answer r) f = f r
+behind extra (Ask copying part d) f = Ask copying part (behind extra d f)
+behind extra (Send part d) f = Send part (behind extra d f)
+behind extra (Leave id d) f = Leave id (behind extra d f)
+behind extra (Read cleanup decides next) f = Read (cleanup ++ extra) decides (λ ms. behind extra (next ms) f)
+behind extra (HangUp d) f = HangUp (behind extra d f)
+behind extra (Call q next) f = Call q (λ r. behind extra (next r) f)
+behind extra (Hear next) f = Hear (λ r. behind extra (next r) f)
+
+-- the same, where an error is the whole answer
+abbrev pub or_answer : {A T : Type 0} → (A → Dialogue T) → Result A Error → Dialogue T
+or_answer f (Ok x) = f x
+or_answer f (Err e) = Answer (Err e)
+
+-- one dialogue, and another behind its value
+abbrev pub then_do : {A T : Type 0} → Dialogue A → (A → Dialogue T) → Dialogue T
+then_do d f = behind [] d (or_answer f)

@@ -1,0 +1,50 @@
+//! What is left to do where a command is given up, as a script of its own.
+
+use crate::query::{Cleanup, Reply};
+use crate::script::{Action, Script, Want};
+use pg_wire::{Message, WireFault};
+use std::alloc::{AllocError, Global};
+use std::collections::VecDeque;
+
+#[derive(Drop)]
+pub(crate) struct Cleaner {
+    pub(crate) left: VecDeque<Cleanup>,
+}
+
+impl Script for Cleaner {
+    ghost use Rattle.pg_query.specs.Cleaners.{cleaner_dialogue, cleaner_waits, cleaner_steps};
+
+    type Output = ();
+
+    ghost dialogue = { cleaner_dialogue };
+
+    ghost waits = { cleaner_waits };
+
+    ghost steps = { cleaner_steps };
+
+    fn next(&mut self, alloc: Global) -> Result<Want<()>, AllocError> {
+        match self.left.pop_front() {
+            None => Ok(Want::Answer(Ok(()))),
+            Some(Cleanup::Release) => Ok(Want::Act(Action::HangUp)),
+            Some(Cleanup::Post(part)) => Ok(Want::Act(Action::Send(part))),
+        }
+    }
+
+    fn message(
+        &mut self,
+        alloc: Global,
+        message: Result<Message, WireFault>,
+    ) -> Result<Want<()>, AllocError> {
+        // It reads nothing.
+        Err(AllocError)
+    }
+
+    fn reply(&mut self, alloc: Global, reply: Reply) -> Result<Want<()>, AllocError> {
+        // It asks nothing.
+        Err(AllocError)
+    }
+
+    fn cleanup(&self, alloc: Global) -> Result<VecDeque<Cleanup>, AllocError> {
+        Err(AllocError)
+    }
+}

@@ -1,0 +1,325 @@
+//! The one loop that runs every script.
+
+ghost use Rattle.std.specs.Prelude.{◌≡◌, ◌≤◌, ◌<◌, [], length, MatchResult, MatchOption, IfOk, IfNone};
+ghost use Rattle.pg_query.specs.Meaning.{meaning, meaning_at, Goes, GoesToAnswer, Reads, Waits, MatchPoll, Pulls};
+ghost use Rattle.pg_query.specs.Scripts.{ReadsAt, HearsAt, IsWanted, heard, GoesOn, Falls};
+ghost use Rattle.pg_query.specs.declared.script.Want.TheVariants.{Act};
+ghost use Rattle.pg_query.specs.declared.script.Action.TheVariants.{Ask, Send, HangUp, Call};
+
+use crate::asking::ask_desk;
+use crate::fault::{error_of, is_want_of_memory};
+use crate::query::{Query, Reply};
+use crate::script::{Action, Script, Want};
+use bytes::Bytes;
+use futures::task::Poll;
+use pg_desk::{Desk, Stamp, Take};
+use pg_errors::Error;
+use pg_wire::BackendMessages;
+use std::alloc::Global;
+
+/// A script, the request that it reads, and the messages of it that came and aren't read yet.
+#[derive(Drop)]
+pub struct Running<S: Script> {
+    pub(crate) script: S,
+    pub(crate) id: u64,
+    pub(crate) batch: BackendMessages,
+}
+
+impl<S: Script> Running<S> {
+    /// A script at its begin. It takes no memory.
+    pub(crate) fn new(script: S) -> Running<S>
+        ensures script { result.script ≡ script }
+        ensures batch { result.batch ≡ [] }
+    {
+        Running::at(script, 0)
+    }
+
+    /// A script that goes on with a request that was booked.
+    pub(crate) fn at(script: S, id: u64) -> Running<S>
+        ensures script { result.script ≡ script }
+        ensures id { result.id ≡ id }
+        ensures batch { result.batch ≡ [] }
+    {
+        Running {
+            script,
+            id,
+            batch: BackendMessages::empty(),
+        }
+    }
+
+    fn next(&mut self, alloc: Global) -> Result<Want<S::Output>, Error>
+        ensures step { MatchResult result (λ want. GoesOn S.dialogue S.waits (S.dialogue self.old.script) want self.new.script) (λ e. e ≡ Error.OutOfMemory) }
+        ensures falls { IfOk result (λ want. Falls want (S.steps self.old.script) (S.steps self.new.script)) }
+        ensures id { self.new.id ≡ self.old.id }
+        ensures batch { self.new.batch ≡ self.old.batch }
+    {
+        match self.script.next(alloc) {
+            Ok(want) => Ok(want),
+            Err(_) => Err(Error::OutOfMemory),
+        }
+    }
+
+    /// Gives the script the next message that came. None comes exactly where there is none.
+    fn pull(&mut self, alloc: Global) -> Result<Option<Want<S::Output>>, Error>
+        requires { ReadsAt S.dialogue S.waits self.old.script }
+        ensures { Pulls S.dialogue S.waits self.old self.new result }
+    {
+        match self.batch.next() {
+            Ok(None) => Ok(None),
+            Ok(Some(message)) => match self.script.message(alloc, Ok(message)) {
+                Ok(want) => Ok(Some(want)),
+                Err(_) => Err(Error::OutOfMemory),
+            },
+            Err(fault) => {
+                if is_want_of_memory(fault) {
+                    return Err(Error::OutOfMemory);
+                }
+                // Nothing behind a malformed message is read.
+                self.batch = BackendMessages::empty();
+                match self.script.message(alloc, Err(fault)) {
+                    Ok(want) => Ok(Some(want)),
+                    Err(_) => Err(Error::OutOfMemory),
+                }
+            }
+        }
+    }
+
+    fn reply(&mut self, alloc: Global, reply: Reply) -> Result<Want<S::Output>, Error>
+        requires { HearsAt S.dialogue S.waits self.old.script }
+        ensures step { MatchResult result (λ want. GoesOn S.dialogue S.waits (heard reply (S.dialogue self.old.script)) want self.new.script) (λ e. e ≡ Error.OutOfMemory) }
+        ensures falls { IfOk result (λ want. Falls want (S.steps self.old.script) (S.steps self.new.script)) }
+        ensures id { self.new.id ≡ self.old.id }
+        ensures batch { self.new.batch ≡ self.old.batch }
+    {
+        match self.script.reply(alloc, reply) {
+            Ok(want) => Ok(want),
+            Err(_) => Err(Error::OutOfMemory),
+        }
+    }
+
+    fn ask<D: Desk>(
+        &mut self,
+        alloc: Global,
+        desk: &mut D,
+        stamp: Stamp,
+        copying: bool,
+        part: Bytes,
+    ) -> Result<Want<S::Output>, Error>
+        ensures goes { MatchResult result
+            (λ want. Goes D.becomes stamp desk.old (meaning_at S.dialogue self.old (Act (Ask copying part))) desk.new (meaning_at S.dialogue self.new want))
+            (λ e. GoesToAnswer D.becomes stamp desk.old (meaning_at S.dialogue self.old (Act (Ask copying part))) desk.new (Err e)) }
+        ensures wanted { IfOk result (λ want. IsWanted S.dialogue S.waits want self.new.script) }
+        ensures falls { IfOk result (λ want. Falls want (S.steps self.old.script) (S.steps self.new.script)) }
+        ensures count { D.undelivered desk.new ≤ D.undelivered desk.old }
+        ensures batch { length self.new.batch ≤ length self.old.batch }
+    {
+        match desk.book(alloc, stamp, part, copying) {
+            Ok(id) => {
+                self.id = id;
+                self.batch = BackendMessages::empty();
+                self.next(alloc)
+            }
+            Err(fault) => Err(error_of(fault)),
+        }
+    }
+
+    fn send<D: Desk>(
+        &mut self,
+        alloc: Global,
+        desk: &mut D,
+        stamp: Stamp,
+        part: Bytes,
+    ) -> Result<Want<S::Output>, Error>
+        ensures goes { MatchResult result
+            (λ want. Goes D.becomes stamp desk.old (meaning_at S.dialogue self.old (Act (Send part))) desk.new (meaning_at S.dialogue self.new want))
+            (λ e. GoesToAnswer D.becomes stamp desk.old (meaning_at S.dialogue self.old (Act (Send part))) desk.new (Err e)) }
+        ensures wanted { IfOk result (λ want. IsWanted S.dialogue S.waits want self.new.script) }
+        ensures falls { IfOk result (λ want. Falls want (S.steps self.old.script) (S.steps self.new.script)) }
+        ensures count { D.undelivered desk.new ≤ D.undelivered desk.old }
+        ensures batch { length self.new.batch ≤ length self.old.batch }
+    {
+        let sent = match desk.book(alloc, stamp, part, false) {
+            Ok(id) => id,
+            Err(fault) => return Err(error_of(fault)),
+        };
+        match desk.hang_up(sent) {
+            Ok(()) => self.next(alloc),
+            Err(fault) => Err(error_of(fault)),
+        }
+    }
+
+    fn hang_up_own<D: Desk>(
+        &mut self,
+        alloc: Global,
+        desk: &mut D,
+        stamp: Stamp,
+    ) -> Result<Want<S::Output>, Error>
+        ensures goes { MatchResult result
+            (λ want. Goes D.becomes stamp desk.old (meaning_at S.dialogue self.old (Act HangUp)) desk.new (meaning_at S.dialogue self.new want))
+            (λ e. GoesToAnswer D.becomes stamp desk.old (meaning_at S.dialogue self.old (Act HangUp)) desk.new (Err e)) }
+        ensures wanted { IfOk result (λ want. IsWanted S.dialogue S.waits want self.new.script) }
+        ensures falls { IfOk result (λ want. Falls want (S.steps self.old.script) (S.steps self.new.script)) }
+        ensures count { D.undelivered desk.new ≤ D.undelivered desk.old }
+        ensures batch { length self.new.batch ≤ length self.old.batch }
+    {
+        match desk.hang_up(self.id) {
+            Ok(()) => {
+                self.batch = BackendMessages::empty();
+                self.next(alloc)
+            }
+            Err(fault) => Err(error_of(fault)),
+        }
+    }
+
+    fn call<D: Desk>(
+        &mut self,
+        alloc: Global,
+        desk: &mut D,
+        stamp: Stamp,
+        query: Query,
+    ) -> Result<Want<S::Output>, Error>
+        requires { HearsAt S.dialogue S.waits self.old.script }
+        ensures goes { MatchResult result
+            (λ want. Goes D.becomes stamp desk.old (meaning_at S.dialogue self.old (Act (Call query))) desk.new (meaning_at S.dialogue self.new want))
+            (λ e. GoesToAnswer D.becomes stamp desk.old (meaning_at S.dialogue self.old (Act (Call query))) desk.new (Err e)) }
+        ensures wanted { IfOk result (λ want. IsWanted S.dialogue S.waits want self.new.script) }
+        ensures falls { IfOk result (λ want. Falls want (S.steps self.old.script) (S.steps self.new.script)) }
+        ensures count { D.undelivered desk.new ≤ D.undelivered desk.old }
+        ensures batch { length self.new.batch ≤ length self.old.batch }
+    {
+        match ask_desk(desk, query) {
+            Ok(reply) => self.reply(alloc, reply),
+            Err(fault) => Err(error_of(fault)),
+        }
+    }
+
+    /// Does one thing that the script wants.
+    fn act<D: Desk>(
+        &mut self,
+        alloc: Global,
+        desk: &mut D,
+        stamp: Stamp,
+        action: Action,
+    ) -> Result<Want<S::Output>, Error>
+        requires { IsWanted S.dialogue S.waits (Act action) self.old.script }
+        ensures goes { MatchResult result
+            (λ want. Goes D.becomes stamp desk.old (meaning_at S.dialogue self.old (Act action)) desk.new (meaning_at S.dialogue self.new want))
+            (λ e. GoesToAnswer D.becomes stamp desk.old (meaning_at S.dialogue self.old (Act action)) desk.new (Err e)) }
+        ensures wanted { IfOk result (λ want. IsWanted S.dialogue S.waits want self.new.script) }
+        ensures falls { IfOk result (λ want. Falls want (S.steps self.old.script) (S.steps self.new.script)) }
+        ensures count { D.undelivered desk.new ≤ D.undelivered desk.old }
+        ensures batch { length self.new.batch ≤ length self.old.batch }
+    {
+        match action {
+            Action::Ask(copying, part) => self.ask(alloc, desk, stamp, copying, part),
+            Action::Send(part) => self.send(alloc, desk, stamp, part),
+            Action::HangUp => self.hang_up_own(alloc, desk, stamp),
+            Action::Call(query) => self.call(alloc, desk, stamp, query),
+        }
+    }
+
+    /// Does what the script wants, until it reads or answers.
+    fn settle<D: Desk>(
+        &mut self,
+        alloc: Global,
+        desk: &mut D,
+        stamp: Stamp,
+        want: Want<S::Output>,
+    ) -> Option<Result<S::Output, Error>>
+        requires { IsWanted S.dialogue S.waits want self.old.script }
+        ensures goes { MatchOption result
+            (Reads D.becomes S.dialogue S.waits stamp desk.old (meaning_at S.dialogue self.old want) desk.new self.new)
+            (λ r. GoesToAnswer D.becomes stamp desk.old (meaning_at S.dialogue self.old want) desk.new r) }
+        ensures count { D.undelivered desk.new ≤ D.undelivered desk.old }
+        ensures batch { length self.new.batch ≤ length self.old.batch }
+    {
+        let mut want = want;
+        loop {
+            match want {
+                Want::Answer(answer) => return Some(answer),
+                Want::Read => return None,
+                Want::Act(action) => match self.act(alloc, desk, stamp, action) {
+                    Ok(next) => want = next,
+                    Err(error) => return Some(Err(error)),
+                },
+            }
+        }
+    }
+
+    /// Gives the script the messages that came, until it answers or none is left.
+    fn read<D: Desk>(
+        &mut self,
+        alloc: Global,
+        desk: &mut D,
+        stamp: Stamp,
+    ) -> Option<Result<S::Output, Error>>
+        requires { ReadsAt S.dialogue S.waits self.old.script }
+        ensures goes { MatchOption result
+            (Reads D.becomes S.dialogue S.waits stamp desk.old (meaning S.dialogue self.old) desk.new self.new)
+            (λ r. GoesToAnswer D.becomes stamp desk.old (meaning S.dialogue self.old) desk.new r) }
+        ensures empty { IfNone result (self.new.batch ≡ []) }
+        ensures count { D.undelivered desk.new ≤ D.undelivered desk.old }
+    {
+        loop {
+            match self.pull(alloc) {
+                Ok(None) => return None,
+                Ok(Some(want)) => {
+                    if let Some(answer) = self.settle(alloc, desk, stamp, want) {
+                        return Some(answer);
+                    }
+                }
+                Err(error) => return Some(Err(error)),
+            }
+        }
+    }
+
+    /// These messages are read next.
+    fn refill(&mut self, batch: BackendMessages)
+        ensures { self.new ≡ record self.old { batch = batch } }
+    {
+        self.batch = batch;
+    }
+
+    /// Takes batches and reads them, until the script answers or its mailbox is empty.
+    pub(crate) fn go_on<D: Desk>(
+        &mut self,
+        alloc: Global,
+        desk: &mut D,
+        stamp: Stamp,
+    ) -> Poll<Result<S::Output, Error>>
+        requires { ReadsAt S.dialogue S.waits self.old.script }
+        ensures { MatchPoll result
+            (λ r. GoesToAnswer D.becomes stamp desk.old (meaning S.dialogue self.old) desk.new r)
+            (Waits D.becomes S.dialogue S.waits stamp desk.old self.old desk.new self.new) }
+    {
+        loop {
+            if let Some(answer) = self.read(alloc, desk, stamp) {
+                return Poll::Ready(answer);
+            }
+            match desk.take(self.id) {
+                Ok(Take::Batch(batch)) => self.refill(batch),
+                Ok(Take::Empty) => return Poll::Pending,
+                Ok(Take::Over) => return Poll::Ready(Err(Error::Closed)),
+                Ok(Take::Gone) => return Poll::Ready(Err(Error::Closed)),
+                Err(fault) => return Poll::Ready(Err(error_of(fault))),
+            }
+        }
+    }
+
+    /// Begins the command.
+    pub(crate) fn begin<D: Desk>(
+        &mut self,
+        alloc: Global,
+        desk: &mut D,
+        stamp: Stamp,
+    ) -> Option<Result<S::Output, Error>>
+        ensures goes { MatchOption result
+            (Reads D.becomes S.dialogue S.waits stamp desk.old (meaning S.dialogue self.old) desk.new self.new)
+            (λ r. GoesToAnswer D.becomes stamp desk.old (meaning S.dialogue self.old) desk.new r) }
+    {
+        match self.next(alloc) {
+            Ok(want) => self.settle(alloc, desk, stamp, want),
+            Err(error) => Some(Err(error)),
+        }
+    }
+}

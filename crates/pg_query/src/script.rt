@@ -1,0 +1,74 @@
+//! A command as a script: what it wants next.
+
+ghost use Rattle.std.specs.Prelude.{◌≡◌, ◌<◌, ℕ, IfOk};
+ghost use Rattle.pg_spec.specs.RawMessages.{RawMessage};
+ghost use Rattle.pg_query.specs.Dialogue.{Dialogue, feed_one};
+ghost use Rattle.pg_query.specs.Messages.{Means};
+ghost use Rattle.pg_query.specs.Scripts.{Waiting, IsMessage, IsReply, heard, GoesOn, Stops, Falls, cleanup_of};
+
+use crate::query::{Cleanup, Query, Reply};
+use bytes::Bytes;
+use pg_errors::Error;
+use pg_wire::{Message, WireFault};
+use std::alloc::{AllocError, Global};
+use std::collections::VecDeque;
+
+/// What is done at the desk.
+#[derive(Drop)]
+pub enum Action {
+    /// Books a request, a copy or not, whose messages are read from then on.
+    Ask(bool, Bytes),
+    /// Books a request and hangs it up.
+    Send(Bytes),
+    /// Hangs up the request that is read.
+    HangUp,
+    /// Asks the desk something. The reply comes by `reply`.
+    Call(Query),
+}
+
+/// What a script wants next.
+#[derive(Drop)]
+pub enum Want<T> {
+    Answer(Result<T, Error>),
+    Act(Action),
+    Read,
+}
+
+/// A command, step by step. The error of each step is want of memory.
+pub trait Script: Drop {
+    type Output: Drop;
+
+    /// What it asks and answers from here on. What it wants is handed out, and this is what comes behind
+    /// it.
+    ghost dialogue: { Self → Dialogue Self.Output };
+
+    /// What it waits for.
+    ghost waits: { (s : Self) → Waiting (dialogue s) };
+
+    /// Falls in each step that wants another.
+    ghost steps: { Self → ℕ };
+
+    /// What it wants at its begin, and behind each action.
+    fn next(&mut self, alloc: Global) -> Result<Want<Self::Output>, AllocError>
+        ensures goes_on { IfOk result (λ want. GoesOn dialogue waits (dialogue self.old) want self.new) }
+        ensures falls { IfOk result (λ want. Falls want (steps self.old) (steps self.new)) };
+
+    /// The next message of the request that is read, or what is wrong with it. Behind a malformed one
+    /// nothing is read.
+    fn message(
+        &mut self,
+        alloc: Global,
+        message: Result<Message, WireFault>,
+    ) -> Result<Want<Self::Output>, AllocError>
+        ensures goes_on { (raw : RawMessage) → Means raw message → IsMessage (waits self.old) → IfOk result (λ want. GoesOn dialogue waits (feed_one raw (dialogue self.old)) want self.new) }
+        ensures stops { (raw : RawMessage) → Means raw message → IsMessage (waits self.old) → IfOk result (λ want. Stops message want) };
+
+    /// The reply to what it asked of the desk.
+    fn reply(&mut self, alloc: Global, reply: Reply) -> Result<Want<Self::Output>, AllocError>
+        ensures goes_on { IsReply (waits self.old) → IfOk result (λ want. GoesOn dialogue waits (heard reply (dialogue self.old)) want self.new) }
+        ensures falls { IsReply (waits self.old) → IfOk result (λ want. Falls want (steps self.old) (steps self.new)) };
+
+    /// What is left to do where the command is given up while it reads.
+    fn cleanup(&self, alloc: Global) -> Result<VecDeque<Cleanup>, AllocError>
+        ensures { IsMessage (waits self.now) → IfOk result (λ left. left.items ≡ cleanup_of (dialogue self.now)) };
+}
