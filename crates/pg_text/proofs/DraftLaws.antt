@@ -1,34 +1,37 @@
 -- What is said line by line is what the lines mean together.
-use Rattle.std.proofs.Common.{◌≡◌, ◌≢◌, ◌≤◌, ◌⊎◌, ℕ, Bool, true, false, cond, List, [], ◌∷◌, ◌++◌, map, flat_map, Option, Some, None, refl, sym, ap, subst, ◌∙◌, append_assoc, append-nil, inl, inr}
+use Rattle.std.proofs.Common.{◌≡◌, ◌≢◌, ◌<◌, ◌≤◌, ◌-◌, ◌⊎◌, ℕ, zero, suc, length, get_or, set, arith, ◌+◌, length-append, Bool, true, false, cond, List, [], ◌∷◌, ◌++◌, map, flat_map, Option, Some, None, refl, sym, ap, subst, ◌∙◌, append_assoc, append-nil, inl, inr}
 use Rattle.std.specs.Prelude.{filter, filter_map, option_to_list, IfSome, unwrap_or}
-use Rattle.std.specs.List.{concat, cons_option, slice_split, onto_first}
+use Rattle.std.specs.List.{All, concat, cons_option, slice_split, onto_first}
 use Rattle.std.proofs.lemmas.List.Elements.{filter-append, filter_map-append}
 use Rattle.std.proofs.lemmas.List.{map-append}
 use Rattle.std.proofs.lemmas.List.Concat.{flat_map-append}
 use Rattle.pg_spec.specs.Report.{Command}
 use Rattle.pg_spec.specs.SessionText.{ConfigLine, CutLine, CommandLine, HandleLine, LimitLine, Line, Nothing, StepLine, TurnsLine, command_of, config_of, cut_of, is_handle, is_said, limit_of, step_of, turns_of, one_or, Say, SessionText}
-use Rattle.pg_text.specs.Drafts.{SoFar, begun, in_script, once, onto_last, with_line}
+use Rattle.pg_text.specs.declared.command.Command as asked
+use Rattle.pg_text.specs.declared.parse.Draft.{Draft}
+use Rattle.pg_text.specs.Views.{command_of as view_of, scripts_of}
+use Rattle.pg_text.specs.Drafts.{AddsLast, Steps, so_far, SoFar, begun, in_script, once, onto_last, session_so_far, with_line}
 
 -- no line has said anything
 pub record SaidNothing (lines : List Line) (s : SoFar) : Type 0 where
-  first : filter is_said lines ≡ []
-  config : s.config ≡ None
-  limit : s.limit ≡ None
-  cut : s.cut ≡ None
-  turns : s.turns ≡ []
-  plan : s.plan ≡ []
-  scripts : s.scripts ≡ []
+  pub first : filter is_said lines ≡ []
+  pub config : s.config ≡ None
+  pub limit : s.limit ≡ None
+  pub cut : s.cut ≡ None
+  pub turns : s.turns ≡ []
+  pub plan : s.plan ≡ []
+  pub scripts : s.scripts ≡ []
 
 -- the lines have said this behind `config`
 pub record Said (lines : List Line) (text : List ℕ) (others : List Line) (s : SoFar) : Type 0 where
-  first : filter is_said lines ≡ ConfigLine text ∷ others
-  one_config : filter_map config_of others ≡ []
-  config : s.config ≡ Some text
-  limit : filter_map limit_of others ≡ option_to_list s.limit
-  cut : filter_map cut_of others ≡ option_to_list s.cut
-  turns : s.turns ≡ flat_map turns_of others
-  plan : s.plan ≡ filter_map step_of others
-  scripts : map (filter_map command_of) (slice_split is_handle others) ≡ [] ∷ s.scripts
+  pub first : filter is_said lines ≡ ConfigLine text ∷ others
+  pub one_config : filter_map config_of others ≡ []
+  pub config : s.config ≡ Some text
+  pub limit : filter_map limit_of others ≡ option_to_list s.limit
+  pub cut : filter_map cut_of others ≡ option_to_list s.cut
+  pub turns : s.turns ≡ flat_map turns_of others
+  pub plan : s.plan ≡ filter_map step_of others
+  pub scripts : map (filter_map command_of) (slice_split is_handle others) ≡ [] ∷ s.scripts
 
 abbrev pub Drafted : List Line → SoFar → Type 0
 Drafted lines s = SaidNothing lines s ⊎ ((text : List ℕ) × (others : List Line) × Said lines text others s)
@@ -144,60 +147,105 @@ in_script_some (script ∷ more) o t e = let same : o ≡ t = cc in (script, mor
 pub line_said : (lines : List Line) (s : SoFar) (l : Line) (t : SoFar) → Drafted lines s → with_line l s ≡ Some t → Drafted (lines ++ l ∷ []) t
 line_said lines s Nothing t (inl h) e =
     along (lines ++ Nothing ∷ []) (Some s) s t refl (inl (record {
-      first = nothing_more lines ∙ h.first; config = h.config; limit = h.limit; cut = h.cut; turns = h.turns; plan = h.plan; scripts = h.scripts;
-    })) e
-line_said lines s Nothing t (inr (text, others, h)) e =
-    along (lines ++ Nothing ∷ []) (Some s) s t refl (inr (text, others, record {
-      first = nothing_more lines ∙ h.first; one_config = h.one_config; config = h.config; limit = h.limit; cut = h.cut; turns = h.turns; plan = h.plan; scripts = h.scripts;
-    })) e
-line_said lines s (ConfigLine text) t (inl h) e =
-    along (lines ++ ConfigLine text ∷ []) (with_line (ConfigLine text) s) (record s { config = Some text }) t (ap (λ c. once c (Some (record s { config = Some text }))) h.config) (inr (text, [], record {
-      first = filter-append is_said lines (ConfigLine text ∷ []) ∙ ap (λ x. x ++ ConfigLine text ∷ []) h.first;
-      one_config = refl;
-      config = refl;
-      limit = sym (ap option_to_list h.limit);
-      cut = sym (ap option_to_list h.cut);
+      first = nothing_more lines ∙ h.first;
+      config = h.config;
+      limit = h.limit;
+      cut = h.cut;
       turns = h.turns;
       plan = h.plan;
-      scripts = ap (λ x. [] ∷ x) (sym h.scripts);
+      scripts = h.scripts;
     })) e
+line_said lines s Nothing t (inr (text, others, h)) e =
+    along (lines ++ Nothing ∷ []) (Some s) s t refl (inr (
+      text,
+      others,
+      record {
+        first = nothing_more lines ∙ h.first;
+        one_config = h.one_config;
+        config = h.config;
+        limit = h.limit;
+        cut = h.cut;
+        turns = h.turns;
+        plan = h.plan;
+        scripts = h.scripts;
+      },
+    )) e
+line_said lines s (ConfigLine text) t (inl h) e =
+    along (lines ++ ConfigLine text ∷ []) (with_line (ConfigLine text) s) (record s { config = Some text }) t (ap (λ c. once c (Some (record s { config = Some text }))) h.config) (inr (
+      text,
+      [],
+      record {
+        first = filter-append is_said lines (ConfigLine text ∷ []) ∙ ap (λ x. x ++ ConfigLine text ∷ []) h.first;
+        one_config = refl;
+        config = refl;
+        limit = sym (ap option_to_list h.limit);
+        cut = sym (ap option_to_list h.cut);
+        turns = h.turns;
+        plan = h.plan;
+        scripts = ap (λ x. [] ∷ x) (sym h.scripts);
+      },
+    )) e
 line_said lines s (ConfigLine text) t (inr (was, others, h)) e = absurd (cc (sym (ap (λ c. once c (Some (record s { config = Some text }))) h.config) ∙ e))
 line_said lines s (LimitLine n) t (inl h) e = absurd (not_begun s.config (once s.limit (Some (record s { limit = Some n }))) t h.config e)
 line_said lines s (LimitLine n) t (inr (text, others, h)) e =
     let fresh = once_some s.limit (record s { limit = Some n }) t (sym (begun_is s.config text (once s.limit (Some (record s { limit = Some n }))) h.config) ∙ e) in
-    subst (Drafted (lines ++ LimitLine n ∷ [])) fresh.1 (inr (text, others ++ LimitLine n ∷ [], more_said lines text others s (LimitLine n) (record s { limit = Some n }) h refl refl refl
-    (ap (λ x. option_to_list x ++ n ∷ []) (sym fresh.0)) (sym (append-nil (option_to_list s.cut))) (sym (append-nil s.turns)) (sym (append-nil s.plan))
-    (scripts_same others (LimitLine n) refl refl ∙ h.scripts)))
+    subst (Drafted (lines ++ LimitLine n ∷ [])) fresh.1 (inr (
+      text,
+      others ++ LimitLine n ∷ [],
+      more_said lines text others s (LimitLine n) (record s { limit = Some n }) h refl refl refl
+          (ap (λ x. option_to_list x ++ n ∷ []) (sym fresh.0)) (sym (append-nil (option_to_list s.cut))) (sym (append-nil s.turns)) (sym (append-nil s.plan))
+          (scripts_same others (LimitLine n) refl refl ∙ h.scripts),
+    ))
 line_said lines s (CutLine n) t (inl h) e = absurd (not_begun s.config (once s.cut (Some (record s { cut = Some n }))) t h.config e)
 line_said lines s (CutLine n) t (inr (text, others, h)) e =
     let fresh = once_some s.cut (record s { cut = Some n }) t (sym (begun_is s.config text (once s.cut (Some (record s { cut = Some n }))) h.config) ∙ e) in
-    subst (Drafted (lines ++ CutLine n ∷ [])) fresh.1 (inr (text, others ++ CutLine n ∷ [], more_said lines text others s (CutLine n) (record s { cut = Some n }) h refl refl refl
-    (sym (append-nil (option_to_list s.limit))) (ap (λ x. option_to_list x ++ n ∷ []) (sym fresh.0)) (sym (append-nil s.turns)) (sym (append-nil s.plan))
-    (scripts_same others (CutLine n) refl refl ∙ h.scripts)))
+    subst (Drafted (lines ++ CutLine n ∷ [])) fresh.1 (inr (
+      text,
+      others ++ CutLine n ∷ [],
+      more_said lines text others s (CutLine n) (record s { cut = Some n }) h refl refl refl
+          (sym (append-nil (option_to_list s.limit))) (ap (λ x. option_to_list x ++ n ∷ []) (sym fresh.0)) (sym (append-nil s.turns)) (sym (append-nil s.plan))
+          (scripts_same others (CutLine n) refl refl ∙ h.scripts),
+    ))
 line_said lines s (TurnsLine turns) t (inl h) e = absurd (not_begun s.config (Some (record s { turns = s.turns ++ turns })) t h.config e)
 line_said lines s (TurnsLine turns) t (inr (text, others, h)) e =
     along (lines ++ TurnsLine turns ∷ []) (with_line (TurnsLine turns) s) (record s { turns = s.turns ++ turns }) t (begun_is s.config text (Some (record s { turns = s.turns ++ turns })) h.config)
-    (inr (text, others ++ TurnsLine turns ∷ [], more_said lines text others s (TurnsLine turns) (record s { turns = s.turns ++ turns }) h refl refl refl
-    (sym (append-nil (option_to_list s.limit))) (sym (append-nil (option_to_list s.cut))) refl (sym (append-nil s.plan))
-    (scripts_same others (TurnsLine turns) refl refl ∙ h.scripts))) e
+    (inr (
+      text,
+      others ++ TurnsLine turns ∷ [],
+      more_said lines text others s (TurnsLine turns) (record s { turns = s.turns ++ turns }) h refl refl refl
+          (sym (append-nil (option_to_list s.limit))) (sym (append-nil (option_to_list s.cut))) refl (sym (append-nil s.plan))
+          (scripts_same others (TurnsLine turns) refl refl ∙ h.scripts),
+    )) e
 line_said lines s (StepLine pieces) t (inl h) e = absurd (not_begun s.config (Some (record s { plan = s.plan ++ concat pieces ∷ [] })) t h.config e)
 line_said lines s (StepLine pieces) t (inr (text, others, h)) e =
     along (lines ++ StepLine pieces ∷ []) (with_line (StepLine pieces) s) (record s { plan = s.plan ++ concat pieces ∷ [] }) t (begun_is s.config text (Some (record s { plan = s.plan ++ concat pieces ∷ [] })) h.config)
-    (inr (text, others ++ StepLine pieces ∷ [], more_said lines text others s (StepLine pieces) (record s { plan = s.plan ++ concat pieces ∷ [] }) h refl refl refl
-    (sym (append-nil (option_to_list s.limit))) (sym (append-nil (option_to_list s.cut))) (sym (append-nil s.turns)) refl
-    (scripts_same others (StepLine pieces) refl refl ∙ h.scripts))) e
+    (inr (
+      text,
+      others ++ StepLine pieces ∷ [],
+      more_said lines text others s (StepLine pieces) (record s { plan = s.plan ++ concat pieces ∷ [] }) h refl refl refl
+          (sym (append-nil (option_to_list s.limit))) (sym (append-nil (option_to_list s.cut))) (sym (append-nil s.turns)) refl
+          (scripts_same others (StepLine pieces) refl refl ∙ h.scripts),
+    )) e
 line_said lines s HandleLine t (inl h) e = absurd (not_begun s.config (Some (record s { scripts = s.scripts ++ [] ∷ [] })) t h.config e)
 line_said lines s HandleLine t (inr (text, others, h)) e =
     along (lines ++ HandleLine ∷ []) (with_line HandleLine s) (record s { scripts = s.scripts ++ [] ∷ [] }) t (begun_is s.config text (Some (record s { scripts = s.scripts ++ [] ∷ [] })) h.config)
-    (inr (text, others ++ HandleLine ∷ [], more_said lines text others s HandleLine (record s { scripts = s.scripts ++ [] ∷ [] }) h refl refl refl
-    (sym (append-nil (option_to_list s.limit))) (sym (append-nil (option_to_list s.cut))) (sym (append-nil s.turns)) (sym (append-nil s.plan))
-    (scripts_handle others HandleLine refl ∙ ap (λ x. x ++ [] ∷ []) h.scripts))) e
+    (inr (
+      text,
+      others ++ HandleLine ∷ [],
+      more_said lines text others s HandleLine (record s { scripts = s.scripts ++ [] ∷ [] }) h refl refl refl
+          (sym (append-nil (option_to_list s.limit))) (sym (append-nil (option_to_list s.cut))) (sym (append-nil s.turns)) (sym (append-nil s.plan))
+          (scripts_handle others HandleLine refl ∙ ap (λ x. x ++ [] ∷ []) h.scripts),
+    )) e
 line_said lines s (CommandLine c) t (inl h) e = absurd (not_begun s.config (in_script s.scripts (Some (record s { scripts = onto_last c s.scripts }))) t h.config e)
 line_said lines s (CommandLine c) t (inr (text, others, h)) e =
     let found = in_script_some s.scripts (record s { scripts = onto_last c s.scripts }) t (sym (begun_is s.config text (in_script s.scripts (Some (record s { scripts = onto_last c s.scripts }))) h.config) ∙ e) in
-    subst (Drafted (lines ++ CommandLine c ∷ [])) found.3 (inr (text, others ++ CommandLine c ∷ [], more_said lines text others s (CommandLine c) (record s { scripts = onto_last c s.scripts }) h refl refl refl
-    (sym (append-nil (option_to_list s.limit))) (sym (append-nil (option_to_list s.cut))) (sym (append-nil s.turns)) (sym (append-nil s.plan))
-    (scripts_command others (CommandLine c) c refl refl ∙ ap (onto_last c) (h.scripts ∙ ap (λ x. [] ∷ x) found.2) ∙ ap (λ x. [] ∷ onto_last c x) (sym found.2))))
+    subst (Drafted (lines ++ CommandLine c ∷ [])) found.3 (inr (
+      text,
+      others ++ CommandLine c ∷ [],
+      more_said lines text others s (CommandLine c) (record s { scripts = onto_last c s.scripts }) h refl refl refl
+          (sym (append-nil (option_to_list s.limit))) (sym (append-nil (option_to_list s.cut))) (sym (append-nil s.turns)) (sym (append-nil s.plan))
+          (scripts_command others (CommandLine c) c refl refl ∙ ap (onto_last c) (h.scripts ∙ ap (λ x. [] ∷ x) found.2) ∙ ap (λ x. [] ∷ onto_last c x) (sym found.2)),
+    ))
 
 -- ---- lines that may not stand there
 
@@ -216,7 +264,7 @@ stray_command (o ∷ others) c rest scripts none e =
     let some = split_some is_handle others in
     let more = split_some is_handle (others ++ (CommandLine c ∷ rest)) in
     elim (is_handle o) as (λ t. commands (cond t ([] ∷ slice_split is_handle others) (onto_first o (slice_split is_handle others))) ≡ [] ∷ [] →
-        commands (cond t ([] ∷ slice_split is_handle (others ++ (CommandLine c ∷ rest))) (onto_first o (slice_split is_handle (others ++ (CommandLine c ∷ rest))))) ≡ [] ∷ scripts → ⊥) [
+    commands (cond t ([] ∷ slice_split is_handle (others ++ (CommandLine c ∷ rest))) (onto_first o (slice_split is_handle (others ++ (CommandLine c ∷ rest))))) ≡ [] ∷ scripts → ⊥) [
       | true ↦ λ p q.
           let shown : [] ∷ filter_map command_of some.0 ∷ commands some.1 ≡ [] ∷ [] = sym (ap (λ t. [] ∷ commands t) some.2) ∙ p in
           cc shown
@@ -293,17 +341,6 @@ line_refused lines s (CommandLine c) more t (inr (text, others, h)) e say =
 
 -- ---- the end
 
--- the session that the lines ask for
-abbrev pub session_so_far : List ℕ → SoFar → SessionText
-session_so_far text s = record {
-  config = text;
-  scripts = s.scripts;
-  turns = s.turns;
-  limit = unwrap_or s.limit 16777216;
-  plan = s.plan;
-  cut = unwrap_or s.cut 8192;
-}
-
 one_or_list : {A : Type 0} (default : A) (o : Option A) → one_or default (option_to_list o) ≡ Some (unwrap_or o default)
 one_or_list default None = refl
 one_or_list default (Some x) = refl
@@ -348,3 +385,65 @@ may_begin lines s (inl h) = (
 )
 may_begin lines s (inr (text, others, h)) =
     ([], session_so_far text s, subst (λ (ls : List Line). Say ls (session_so_far text s)) (sym (append-nil lines)) (said_whole lines text others s h))
+
+-- ---- the last list
+
+set_last : {A : Type 0} (c : A) (n : ℕ) (xs : List (List A)) (last : List A) → length xs ≡ suc n → last ≡ get_or xs n last → set xs n (last ++ c ∷ []) ≡ onto_last c xs
+set_last c zero [] last len is = absurd (omega (arith, len))
+set_last c zero (part ∷ []) last len is = ap (λ p. (p ++ c ∷ []) ∷ []) is
+set_last c zero (part ∷ next ∷ parts) last len is = absurd (omega (arith, len))
+set_last c (suc n) [] last len is = absurd (omega (arith, len))
+set_last c (suc n) (part ∷ []) last len is = absurd (omega (arith, len))
+set_last c (suc n) (part ∷ next ∷ parts) last len is = ap (λ ps. part ∷ ps) (set_last c n (next ∷ parts) last (omega (arith, len)) is)
+
+some_list : {A : Type 0} (xs : List (List A)) → 0 < length xs → (first : List A) × (more : List (List A)) × (xs ≡ first ∷ more)
+some_list [] some = absurd (omega (arith, some))
+some_list (first ∷ more) some = (first, more, refl)
+
+-- the last list was changed in its place
+pub pushed_last : {A : Type 0} (c : A) (xs : List (List A)) (last pushed : List A) (k : ℕ) (stands : Bool) → 0 < k → length xs ≡ k → last ≡ get_or xs (k - 1) last →
+    stands ≡ true → pushed ≡ last ++ c ∷ [] → AddsLast c xs stands (set xs (k - 1) pushed)
+pushed_last c xs last pushed zero stands some len is holds grew = absurd (omega (arith, some))
+pushed_last c xs last pushed (suc n) stands some len is holds grew =
+    let down : suc n - 1 ≡ n = omega arith in
+    let list = some_list xs (omega (arith, len)) in
+    let here : last ≡ get_or xs n last = is ∙ ap (λ m. get_or xs m last) down in
+    let new : set xs (suc n - 1) pushed ≡ onto_last c xs = (λ i. set xs (down i) (grew i)) ∙ set_last c n xs last len here in
+    subst (λ (b : Bool). AddsLast c xs b (set xs (suc n - 1) pushed)) (sym holds) (list.0, list.1, list.2, new)
+
+-- ---- commands as the program holds them
+
+map_last : (c : asked.Command) (scripts : List (List asked.Command)) → scripts_of (onto_last c scripts) ≡ onto_last (view_of c) (scripts_of scripts)
+map_last c [] = refl
+map_last c (part ∷ []) = ap (λ p. p ∷ []) (map-append view_of part (c ∷ []))
+map_last c (part ∷ next ∷ parts) = ap (λ ps. map view_of part ∷ ps) (map_last c (next ∷ parts))
+
+pub command_steps : (old new : Draft) (text : List ℕ) (c : asked.Command) (stands : Bool) → old.config ≡ Some text →
+    new.config ≡ old.config → new.limit ≡ old.limit → new.cut ≡ old.cut → new.turns ≡ old.turns → new.plan ≡ old.plan →
+    AddsLast c old.scripts.items stands new.scripts.items → Steps (with_line (CommandLine (view_of c)) (so_far old)) stands (so_far new)
+command_steps old new text c false is config limit cut turns plan added =
+    begun_is old.config text (in_script (scripts_of old.scripts.items) (Some (record (so_far old) { scripts = onto_last (view_of c) (scripts_of old.scripts.items) }))) is
+    ∙ ap (λ x. in_script (scripts_of x) (Some (record (so_far old) { scripts = onto_last (view_of c) (scripts_of old.scripts.items) }))) added.0
+command_steps old new text c true is config limit cut turns plan (first, more, some, grown) =
+    begun_is old.config text (in_script (scripts_of old.scripts.items) (Some (record (so_far old) { scripts = onto_last (view_of c) (scripts_of old.scripts.items) }))) is
+    ∙ ap (λ x. in_script (scripts_of x) (Some (record (so_far old) { scripts = onto_last (view_of c) (scripts_of old.scripts.items) }))) some
+    ∙ (λ i. Some (record {
+      config = sym config i;
+      limit = sym limit i;
+      cut = sym cut i;
+      turns = (sym turns i).items;
+      plan = map (λ entry. entry.items) (sym plan i).items;
+      scripts = (sym (map_last c old.scripts.items) ∙ ap scripts_of (sym grown)) i;
+    }))
+
+last_within : {A : Type 0} (c : A) (n : ℕ) (lists : List (List A)) → All (λ list. length list ≤ n) lists → All (λ list. length list ≤ n + 1) (onto_last c lists)
+last_within c n [] h k d fits = absurd (omega arith)
+last_within c n (part ∷ []) h zero d fits = let was = h 0 d (omega arith) in omega (arith, was, length-append part (c ∷ []))
+last_within c n (part ∷ []) h (suc k) d fits = absurd (omega arith)
+last_within c n (part ∷ next ∷ parts) h zero d fits = let was = h 0 d (omega arith) in omega (arith, was)
+last_within c n (part ∷ next ∷ parts) h (suc k) d fits =
+    last_within c n (next ∷ parts) (λ j e less. h (suc j) e (omega arith)) k d (omega arith)
+
+pub command_within : {A : Type 0} (c : A) (n : ℕ) (stands : Bool) (old new : List (List A)) → AddsLast c old stands new → All (λ list. length list ≤ n) old → All (λ list. length list ≤ n + 1) new
+command_within c n true old new (first, more, some, grown) h = subst (All (λ list. length list ≤ n + 1)) (sym grown) (last_within c n old h)
+command_within c n false old new (none, empty) h = λ k d fits. absurd (omega (arith, fits, ap (λ (xs : List (List _)). length xs) empty))

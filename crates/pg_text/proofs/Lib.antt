@@ -4,3 +4,4 @@ pub mod WordLaws
 pub mod LineLaws
 pub mod DraftLaws
 pub mod TextLaws
+pub mod ReadLaws

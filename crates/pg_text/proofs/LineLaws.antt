@@ -115,7 +115,7 @@ all_refused Is ends items old now new took more none ys vs q e =
     let rest = skip Is ends items ys took.0 vs now took.1 q (sym took.2 ∙ e) in
     refused Is now new more none rest.0 rest.1 rest.2 rest.3
 
-zip_more : {A B : Type 0} (R : A → B → Type 0) (xs : List A) (ys : List B) (x : A) (y : B) → AllZip R xs ys → R x y → AllZip R (xs ++ x ∷ []) (ys ++ y ∷ [])
+pub zip_more : {A B : Type 0} (R : A → B → Type 0) (xs : List A) (ys : List B) (x : A) (y : B) → AllZip R xs ys → R x y → AllZip R (xs ++ x ∷ []) (ys ++ y ∷ [])
 zip_more R [] [] x y h r = (r, tt)
 zip_more R [] (b ∷ ys) x y h r = absurd h
 zip_more R (a ∷ xs) [] x y h r = absurd h
@@ -379,17 +379,17 @@ pub one_line : (l m : said.Line) (s : List ℕ) → Spells l s → Spells m s �
 one_line l m s p q =
     elim (spelled_words l s p) [
       | inl nothing ↦ elim (spelled_words m s q) [
-          | inl nothing' ↦ nothing.0 ∙ sym nothing'.0
-          | inr (keyword, words, of, e) ↦ absurd (says_nothing s (subst SaysSomething (sym e) (word_says keyword (behind words))) nothing.1)
-        ]
+        | inl nothing' ↦ nothing.0 ∙ sym nothing'.0
+        | inr (keyword, words, of, e) ↦ absurd (says_nothing s (subst SaysSomething (sym e) (word_says keyword (behind words))) nothing.1)
+      ]
       | inr (keyword, words, of, e) ↦ elim (spelled_words m s q) [
-          | inl nothing ↦ absurd (says_nothing s (subst SaysSomething (sym e) (word_says keyword (behind words))) nothing.1)
-          | inr (other, words', of', e') ↦
-              let both : first_word keyword ++ left_text (left_of words) ≡ first_word other ++ left_text (left_of words') =
-              ap (λ t. first_word keyword ++ t) (left_of_is words) ∙ sym e ∙ e' ∙ ap (λ t. first_word other ++ t) (sym (left_of_is words')) in
-              let same = word_ends (first_word keyword) (first_word other) (left_of words) (left_of words') (first_no_space keyword) (first_no_space other) both in
-              let keyword_same = same_keyword keyword other same.0 in
-              same_words other l m words words' (subst (λ (k : Keyword). WordsOf k l words) keyword_same of) of'
-              (sym (left_of_is words) ∙ ap left_text same.1 ∙ left_of_is words')
-        ]
+        | inl nothing ↦ absurd (says_nothing s (subst SaysSomething (sym e) (word_says keyword (behind words))) nothing.1)
+        | inr (other, words', of', e') ↦
+            let both : first_word keyword ++ left_text (left_of words) ≡ first_word other ++ left_text (left_of words') =
+            ap (λ t. first_word keyword ++ t) (left_of_is words) ∙ sym e ∙ e' ∙ ap (λ t. first_word other ++ t) (sym (left_of_is words')) in
+            let same = word_ends (first_word keyword) (first_word other) (left_of words) (left_of words') (first_no_space keyword) (first_no_space other) both in
+            let keyword_same = same_keyword keyword other same.0 in
+            same_words other l m words words' (subst (λ (k : Keyword). WordsOf k l words) keyword_same of) of'
+            (sym (left_of_is words) ∙ ap left_text same.1 ∙ left_of_is words')
+      ]
     ]

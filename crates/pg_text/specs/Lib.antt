@@ -7,3 +7,4 @@ pub mod Written
 pub mod Quotes
 pub mod Laws
 pub mod Texts
+pub mod Sessions
