@@ -1,7 +1,8 @@
 -- A text is read line by line.
 use Rattle.std.proofs.Common.{◌≡◌, ◌<◌, ◌≤◌, ◌+◌, ◌⊎◌, ℕ, false, true, List, [], ◌∷◌, ◌++◌, length, Option, Some, None, Result, Ok, Err, refl, sym, ap, subst, ◌∙◌, append_assoc, append-nil, inl, inr, arith, length-append}
-use Rattle.std.specs.List.{AllZip}
-use Rattle.pg_spec.specs.SessionText.{AreLines, CanNotGoOn, IsRefusedAt, IsSessionText, Line, MayBegin, Say, SessionText, Spells}
+use Rattle.std.specs.Prelude.{filter_map, flat_map}
+use Rattle.std.specs.List.{AllZip, slice_split}
+use Rattle.pg_spec.specs.SessionText.{ConfigLine, cut_of, is_handle, limit_of, one_or, step_of, turns_of, AreLines, CanNotGoOn, IsRefusedAt, IsSessionText, Line, MayBegin, Say, SessionText, Spells}
 use Rattle.pg_text.specs.declared.session.Session.{Session}
 use Rattle.pg_text.specs.declared.session.TextFault.{TextFault}
 use Rattle.pg_text.specs.declared.session.TextFault.TheVariants as fault
@@ -9,7 +10,7 @@ use Rattle.pg_text.specs.Drafts.{IsEmpty, ReadsOn, SoFar, session_so_far}
 use Rattle.pg_text.specs.Scripts.{most_scripts}
 use Rattle.pg_text.specs.Sessions.{Finishes, ReadsText, session_of}
 use Rattle.pg_text.specs.Texts.{lines_of}
-use Rattle.pg_text.proofs.DraftLaws.{Drafted, Said, SaidNothing, line_refused, line_said, may_begin, nothing_said, said_whole, same_scripts}
+use Rattle.pg_text.proofs.DraftLaws.{commands, Drafted, Said, SaidNothing, line_refused, line_said, may_begin, nothing_said, said_whole, same_scripts}
 use Rattle.pg_text.proofs.LineLaws.{one_line, zip_more}
 use Rattle.pg_text.proofs.TextLaws.{are_lines, lines_are}
 
@@ -43,7 +44,7 @@ goes_on text rest line behind n s t h next (l, spells, with) = record {
   number = omega (arith, h.number, length-append h.before (line ∷ []));
 }
 
-zip_same : (ls ms : List Line) (spelled : List (List ℕ)) → AllZip Spells ls spelled → AllZip Spells ms spelled → ls ≡ ms
+pub zip_same : (ls ms : List Line) (spelled : List (List ℕ)) → AllZip Spells ls spelled → AllZip Spells ms spelled → ls ≡ ms
 zip_same [] [] [] p q = refl
 zip_same [] (m ∷ ms) [] p q = absurd q
 zip_same (l ∷ ls) ms [] p q = absurd p
@@ -130,3 +131,45 @@ ends text rest n s (Ok session) h none (config, is, few, asks, new) = (whole tex
 ends text rest n s (Err (fault.Line m)) h none (same, why) = refused_end text rest n m s h none same why
 ends text rest n s (Err fault.TooLong) h none end = absurd end
 ends text rest n s (Err fault.OutOfMemory) h none end = tt
+
+-- ---- one session
+
+same_number : (m n : ℕ) (o : Option ℕ) → o ≡ Some m → o ≡ Some n → m ≡ n
+same_number m n o p q = cc
+
+one_say : (lines : List Line) (s t : SessionText) → Say lines s → Say lines t → s ≡ t
+one_say lines s t p q =
+    let both : ConfigLine s.config ∷ p.others ≡ ConfigLine t.config ∷ q.others = sym p.first ∙ q.first in
+    let others : p.others ≡ q.others = cc in
+    let config : s.config ≡ t.config = cc in
+    let limit : s.limit ≡ t.limit = same_number s.limit t.limit (one_or 16777216 (filter_map limit_of p.others)) p.limit (ap (λ x. one_or 16777216 (filter_map limit_of x)) others ∙ q.limit) in
+    let cut : s.cut ≡ t.cut = same_number s.cut t.cut (one_or 8192 (filter_map cut_of p.others)) p.cut (ap (λ x. one_or 8192 (filter_map cut_of x)) others ∙ q.cut) in
+    let turns : s.turns ≡ t.turns = p.turns ∙ ap (flat_map turns_of) others ∙ sym q.turns in
+    let plan : s.plan ≡ t.plan = p.plan ∙ ap (filter_map step_of) others ∙ sym q.plan in
+    let parts : [] ∷ s.scripts ≡ [] ∷ t.scripts = sym p.scripts ∙ ap (λ x. commands (slice_split is_handle x)) others ∙ q.scripts in
+    let scripts : s.scripts ≡ t.scripts = cc in
+    λ i. record { config = config i; scripts = scripts i; turns = turns i; limit = limit i; plan = plan i; cut = cut i }
+
+pub one_session : (text : List ℕ) (s t : SessionText) → IsSessionText text s → IsSessionText text t → s ≡ t
+one_session text s t p q =
+    let spelled : q.spelled ≡ p.spelled = lines_are q.spelled text q.text_lines ∙ sym (lines_are p.spelled text p.text_lines) in
+    let lines : q.lines ≡ p.lines = zip_same q.lines p.lines p.spelled (subst (AllZip Spells q.lines) spelled q.each) p.each in
+    one_say p.lines s t p.say (subst (λ (ls : List Line). Say ls t) lines q.say)
+
+zip_split : (ms : List Line) (before after : List (List ℕ)) → AllZip Spells ms (before ++ after) → (front : List Line) × (more : List Line) × (ms ≡ front ++ more) × AllZip Spells front before
+zip_split ms [] after h = ([], ms, refl, tt)
+zip_split [] (x ∷ before) after h = absurd h
+zip_split (m ∷ ms) (x ∷ before) after h =
+    let rest = zip_split ms before after h.1 in
+    (m ∷ rest.0, rest.1, ap (λ t. m ∷ t) rest.2, (h.0, rest.3))
+
+not_refused : (text : List ℕ) (before rest : List (List ℕ)) (s : SessionText) → AreLines (before ++ rest) text → CanNotGoOn before rest text → IsSessionText text s → ⊥
+not_refused text before [] s lines bad is = bad s is
+not_refused text before (next ∷ rest) s lines bad is =
+    let spelled : is.spelled ≡ (before ++ next ∷ []) ++ rest =
+    lines_are is.spelled text is.text_lines ∙ sym (lines_are (before ++ (next ∷ rest)) text lines) ∙ sym (append_assoc before (next ∷ []) rest) in
+    let parts = zip_split is.lines (before ++ next ∷ []) rest (subst (AllZip Spells is.lines) spelled is.each) in
+    bad (parts.0, parts.1, s, parts.3, subst (λ (ls : List Line). Say ls s) parts.2 is.say)
+
+pub refused_is_none : (text : List ℕ) (n : ℕ) (s : SessionText) → IsRefusedAt text n → IsSessionText text s → ⊥
+refused_is_none text n s refused is = not_refused text refused.before refused.rest s refused.text_lines refused.bad is

@@ -1,5 +1,4 @@
 use Rattle.pg_text.proofs.LineLaws.{one_line}
-use Rattle.pg_text.proofs.DraftLaws.{line_refused, may_begin, same_scripts}
 use Rattle.pg_text.proofs.laws.one_line.Goals as goal
 
 pub returns : goal.returns
