@@ -2,3 +2,6 @@ pub mod Texts
 pub mod QuoteLaws
 pub mod WordLaws
 pub mod LineLaws
+pub mod DraftLaws
+pub mod TextLaws
+pub mod ReadLaws

@@ -115,7 +115,7 @@ all_refused Is ends items old now new took more none ys vs q e =
     let rest = skip Is ends items ys took.0 vs now took.1 q (sym took.2 ∙ e) in
     refused Is now new more none rest.0 rest.1 rest.2 rest.3
 
-zip_more : {A B : Type 0} (R : A → B → Type 0) (xs : List A) (ys : List B) (x : A) (y : B) → AllZip R xs ys → R x y → AllZip R (xs ++ x ∷ []) (ys ++ y ∷ [])
+pub zip_more : {A B : Type 0} (R : A → B → Type 0) (xs : List A) (ys : List B) (x : A) (y : B) → AllZip R xs ys → R x y → AllZip R (xs ++ x ∷ []) (ys ++ y ∷ [])
 zip_more R [] [] x y h r = (r, tt)
 zip_more R [] (b ∷ ys) x y h r = absurd h
 zip_more R (a ∷ xs) [] x y h r = absurd h
@@ -200,9 +200,9 @@ join_words word (w ∷ words) = ap (λ t. word ++ (32 ∷ t)) (join_words w word
 
 -- a line says nothing, or its first word tells what it is
 pub spelled_words : (l : said.Line) (s : List ℕ) → Spells l s →
-    ((s ≡ []) ⊎ ((rest : List ℕ) × (s ≡ 35 ∷ rest)))
+    ((l ≡ said.Nothing) × ((s ≡ []) ⊎ ((rest : List ℕ) × (s ≡ 35 ∷ rest))))
     ⊎ ((keyword : Keyword) × (words : List (List ℕ)) × WordsOf keyword l words × (s ≡ first_word keyword ++ behind words))
-spelled_words said.Nothing s h = inl h
+spelled_words said.Nothing s h = inl (refl, h)
 spelled_words (said.ConfigLine text) s (utf8, word, quoted, e) =
     inr (Config, word ∷ [], (text, word, refl, utf8, quoted, refl), e ∙ join_words (codes "config") (word ∷ []))
 spelled_words (said.LimitLine n) s (word, is, e) = inr (Limit, word ∷ [], (n, word, refl, is, refl), e ∙ join_words (codes "limit") (word ∷ []))
@@ -285,7 +285,7 @@ line_found s word left keyword (Some read) says taken first (l, words, of, e, st
     let spelled : s ≡ first_word keyword ++ behind words = cc_tail taken.2 ∙ ap (λ t. t ++ left_text left) (sym taken.1.0 ∙ first) ∙ ap (λ t. first_word keyword ++ t) e in
     (l, words_spell keyword l words s of spelled, stands)
 line_found s word left keyword None says taken first none = λ l spells. elim (spelled_words l s spells) [
-  | inl nothing ↦ says_nothing s says nothing
+  | inl nothing ↦ says_nothing s says nothing.1
   | inr (other, words, of, e) ↦
       let both : first_word other ++ left_text (left_of words) ≡ taken.0 ++ left_text left = ap (λ t. first_word other ++ t) (left_of_is words) ∙ sym e ∙ cc_tail taken.2 in
       let same = word_ends (first_word other) taken.0 (left_of words) left (first_no_space other) taken.1.1 both in
@@ -296,7 +296,7 @@ line_found s word left keyword None says taken first none = λ l spells. elim (s
 pub line_unknown : (s word : List ℕ) (left : Option (List ℕ)) → SaysSomething s → Takes IsWord (Some s) (Some word) left →
     ((keyword : Keyword) → word ≢ first_word keyword) → ReadsLine s None
 line_unknown s word left says taken unknown = λ l spells. elim (spelled_words l s spells) [
-  | inl nothing ↦ says_nothing s says nothing
+  | inl nothing ↦ says_nothing s says nothing.1
   | inr (other, words, of, e) ↦
       let both : first_word other ++ left_text (left_of words) ≡ taken.0 ++ left_text left = ap (λ t. first_word other ++ t) (left_of_is words) ∙ sym e ∙ cc_tail taken.2 in
       let same = word_ends (first_word other) taken.0 (left_of words) left (first_no_space other) taken.1.1 both in
@@ -305,6 +305,91 @@ line_unknown s word left says taken unknown = λ l spells. elim (spelled_words l
 
 pub line_wordless : (s : List ℕ) (left : Option (List ℕ)) → SaysSomething s → Takes IsWord (Some s) None left → ReadsLine s None
 line_wordless s left says none = λ l spells. elim (spelled_words l s spells) [
-  | inl nothing ↦ says_nothing s says nothing
+  | inl nothing ↦ says_nothing s says nothing.1
   | inr (other, words, of, e) ↦ no_word IsWord (Some s) left none (first_word other) (first_word other) words (refl, first_no_space other) (ap (λ t. 32 ∷ t) e)
 ]
+
+-- ---- one line
+
+-- the first of some words, in two readings
+first_of : {A : Type 0} (Is : A → List ℕ → Type 0) → Ends Is → (x y : A) (w v : List ℕ) (ws vs : List (List ℕ)) → Is x w → Is y v →
+    behind (w ∷ ws) ≡ behind (v ∷ vs) → (x ≡ y) × (behind ws ≡ behind vs)
+first_of Is ends x y w v ws vs p q e =
+    let tail : w ++ left_text (left_of ws) ≡ v ++ left_text (left_of vs) = ap (λ t. w ++ t) (left_of_is ws) ∙ cc_tail e ∙ ap (λ t. v ++ t) (sym (left_of_is vs)) in
+    let same = ends x y w v (left_of ws) (left_of vs) p q tail in
+    (same.0, sym (left_of_is ws) ∙ ap left_text same.2 ∙ left_of_is vs)
+
+all_same : {A : Type 0} (Is : A → List ℕ → Type 0) → Ends Is → (xs ys : List A) (ws vs : List (List ℕ)) → AllZip Is xs ws → AllZip Is ys vs →
+    behind ws ≡ behind vs → xs ≡ ys
+all_same Is ends [] [] [] [] p q e = refl
+all_same Is ends [] [] [] (v ∷ vs) p q e = absurd q
+all_same Is ends [] [] (w ∷ ws) vs p q e = absurd p
+all_same Is ends [] (y ∷ ys) [] [] p q e = absurd q
+all_same Is ends [] (y ∷ ys) [] (v ∷ vs) p q e = cc e
+all_same Is ends [] (y ∷ ys) (w ∷ ws) vs p q e = absurd p
+all_same Is ends (x ∷ xs) ys [] vs p q e = absurd p
+all_same Is ends (x ∷ xs) [] (w ∷ ws) [] p q e = cc e
+all_same Is ends (x ∷ xs) [] (w ∷ ws) (v ∷ vs) p q e = absurd q
+all_same Is ends (x ∷ xs) (y ∷ ys) (w ∷ ws) [] p q e = absurd q
+all_same Is ends (x ∷ xs) (y ∷ ys) (w ∷ ws) (v ∷ vs) p q e =
+    let first = first_of Is ends x y w v ws vs p.0 q.0 e in
+    let rest = all_same Is ends xs ys ws vs p.1 q.1 first.1 in
+    (λ i. first.0 i ∷ rest i)
+
+word_kind_ends : Ends IsWord
+word_kind_ends x y v w l k p q e =
+    let same = word_ends v w l k p.1 q.1 e in
+    (p.0 ∙ same.0 ∙ sym q.0, same.0, same.1)
+
+same_words : (keyword : Keyword) (l m : said.Line) (ws vs : List (List ℕ)) → WordsOf keyword l ws → WordsOf keyword m vs → behind ws ≡ behind vs → l ≡ m
+same_words Config l m ws vs (t, w, p, utf8, quoted, a) (u, v, q, utf8', quoted', b) e =
+    p ∙ ap said.ConfigLine (first_of IsQuoted quoted_ends t u w v [] [] quoted quoted' (ap behind (sym a) ∙ e ∙ ap behind b)).0 ∙ sym q
+same_words Limit l m ws vs (n, w, p, is, a) (k, v, q, is', b) e =
+    p ∙ ap said.LimitLine (first_of (IsNumber 9223372036854775807) (number_ends 9223372036854775807) n k w v [] [] is is' (ap behind (sym a) ∙ e ∙ ap behind b)).0 ∙ sym q
+same_words Turns l m ws vs (ts, p, is) (us, q, is') e =
+    p ∙ ap said.TurnsLine (all_same (IsNumber 4294967295) (number_ends 4294967295) ts us ws vs is is' e) ∙ sym q
+same_words Handle l m ws vs p q e = p.0 ∙ sym q.0
+same_words Step l m ws vs (ts, p, is) (us, q, is') e =
+    p ∙ ap said.StepLine (all_same IsBytes bytes_ends ts us ws vs is is' e) ∙ sym q
+same_words Cut l m ws vs (n, w, p, some, is, a) (k, v, q, some', is', b) e =
+    p ∙ ap said.CutLine (first_of (IsNumber 18446744073709551615) (number_ends 18446744073709551615) n k w v [] [] is is' (ap behind (sym a) ∙ e ∙ ap behind b)).0 ∙ sym q
+same_words Simple l m ws vs (t, w, utf8, quoted, inl (p, a)) (u, v, utf8', quoted', inl (q, b)) e =
+    p ∙ ap (λ x. said.CommandLine (command.Simple x None)) (first_of IsQuoted quoted_ends t u w v [] [] quoted quoted' (ap behind (sym a) ∙ e ∙ ap behind b)).0 ∙ sym q
+same_words Simple l m ws vs (t, w, utf8, quoted, inl (p, a)) (u, v, utf8', quoted', inr (k, number, q, digits, b)) e =
+    absurd (cc (first_of IsQuoted quoted_ends t u w v [] (codes "take" ∷ number ∷ []) quoted quoted' (ap behind (sym a) ∙ e ∙ ap behind b)).1)
+same_words Simple l m ws vs (t, w, utf8, quoted, inr (k, number, p, digits, a)) (u, v, utf8', quoted', inl (q, b)) e =
+    absurd (cc (first_of IsQuoted quoted_ends t u w v (codes "take" ∷ number ∷ []) [] quoted quoted' (ap behind (sym a) ∙ e ∙ ap behind b)).1)
+same_words Simple l m ws vs (t, w, utf8, quoted, inr (n, number, p, digits, a)) (u, v, utf8', quoted', inr (k, other, q, digits', b)) e =
+    let first = first_of IsQuoted quoted_ends t u w v (codes "take" ∷ number ∷ []) (codes "take" ∷ other ∷ []) quoted quoted' (ap behind (sym a) ∙ e ∙ ap behind b) in
+    let second = first_of IsWord word_kind_ends (codes "take") (codes "take") (codes "take") (codes "take") (number ∷ []) (other ∷ []) (refl, take_no_space) (refl, take_no_space) first.1 in
+    let third = first_of (IsNumber 18446744073709551615) (number_ends 18446744073709551615) n k number other [] [] digits digits' second.1 in
+    p ∙ (λ i. said.CommandLine (command.Simple (first.0 i) (Some (third.0 i)))) ∙ sym q
+
+word_says : (keyword : Keyword) (t : List ℕ) → SaysSomething (first_word keyword ++ t)
+word_says Config t = eqb-false 99 35 refl
+word_says Limit t = eqb-false 108 35 refl
+word_says Turns t = eqb-false 116 35 refl
+word_says Handle t = eqb-false 104 35 refl
+word_says Step t = eqb-false 115 35 refl
+word_says Cut t = eqb-false 99 35 refl
+word_says Simple t = eqb-false 115 35 refl
+
+-- a line is spelled by at most one line
+pub one_line : (l m : said.Line) (s : List ℕ) → Spells l s → Spells m s → l ≡ m
+one_line l m s p q =
+    elim (spelled_words l s p) [
+      | inl nothing ↦ elim (spelled_words m s q) [
+        | inl nothing' ↦ nothing.0 ∙ sym nothing'.0
+        | inr (keyword, words, of, e) ↦ absurd (says_nothing s (subst SaysSomething (sym e) (word_says keyword (behind words))) nothing.1)
+      ]
+      | inr (keyword, words, of, e) ↦ elim (spelled_words m s q) [
+        | inl nothing ↦ absurd (says_nothing s (subst SaysSomething (sym e) (word_says keyword (behind words))) nothing.1)
+        | inr (other, words', of', e') ↦
+            let both : first_word keyword ++ left_text (left_of words) ≡ first_word other ++ left_text (left_of words') =
+            ap (λ t. first_word keyword ++ t) (left_of_is words) ∙ sym e ∙ e' ∙ ap (λ t. first_word other ++ t) (sym (left_of_is words')) in
+            let same = word_ends (first_word keyword) (first_word other) (left_of words) (left_of words') (first_no_space keyword) (first_no_space other) both in
+            let keyword_same = same_keyword keyword other same.0 in
+            same_words other l m words words' (subst (λ (k : Keyword). WordsOf k l words) keyword_same of) of'
+            (sym (left_of_is words) ∙ ap left_text same.1 ∙ left_of_is words')
+      ]
+    ]

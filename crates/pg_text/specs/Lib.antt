@@ -5,3 +5,6 @@ pub mod Lines
 pub mod Views
 pub mod Written
 pub mod Quotes
+pub mod Laws
+pub mod Texts
+pub mod Sessions

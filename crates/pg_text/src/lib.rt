@@ -2,6 +2,7 @@
 #![tactic(auto)]
 
 mod command;
+mod laws;
 mod line;
 mod parse;
 mod print;
@@ -15,6 +16,7 @@ mod tests;
 mod word;
 
 pub use command::{Answer, Command};
+pub use laws::{one_line, one_session, refused_is_none};
 pub use parse::session_text;
 pub use pg_query::{Cells, SimpleMessage};
 pub use print::{error_text, report_text};

@@ -1,7 +1,12 @@
 //! The text of a session, line by line.
 
-ghost use Rattle.std.specs.Prelude.{◌≡◌, ◌<◌, ◌≤◌, ◌+◌, ◌^◌, ℕ, length, OnOk, ◌↔◌, ◌≢◌, ◌-◌, if◌then◌else◌};
-ghost use Rattle.pg_text.specs.Drafts.{IsWithin, HasCut};
+ghost use Rattle.std.specs.Prelude.{◌≡◌, ◌<◌, ◌+◌, ◌-◌, ◌^◌, ◌∷◌, ◌++◌, [], ℕ, length, EachIndex, IfOk, IfSome, MatchOption, OnOk, ◌↔◌, ◌≢◌, slice_index, unwrap_or, true, false};
+ghost use Rattle.pg_spec.specs.SessionText as said;
+ghost use Rattle.pg_wire.specs.Giving.{lists};
+ghost use Rattle.pg_text.specs.Drafts.{AddsLast, HasCut, IsEmpty, IsWithin, ReadsOn, Steps, so_far, with_entry, with_line, with_read};
+ghost use Rattle.pg_text.specs.Sessions.{Finishes, ReadsText};
+ghost use Rattle.pg_text.specs.Texts.{lines_of};
+ghost use Rattle.pg_text.specs.Views.{command_of};
 
 use crate::command::Command;
 use crate::line::{Line, read_line};
@@ -37,6 +42,7 @@ struct Draft {
 /// Reads a session text. TooLong comes exactly above 67,108,864 bytes; Line names the first line, from 1,
 /// that breaks the rules, and the one after the last where `config` lacks or there are too many scripts.
 pub fn session_text(alloc: Global, text: &[u8]) -> Result<Session, TextFault>
+    ensures text { ReadsText text.now result }
     ensures too_long { (result ≡ Err TextFault.TooLong) ↔ (67108864 < length text.now) }
 {
     if text.len() > LONGEST {
@@ -61,17 +67,28 @@ pub fn session_text(alloc: Global, text: &[u8]) -> Result<Session, TextFault>
 /// The bytes up to the first line feed, and what stands behind it.
 fn cut_line(text: &[u8]) -> (&[u8], &[u8])
     requires { 0 < length text.now }
-    ensures { length result.1.now < length text.now }
+    ensures shorter { length result.1.now < length text.now }
+    ensures lines { lines_of text.now ≡ result.0.now ∷ lines_of result.1.now }
 {
-    match text.iter().position(|byte| *byte == b'\n') {
+    match feed_in(text) {
         Some(at) => (&text[..at], &text[at + 1..]),
         None => (text, &[]),
     }
 }
 
+/// Where the first line feed is.
+fn feed_in(bytes: &[u8]) -> Option<usize>
+    ensures { MatchOption result
+        (EachIndex bytes.now (λ k. slice_index bytes.now k ≢ 10))
+        (λ at. (at < length bytes.now) × (slice_index bytes.now at ≡ 10) × ((k : ℕ) → k < at → slice_index bytes.now k ≢ 10)) }
+{
+    bytes.iter().position(|byte| *byte == b'\n')
+}
+
 impl Draft {
     fn new(alloc: Global) -> Draft
-        ensures { IsWithin 0 result }
+        ensures within { IsWithin 0 result }
+        ensures nothing { IsEmpty (so_far result) }
     {
         Draft {
             config: None,
@@ -85,49 +102,82 @@ impl Draft {
 
     /// Reads one more line. `false`: it breaks the rules.
     fn read(&mut self, alloc: Global, line: &[u8]) -> Result<bool, OutOfMemory>
-        ensures { (n : ℕ) → IsWithin n self.old → OnOk result (IsWithin (n + 1) self.new) }
+        ensures line { IfOk result (λ stands. ReadsOn (so_far self.old) line.now stands (so_far self.new)) }
+        ensures within { (n : ℕ) → IsWithin n self.old → OnOk result (IsWithin (n + 1) self.new) }
     {
-        let Some(line) = read_line(alloc, line)? else {
-            return Ok(false);
-        };
+        match read_line(alloc, line)? {
+            Some(line) => {
+                let stands = self.add(alloc, line)?;
+                Ok(stands)
+            }
+            None => Ok(false),
+        }
+    }
+
+    /// Adds a line. `false`: it may not stand there.
+    fn add(&mut self, alloc: Global, line: Line) -> Result<bool, OutOfMemory>
+        requires { HasCut line }
+        ensures steps { IfOk result (λ stands. Steps (with_read line (so_far self.old)) stands (so_far self.new)) }
+        ensures within { (n : ℕ) → IsWithin n self.old → OnOk result (IsWithin (n + 1) self.new) }
+    {
         match line {
             Line::Nothing => Ok(true),
             Line::Config(text) => Ok(self.set_config(text)),
-            _ if self.config.is_none() => Ok(false),
-            Line::Limit(limit) => Ok(set_once(&mut self.limit, limit)),
-            Line::Cut(cut) => Ok(set_once(&mut self.cut, cut)),
-            Line::Turns(turns) => match self.turns.extend_from_slice(turns.as_slice()) {
-                Ok(()) => Ok(true),
-                Err(_) => Err(OutOfMemory),
-            },
-            Line::Step(entry) => match self.plan.push(entry) {
-                Ok(()) => Ok(true),
-                Err(_) => Err(OutOfMemory),
-            },
-            Line::Handle => match self.scripts.push(List::empty(alloc)) {
-                Ok(()) => Ok(true),
-                Err(_) => Err(OutOfMemory),
-            },
+            Line::Limit(limit) => Ok(self.set_limit(limit)),
+            Line::Cut(cut) => Ok(self.set_cut(cut)),
+            Line::Turns(turns) => self.add_turns(turns),
+            Line::Step(entry) => self.add_entry(entry),
+            Line::Handle => self.add_script(alloc),
             Line::Command(command) => self.add_command(command),
         }
     }
 
     fn set_config(&mut self, text: Text) -> bool
-        ensures { self.new ≡ record self.old { config = self.new.config } }
+        ensures steps { Steps (with_line (said.ConfigLine text) (so_far self.old)) result (so_far self.new) }
+        ensures within { (n : ℕ) → IsWithin n self.old → IsWithin (n + 1) self.new }
     {
-        if self.config.is_some() {
-            return false;
+        match &self.config {
+            Some(_) => false,
+            None => {
+                self.config = Some(text);
+                true
+            }
         }
-        self.config = Some(text);
-        true
     }
 
-    /// Adds a command to the last script. `false`: there is none.
-    fn add_command(&mut self, command: Command) -> Result<bool, OutOfMemory>
-        ensures { (n : ℕ) → IsWithin n self.old → OnOk result (IsWithin (n + 1) self.new) }
+    fn set_limit(&mut self, limit: u64) -> bool
+        ensures steps { Steps (with_line (said.LimitLine limit) (so_far self.old)) result (so_far self.new) }
+        ensures within { (n : ℕ) → IsWithin n self.old → IsWithin (n + 1) self.new }
     {
-        match self.scripts.last_mut() {
-            Some(script) => match script.push(command) {
+        match (&self.config, self.limit) {
+            (Some(_), None) => {
+                self.limit = Some(limit);
+                true
+            }
+            _ => false,
+        }
+    }
+
+    fn set_cut(&mut self, cut: u64) -> bool
+        requires { 0 < cut }
+        ensures steps { Steps (with_line (said.CutLine cut) (so_far self.old)) result (so_far self.new) }
+        ensures within { (n : ℕ) → IsWithin n self.old → IsWithin (n + 1) self.new }
+    {
+        match (&self.config, self.cut) {
+            (Some(_), None) => {
+                self.cut = Some(cut);
+                true
+            }
+            _ => false,
+        }
+    }
+
+    fn add_turns(&mut self, turns: Vec<u32>) -> Result<bool, OutOfMemory>
+        ensures steps { IfOk result (λ stands. Steps (with_line (said.TurnsLine turns.items) (so_far self.old)) stands (so_far self.new)) }
+        ensures within { (n : ℕ) → IsWithin n self.old → OnOk result (IsWithin (n + 1) self.new) }
+    {
+        match &self.config {
+            Some(_) => match self.turns.extend_from_slice(turns.as_slice()) {
                 Ok(()) => Ok(true),
                 Err(_) => Err(OutOfMemory),
             },
@@ -135,10 +185,52 @@ impl Draft {
         }
     }
 
+    /// Adds an entry of the plan.
+    fn add_entry(&mut self, entry: Vec<u8>) -> Result<bool, OutOfMemory>
+        ensures steps { IfOk result (λ stands. Steps (with_entry entry.items (so_far self.old)) stands (so_far self.new)) }
+        ensures within { (n : ℕ) → IsWithin n self.old → OnOk result (IsWithin (n + 1) self.new) }
+    {
+        match &self.config {
+            Some(_) => match self.plan.push(entry) {
+                Ok(()) => Ok(true),
+                Err(_) => Err(OutOfMemory),
+            },
+            None => Ok(false),
+        }
+    }
+
+    /// Begins a script.
+    fn add_script(&mut self, alloc: Global) -> Result<bool, OutOfMemory>
+        ensures steps { IfOk result (λ stands. Steps (with_line said.HandleLine (so_far self.old)) stands (so_far self.new)) }
+        ensures within { (n : ℕ) → IsWithin n self.old → OnOk result (IsWithin (n + 1) self.new) }
+    {
+        match &self.config {
+            Some(_) => match self.scripts.push(List::empty(alloc)) {
+                Ok(()) => Ok(true),
+                Err(_) => Err(OutOfMemory),
+            },
+            None => Ok(false),
+        }
+    }
+
+    /// Adds a command to the last script.
+    fn add_command(&mut self, command: Command) -> Result<bool, OutOfMemory>
+        ensures steps { IfOk result (λ stands. Steps (with_line (said.CommandLine (command_of command)) (so_far self.old)) stands (so_far self.new)) }
+        ensures within { (n : ℕ) → IsWithin n self.old → OnOk result (IsWithin (n + 1) self.new) }
+    {
+        match &self.config {
+            Some(_) => {
+                let stands = push_last(&mut self.scripts, command)?;
+                Ok(stands)
+            }
+            None => Ok(false),
+        }
+    }
+
     /// The session, where `number` is that of the line after the last.
     fn finish(self, alloc: Global, number: u64) -> Result<Session, TextFault>
         requires { IsWithin (2 ^ 32 - 1) self }
-        ensures { result ≢ Err TextFault.TooLong }
+        ensures { Finishes (so_far self) number result }
     {
         let Draft {
             config,
@@ -157,28 +249,59 @@ impl Draft {
         let Ok(nonce) = Blob::from_slice(alloc, DEFAULT_NONCE) else {
             return Err(TextFault::OutOfMemory);
         };
-        let cut = match cut {
-            Some(cut) => cut as usize,
-            None => DEFAULT_PIECE,
-        };
         Ok(Session {
             config,
             scripts,
             turns: List::new(turns),
             nonce,
             max_bytes: limit.unwrap_or(DEFAULT_LIMIT),
-            link: MemoryLink::new(alloc, plan, cut, DEFAULT_PIECE, false),
+            link: new_link(alloc, plan, cut),
         })
     }
 }
 
-/// Sets what may be set once. `false`: it is set.
-fn set_once(place: &mut Option<u64>, value: u64) -> bool
-    ensures { place.new ≡ (if result then Some value else place.old) }
+/// Adds a command to the last script. `false`: there is none.
+fn push_last(scripts: &mut Vec<List<Command>>, command: Command) -> Result<bool, OutOfMemory>
+    ensures last { IfOk result (λ stands. AddsLast command scripts.old.items stands scripts.new.items) }
 {
-    if place.is_some() {
-        return false;
+    match scripts.last_mut() {
+        Some(script) => {
+            let stands = push_command(script, command)?;
+            Ok(stands)
+        }
+        None => Ok(false),
     }
-    *place = Some(value);
-    true
+}
+
+fn push_command(script: &mut List<Command>, command: Command) -> Result<bool, OutOfMemory>
+    ensures { IfOk result (λ stands. (stands ≡ true) × (script.new ≡ script.old ++ command ∷ [])) }
+{
+    match script.push(command) {
+        Ok(()) => Ok(true),
+        Err(_) => Err(OutOfMemory),
+    }
+}
+
+/// The link that gives this plan, at most `cut` bytes a read.
+fn new_link(alloc: Global, plan: Vec<Vec<u8>>, cut: Option<u64>) -> MemoryLink
+    requires { IfSome cut (λ cut. 0 < cut) }
+    ensures { result ≡ record {
+      entries = lists plan.items;
+      ends = false;
+      cut = unwrap_or cut 8192;
+      room = 8192;
+      given = [];
+      taken = [];
+      promised = false;
+      quiet = 0;
+      dry = 0;
+      lulls = 0;
+      ended = 0;
+    } }
+{
+    let cut = match cut {
+        Some(cut) => cut as usize,
+        None => DEFAULT_PIECE,
+    };
+    MemoryLink::new(alloc, plan, cut, DEFAULT_PIECE, false)
 }

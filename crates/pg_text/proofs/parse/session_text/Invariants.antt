@@ -1,9 +1,15 @@
 use Rattle.std.proofs.Common.{◌+◌, ◌-◌, ◌≤◌, length}
-use Rattle.pg_text.specs.Drafts.{IsWithin}
+use Rattle.pg_text.specs.Drafts.{IsWithin, so_far}
+use Rattle.pg_text.proofs.ReadLaws.{HasRead}
 use Rattle.pg_text.proofs.parse.session_text.Given as goal
 
 abbrev pub invariant-loop-rest : goal.invariant-loop-rest
-invariant-loop-rest l = IsWithin (length l.text - length l.rest) l.draft × (l.number + length l.rest ≤ length l.text + 1) × (length l.rest ≤ length l.text)
+invariant-loop-rest l = record {
+  read : HasRead l.text l.rest l.number (so_far l.draft);
+  within : IsWithin (length l.text - length l.rest) l.draft;
+  number : l.number + length l.rest ≤ length l.text + 1;
+  rest : length l.rest ≤ length l.text;
+}
 
 abbrev pub decreases-loop-rest : goal.decreases-loop-rest
 decreases-loop-rest l = length l.rest
