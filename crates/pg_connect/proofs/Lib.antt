@@ -10,7 +10,6 @@ pub mod Hearing
 pub mod Offering
 pub mod Opening
 pub mod Reports
-pub mod Tags
 pub mod Sorting
 pub mod Arriving
 pub mod Taking
@@ -19,4 +18,3 @@ pub mod Delivering
 pub mod Rounds
 pub mod Turned
 pub mod Standing
-pub mod Dialogues

@@ -21,7 +21,7 @@ use Rattle.pg_errors.specs.Parsing.{IsHandedOut}
 use Rattle.pg_connect.specs.declared.streams.Streams.{Streams}
 use Rattle.pg_connect.specs.Kept.{keep}
 use Rattle.pg_connect.specs.Reads.{KeepsReport}
-use Rattle.pg_connect.proofs.Tags.{tag, message_tag, reported, report, no_report}
+use Rattle.pg_connect.proofs.Reports.{reported, report, read, no_report}
 
 -- ---- the messages of a batch
 
@@ -72,6 +72,70 @@ calm_reports (m ∷ ms) calm =
 
 -- ---- messages aside
 
+-- the tag of a message that no request asked for
+abbrev pub kind : spec.Message → ℕ
+kind (spec.NoticeResponse fields) = byte "N"
+kind (spec.NotificationResponse process_id channel payload) = byte "A"
+kind (spec.ParameterStatus name value) = byte "S"
+kind _ = 0
+
+-- what was read has this kind
+abbrev OfKind : ℕ → Option spec.Message → Type 0
+OfKind tag o = IfSome o (λ m. kind m ≡ tag)
+
+then_kind : {A : Type 0} (tag : ℕ) (o : Option A) (f : A → Option spec.Message) → ((x : A) → OfKind tag (f x)) → OfKind tag (o >>= f)
+then_kind tag None f each = tt
+then_kind tag (Some x) f each = each x
+
+alone_kind : (tag : ℕ) (m : spec.Message) → kind m ≡ tag → (rest : List ℕ) → OfKind tag (spec.alone m rest)
+alone_kind tag m is [] = is
+alone_kind tag m is (b ∷ rest) = tt
+
+text_kind : (tag : ℕ) (message : List ℕ → spec.Message) → ((text : List ℕ) → kind (message text) ≡ tag) → (body : List ℕ) → OfKind tag (spec.text_alone message body)
+text_kind tag message is body = then_kind tag (text0_at body) (λ text. spec.alone (message text.0) text.1) (λ text. alone_kind tag (message text.0) (is text.0) text.1)
+
+notification_kind : (body : List ℕ) → OfKind (byte "A") (notification body)
+notification_kind body =
+    then_kind (byte "A") (signed_at w32 body) (λ p. text0_at p.1 >>= λ c. spec.text_alone (spec.NotificationResponse p.0 c.0) c.1) (λ p.
+    then_kind (byte "A") (text0_at p.1) (λ c. spec.text_alone (spec.NotificationResponse p.0 c.0) c.1) (λ c.
+    text_kind (byte "A") (spec.NotificationResponse p.0 c.0) (λ t. refl) c.1))
+
+parameter_kind : (body : List ℕ) → OfKind (byte "S") (parameter body)
+parameter_kind body =
+    then_kind (byte "S") (text0_at body) (λ n. spec.text_alone (spec.ParameterStatus n.0) n.1) (λ n. text_kind (byte "S") (spec.ParameterStatus n.0) (λ t. refl) n.1)
+
+kind_read : (tag : ℕ) (o : Option spec.Message) (m : spec.Message) → OfKind tag o → read o ≡ Ok m → kind m ≡ tag
+kind_read tag None m is e = absurd cc
+kind_read tag (Some x) m is e = let same : x ≡ m = cc in ap kind (sym same) ∙ is
+
+kind_notice : (body : List ℕ) (m : spec.Message) → message_of (record { tag = byte "N"; body = body }) ≡ Ok m → kind m ≡ byte "N"
+kind_notice body m e = kind_read (byte "N") (Some (spec.NoticeResponse body)) m refl e
+
+kind_notification : (body : List ℕ) (m : spec.Message) → message_of (record { tag = byte "A"; body = body }) ≡ Ok m → kind m ≡ byte "A"
+kind_notification body m e = kind_read (byte "A") (notification body) m (notification_kind body) e
+
+kind_setting : (body : List ℕ) (m : spec.Message) → message_of (record { tag = byte "S"; body = body }) ≡ Ok m → kind m ≡ byte "S"
+kind_setting body m e = kind_read (byte "S") (parameter body) m (parameter_kind body) e
+
+aside_tags : (tag : ℕ) → ((tag == byte "N" || tag == byte "A") || tag == byte "S") ≡ true → (tag ≡ byte "N") ⊎ ((tag ≡ byte "A") ⊎ (tag ≡ byte "S"))
+aside_tags tag is = pick (tag == byte "N") (tag == byte "A") (tag == byte "S") is (eqb-true tag (byte "N")) (eqb-true tag (byte "A")) (eqb-true tag (byte "S"))
+  where
+    pick : {P Q R : Type 0} (a b c : Bool) → ((a || b) || c) ≡ true → (a ≡ true → P) → (b ≡ true → Q) → (c ≡ true → R) → P ⊎ (Q ⊎ R)
+    pick true b c is f g h = inl (f refl)
+    pick false true c is f g h = inr (inl (g refl))
+    pick false false true is f g h = inr (inr (h refl))
+    pick false false false is f g h = absurd cc
+
+-- a message that no request asked for has its tag's kind
+pub aside_kind : (raw : RawMessage) (m : spec.Message) → is_aside raw ≡ true → message_of raw ≡ Ok m → kind m ≡ raw.tag
+aside_kind raw m aside means = elim (aside_tags raw.tag aside) [
+  | inl is ↦ kind_notice raw.body m (ap (λ (t : ℕ). message_of (record { tag = t; body = raw.body })) (sym is) ∙ means) ∙ sym is
+  | inr other ↦ elim other [
+    | inl is ↦ kind_notification raw.body m (ap (λ (t : ℕ). message_of (record { tag = t; body = raw.body })) (sym is) ∙ means) ∙ sym is
+    | inr is ↦ kind_setting raw.body m (ap (λ (t : ℕ). message_of (record { tag = t; body = raw.body })) (sym is) ∙ means) ∙ sym is
+  ]
+]
+
 -- how one message aside is sorted
 pub record Sorted (raw : RawMessage) (async : List RawMessage) (reports : List (List ℕ × List ℕ)) : Type 0 where
   pub sync : sync_of (raw ∷ []) ≡ []
@@ -79,7 +143,7 @@ pub record Sorted (raw : RawMessage) (async : List RawMessage) (reports : List (
   pub reports_are : parameter_reports (raw ∷ []) ≡ reports
 
 -- a message that is handed out is a notice or a notification
-handed_tag : (m : spec.Message) (a : AsyncMessage) → async_message m ≡ Some a → (report_of m ≡ None) × ((tag m == byte "N" || tag m == byte "A") ≡ true)
+handed_tag : (m : spec.Message) (a : AsyncMessage) → async_message m ≡ Some a → (report_of m ≡ None) × ((kind m == byte "N" || kind m == byte "A") ≡ true)
 handed_tag (spec.NoticeResponse fields) a e = (refl, refl)
 handed_tag (spec.NotificationResponse process_id channel payload) a e = (refl, refl)
 handed_tag _ a e = absurd cc
@@ -97,7 +161,7 @@ sorted_handed raw m a aside means reads =
     (
       record {
         sync = sync_none raw aside;
-        async_is = ap (λ b. if b then raw ∷ [] else []) (ap (λ (t : ℕ). t == byte "N" || t == byte "A") (sym (message_tag raw m means)) ∙ tag.1);
+        async_is = ap (λ b. if b then raw ∷ [] else []) (ap (λ (t : ℕ). t == byte "N" || t == byte "A") (sym (aside_kind raw m aside means)) ∙ tag.1);
         reports_are = ap (λ o. cons_option o []) (reported_as raw m means ∙ tag.0);
       },
       ap async_read means ∙ reads,
@@ -111,7 +175,7 @@ pub sorted_kept : (raw : RawMessage) (name value : List ℕ) → is_aside raw �
     Sorted raw [] ((name, value) ∷ [])
 sorted_kept raw name value aside means = record {
   sync = sync_none raw aside;
-  async_is = ap (λ b. if b then raw ∷ [] else []) (ap (λ (t : ℕ). t == byte "N" || t == byte "A") (sym (message_tag raw (spec.ParameterStatus name value) means)));
+  async_is = ap (λ b. if b then raw ∷ [] else []) (ap (λ (t : ℕ). t == byte "N" || t == byte "A") (sym (aside_kind raw (spec.ParameterStatus name value) aside means)));
   reports_are = ap (λ o. cons_option o []) (reported_as raw (spec.ParameterStatus name value) means);
 }
 
@@ -121,9 +185,9 @@ pub record Kept (s t : Streams) (raw : RawMessage) : Type 0 where
   pub same : t ≡ record s { parameters = keep s.parameters report }
   pub sorted : Sorted raw [] (report ∷ [])
 
-not_aside : (raw : RawMessage) (m : spec.Message) → ((tag m == byte "N" || tag m == byte "A") || tag m == byte "S") ≡ false → is_aside raw ≡ true → message_of raw ≡ Ok m → ⊥
+not_aside : (raw : RawMessage) (m : spec.Message) → kind m ≡ 0 → is_aside raw ≡ true → message_of raw ≡ Ok m → ⊥
 not_aside raw m none aside means =
-    let no : false ≡ true = sym none ∙ ap (λ (t : ℕ). (t == byte "N" || t == byte "A") || t == byte "S") (message_tag raw m means) ∙ aside in cc
+    let no : false ≡ true = ap (λ (t : ℕ). (t == byte "N" || t == byte "A") || t == byte "S") (sym none ∙ aside_kind raw m aside means) ∙ aside in cc
 
 pub kept_aside : (s t : Streams) (m : Message) (raw : RawMessage) → is_aside raw ≡ true → message_of raw ≡ Ok (message_view m) → KeepsReport s t m → Kept s t raw
 kept_aside s t (wire.ParameterStatus b) raw aside means is = record { report = (b.name, b.value); same = is; sorted = sorted_kept raw b.name b.value aside means }

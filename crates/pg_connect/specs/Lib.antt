@@ -9,5 +9,3 @@ pub mod Reads
 pub mod Polls
 pub mod Answers
 pub mod Histories
-pub mod StartupFaults
-pub mod Startups

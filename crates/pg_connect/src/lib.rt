@@ -2,7 +2,6 @@
 #![tactic(auto)]
 
 mod asides;
-mod connect_raw;
 mod connection;
 mod ends;
 mod fault;
@@ -12,23 +11,14 @@ mod parameters;
 mod polling;
 mod reading;
 mod sending;
-<<<<<<< HEAD
 mod startup;
-=======
-mod startup_fault;
->>>>>>> fe59ece3a30f144b12cab9e7a1ae74e3102cbe8e
 mod streams;
 mod turning;
 
-pub use connect_raw::StartupStream;
 pub use connection::Connection;
 pub use ends::{FlushEnd, Off, PartsEnd, ReadEnd, SendEnd, Step, TurnEnd, WriteEnd};
 pub use fault::ConnectionFault;
 pub use laws::{history_of_a_connection, settled_poll};
 pub use parameters::Parameters;
-<<<<<<< HEAD
 pub use startup::{Heard, Phase, Startup};
-=======
-pub use startup_fault::{Phase, StartupFault};
->>>>>>> fe59ece3a30f144b12cab9e7a1ae74e3102cbe8e
 pub use streams::{Held, Streams};
