@@ -91,10 +91,12 @@ fn desk(alloc: Global, reply: &[u8]) -> Result<OneReply, Fail> {
     let mut bytes = BytesMut::new(alloc);
     bytes.extend_from_slice(reply)?;
     let reply = match PostgresCodec::decode(&mut bytes)? {
-        Some(BackendMessage::Normal {
-            messages,
-            request_complete: _complete,
-        }) => Some(messages),
+        Some(
+            BackendMessage::Normal {
+                messages,
+                request_complete: _complete,
+            },
+        ) => Some(messages),
         _other => None,
     };
     Ok(OneReply {

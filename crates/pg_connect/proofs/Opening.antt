@@ -156,10 +156,11 @@ piece-fails name nonce begin a b s t (error.Io cause.Link) o keeps whole header 
 piece-fails name nonce begin a b s t error.Closed o keeps whole header was =
     (rose_later begin.ends a.ends b.ends keeps.counts.ends was.0, o.came.left ∙ ap bytes_left was.1)
 piece-fails name nonce begin a b s t (error.Io cause.Ended) o keeps whole header was =
-    let left : bytes_left o.got ≡ t.buffer.items = o.came.left ∙ ap bytes_left was.2 ∙ whole ∙ sym was.2 in
-    (rose_later begin.ends a.ends b.ends keeps.counts.ends was.0,
-    subst (λ (l : List ℕ). l ≢ []) (sym left) (not_none t.buffer.items was.1),
-    ap has_bad_header (left ∙ was.2) ∙ header)
+    let left : bytes_left o.got ≡ t.buffer.items = o.came.left ∙ ap bytes_left was.2 ∙ whole ∙ sym was.2 in (
+      rose_later begin.ends a.ends b.ends keeps.counts.ends was.0,
+      subst (λ (l : List ℕ). l ≢ []) (sym left) (not_none t.buffer.items was.1),
+      ap has_bad_header (left ∙ was.2) ∙ header,
+    )
 piece-fails name nonce begin a b s t (error.LimitReached given limit) o keeps whole header was = (was.0 ∙ o.count, was.1, was.2)
 piece-fails name nonce begin a b s t error.OutOfMemory o keeps whole header was = tt
 piece-fails name nonce begin a b s t _ o keeps whole header was = absurd was

@@ -83,14 +83,29 @@ authentication-nothing body =
     by_row (λ row. (row.0 == code.0) ≡ true) (find (λ row. row.0 == code.0) authentications) code.1
     (found (λ row. row.0 == code.0) (λ row. (rest : List ℕ) → Nothing (row.1 rest)) authentications (
       alone-nothing spec.AuthenticationOk refl,
-      (alone-nothing spec.AuthenticationKerberosV5 refl,
-      (alone-nothing spec.AuthenticationCleartextPassword refl,
-      (λ rest. salted rest (length rest == 4),
-      (alone-nothing spec.AuthenticationScmCredential refl,
-      (alone-nothing spec.AuthenticationGss refl,
-      (λ rest. refl,
-      (alone-nothing spec.AuthenticationSspi refl,
-      (λ rest. refl, (λ rest. refl, (λ rest. refl, tt)))))))))))))
+      (
+        alone-nothing spec.AuthenticationKerberosV5 refl,
+        (
+          alone-nothing spec.AuthenticationCleartextPassword refl,
+          (
+            λ rest. salted rest (length rest == 4),
+            (
+              alone-nothing spec.AuthenticationScmCredential refl,
+              (
+                alone-nothing spec.AuthenticationGss refl,
+                (
+                  λ rest. refl,
+                  (
+                    alone-nothing spec.AuthenticationSspi refl,
+                    (λ rest. refl, (λ rest. refl, (λ rest. refl, tt))),
+                  ),
+                ),
+              ),
+            ),
+          ),
+        ),
+      ),
+    )))
   where
     by_row : (P : Row → Type 0) (o : Option Row) (rest : List ℕ) → IfSome o (λ row. P row × ((rest : List ℕ) → Nothing (row.1 rest))) → Nothing (o >>= λ request. request.1 rest)
     by_row P None rest is = tt
@@ -103,26 +118,65 @@ Silent row = (row.0 ≡ byte "Z") ⊎ ((body : List ℕ) → Nothing (row.1 body
 all_silent : Each Silent layouts
 all_silent = (
   inr authentication-nothing,
-  (inr key-nothing,
-  (inl refl,
-  (inr parameter-nothing,
-  (inr (λ body. refl),
-  (inr notification-nothing,
-  (inr (counted-nothing spec.RowDescription (λ n rest. refl)),
-  (inr (counted-nothing spec.DataRow (λ n rest. refl)),
-  (inr (text-nothing spec.CommandComplete (λ text. refl)),
-  (inr (alone-nothing spec.EmptyQueryResponse refl),
-  (inr (λ body. refl),
-  (inr (alone-nothing spec.ParseComplete refl),
-  (inr (alone-nothing spec.BindComplete refl),
-  (inr (alone-nothing spec.CloseComplete refl),
-  (inr (alone-nothing spec.NoData refl),
-  (inr (alone-nothing spec.PortalSuspended refl),
-  (inr (alone-nothing spec.CopyDone refl),
-  (inr (counted-nothing spec.ParameterDescription (λ n rest. refl)),
-  (inr (copying-nothing spec.CopyInResponse refl),
-  (inr (copying-nothing spec.CopyOutResponse refl),
-  (inr (λ body. refl), tt)))))))))))))))))))))
+  (
+    inr key-nothing,
+    (
+      inl refl,
+      (
+        inr parameter-nothing,
+        (
+          inr (λ body. refl),
+          (
+            inr notification-nothing,
+            (
+              inr (counted-nothing spec.RowDescription (λ n rest. refl)),
+              (
+                inr (counted-nothing spec.DataRow (λ n rest. refl)),
+                (
+                  inr (text-nothing spec.CommandComplete (λ text. refl)),
+                  (
+                    inr (alone-nothing spec.EmptyQueryResponse refl),
+                    (
+                      inr (λ body. refl),
+                      (
+                        inr (alone-nothing spec.ParseComplete refl),
+                        (
+                          inr (alone-nothing spec.BindComplete refl),
+                          (
+                            inr (alone-nothing spec.CloseComplete refl),
+                            (
+                              inr (alone-nothing spec.NoData refl),
+                              (
+                                inr (alone-nothing spec.PortalSuspended refl),
+                                (
+                                  inr (alone-nothing spec.CopyDone refl),
+                                  (
+                                    inr (counted-nothing spec.ParameterDescription (λ n rest. refl)),
+                                    (
+                                      inr (copying-nothing spec.CopyInResponse refl),
+                                      (
+                                        inr (copying-nothing spec.CopyOutResponse refl),
+                                        (inr (λ body. refl), tt),
+                                      ),
+                                    ),
+                                  ),
+                                ),
+                              ),
+                            ),
+                          ),
+                        ),
+                      ),
+                    ),
+                  ),
+                ),
+              ),
+            ),
+          ),
+        ),
+      ),
+    ),
+  ),
+)
 
 -- what is read of a body
 abbrev read : Option Message → Result Message faults.WireFault

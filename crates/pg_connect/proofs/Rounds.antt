@@ -115,6 +115,7 @@ stays_open s mid t fs active same closes = pick t.closing (λ x. never (closes x
     never : (mid.closing ≡ true) ⊎ ((false ≡ true) × (last_is has_no_more fs ≡ true)) → ⊥
     never (inl closing) = not_both mid.closing closing (same ∙ active)
     never (inr may) = let no : false ≡ true = may.0 in cc
+
     pick : (b : Bool) → (b ≡ true → ⊥) → b ≡ false
     pick true fails = absurd (fails refl)
     pick false fails = refl
@@ -201,13 +202,13 @@ turned_dry becomes joins h i k a b c l m n reads sends first more = record {
   which = first.is;
   goes = goes-all becomes joins h i k a b c l m n first.handed (ReadEnds b l m (Ok ending.Dry)) (Sends b c m n true (Ok sending.Waits)) (TurnEnds a c l n (Ok turn.Waits)) first.goes more
       (λ es fs e f.
-        let dry = dry_turn a b c l m n more.passes.link reads sends e.0 e.1 in
-        record {
-          reading = inr (inr dry);
-          writing = written_later c l m n es fs first.goes.passes.link f.end.writing;
-          closing = λ x. blocked_later l m n first.goes.passes.link (f.end.closing x);
-          began = closes_dry a b c l n es fs reads.closing dry f.closes;
-        });
+      let dry = dry_turn a b c l m n more.passes.link reads sends e.0 e.1 in
+      record {
+        reading = inr (inr dry);
+        writing = written_later c l m n es fs first.goes.passes.link f.end.writing;
+        closing = λ x. blocked_later l m n first.goes.passes.link (f.end.closing x);
+        began = closes_dry a b c l n es fs reads.closing dry f.closes;
+      });
 }
 
 pub turned_over : {H : Type 0} (becomes : H → List Event → H → Type 0) → Joins becomes → (h i k : H) (a b c : Streams) (l m n : LinkView) →

@@ -157,8 +157,7 @@ reported_as raw m means = ap report means
 pub sorted_handed : (raw : RawMessage) (m : spec.Message) (a : AsyncMessage) → is_aside raw ≡ true → message_of raw ≡ Ok m → async_message m ≡ Some a →
     Sorted raw (raw ∷ []) [] × (async_of_raw raw ≡ Some a)
 sorted_handed raw m a aside means reads =
-    let tag = handed_tag m a reads in
-    (
+    let tag = handed_tag m a reads in (
       record {
         sync = sync_none raw aside;
         async_is = ap (λ b. if b then raw ∷ [] else []) (ap (λ (t : ℕ). t == byte "N" || t == byte "A") (sym (aside_kind raw m aside means)) ∙ tag.1);

@@ -39,10 +39,14 @@ impl Streams {
     {
         match PostgresCodec::decode(&mut self.buffer) {
             Ok(None) => Ok(Off::Nothing),
-            Ok(Some(BackendMessage::Normal {
-                messages,
-                request_complete,
-            })) => {
+            Ok(
+                Some(
+                    BackendMessage::Normal {
+                        messages,
+                        request_complete,
+                    },
+                ),
+            ) => {
                 self.hold(messages, request_complete);
                 Ok(Off::Held)
             }

@@ -12,7 +12,6 @@ ghost use Rattle.pg_spec.specs.RawMessages.{RawMessage};
 ghost use Rattle.pg_wire.specs.Messages.{message_view};
 ghost use Rattle.pg_connect.specs.Startups.{Made, Leads, Hears, HearsAll, refusal_of, stop_of, Judges, IsLast, WasLast, Opening, Opened, Failed, phase_of};
 
-
 use crate::{Parameters, Streams};
 use bytes::{Bytes, BytesMut};
 use futures::task::Poll;
@@ -176,7 +175,9 @@ impl Startup {
     {
         'batches: loop {
             match PostgresCodec::decode(&mut self.buffer) {
-                Ok(Some(BackendMessage::Normal { messages, .. })) => match self.hear_batch(messages) {
+                Ok(Some(BackendMessage::Normal { messages, .. })) => match self.hear_batch(
+                    messages,
+                ) {
                     Ok(Heard::More) => {}
                     Ok(Heard::Done) => return Ok(Heard::Done),
                     Err(error) => return Err(error),

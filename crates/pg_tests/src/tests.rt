@@ -42,11 +42,23 @@ fn sessions_report_what_was_worked_out(rt: HostRuntime) -> Result<(), Fail> {
 
 /// Words or texts that are refused, and what is written.
 const REFUSED: [(&str, &str, &str); 5] = [
-    ("dance", "config \"user=a\"\n", "usage: pgplay play | pipe FILE REPORT | threads | gen N SEED\n"),
+    (
+        "dance",
+        "config \"user=a\"\n",
+        "usage: pgplay play | pipe FILE REPORT | threads | gen N SEED\n",
+    ),
     ("play", "", "refused 1\n"),
     ("play", "# nothing\n", "refused 2\n"),
-    ("play", "config \"user=a\"\nhandle\nsimple  \"x\"\n", "refused 3\n"),
-    ("play", "config \"user=a\"\nprepare 0 \"x\"\n", "refused 2\n"),
+    (
+        "play",
+        "config \"user=a\"\nhandle\nsimple  \"x\"\n",
+        "refused 3\n",
+    ),
+    (
+        "play",
+        "config \"user=a\"\nprepare 0 \"x\"\n",
+        "refused 2\n",
+    ),
 ];
 
 #[test]

@@ -36,11 +36,7 @@ pub(crate) enum End {
 
 impl Play {
     /// A session before its first turn. Requests are closed at once where there is no command.
-    pub(crate) fn new(
-        alloc: Global,
-        streams: Streams,
-        scripts: &Scripts,
-    ) -> Result<Play, Error> {
+    pub(crate) fn new(alloc: Global, streams: Streams, scripts: &Scripts) -> Result<Play, Error> {
         let mut handles = Vec::new(alloc);
         let mut unanswered: usize = 0;
         for script in scripts.as_slice() {
@@ -166,12 +162,7 @@ impl Play {
     }
 
     /// A handle's turn. It moves if a command begins, books, takes, hangs up or answers.
-    fn handle_turn(
-        &mut self,
-        alloc: Global,
-        scripts: &Scripts,
-        turn: u32,
-    ) -> Result<End, Error> {
+    fn handle_turn(&mut self, alloc: Global, scripts: &Scripts, turn: u32) -> Result<End, Error> {
         let script = scripts.as_slice()[turn as usize].as_slice();
         let handle = &mut self.handles[turn as usize];
         let stamp = Stamp {

@@ -45,6 +45,6 @@ pub use memory_link::MemoryLink;
 pub use memory_stream::{MemorySink, MemorySource};
 pub use message::Message;
 pub use ranges::DataRowRanges;
-pub use std_stream::{ReadSource, WriteSink};
 pub use row_fields::{Field, Fields};
+pub use std_stream::{ReadSource, WriteSink};
 pub use stream::{Sink, SinkFlush, SinkWrite, Source, SourceRead};

@@ -3,9 +3,8 @@
 
 use pg_tool::{Outcome, run};
 use pg_wire::{MemoryLink, ReadSource, WriteSink};
-use std::env;
-use std::io;
 use std::process::ExitCode;
+use std::{env, io};
 
 /// The status of want of memory.
 const OUT_OF_MEMORY: u8 = 5;

@@ -6,7 +6,7 @@ abbrev pub invariant-loop-at : goal.invariant-loop-at
 invariant-loop-at g l = record {
   within : l.at ≤ length l.text;
   written : Grew (g.K.Sink.state l.initial.sink).written (g.K.Sink.state l.sink).written (take l.at l.text);
-  faults : (g.K.Sink.state l.initial.sink).faults ≤ (g.K.Sink.state l.sink).faults
+  faults : (g.K.Sink.state l.initial.sink).faults ≤ (g.K.Sink.state l.sink).faults;
 }
 
 abbrev pub decreases-loop-at : goal.decreases-loop-at

@@ -9,7 +9,7 @@ invariant-batches l = record {
   same : l.self ≡ record l.initial.self { phase = l.self.phase; buffer = l.self.buffer };
   left : bytes_left l.self.buffer.items ≡ bytes_left l.initial.self.buffer.items;
   walked : (name nonce : List ℕ) (read : List RawMessage) → Leads name nonce read (phase_of l.initial.self.phase) →
-      Walked name nonce read (messages l.initial.self.buffer.items) (messages l.self.buffer.items) l.self.phase
+      Walked name nonce read (messages l.initial.self.buffer.items) (messages l.self.buffer.items) l.self.phase;
 }
 
 abbrev pub decreases-batches : goal.decreases-batches

@@ -19,4 +19,3 @@ returns-in-Err-hear-clause-heard c name nonce read complete cut leads =
     let t = rw c.in-Ok-Some.field-0-is at c.in-Ok-Some.ensures in
     let w = c.messages.invariant.walked name nonce read leads in
     fails-later name nonce read _ _ (t.raw ∷ []) _ [] [] c.messages.self.phase c.hear.new.self.phase c.hear.new.self.phase c.in-Err-hear.error w t.front (c.in-Err-hear.ensures.heard name nonce (read ++ w.front) t.raw w.leads t.means)
-

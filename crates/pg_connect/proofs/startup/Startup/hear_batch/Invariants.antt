@@ -10,7 +10,7 @@ invariant-messages l = record {
   same : l.self ≡ record l.initial.self { phase = l.self.phase };
   rest : (complete : Bool) → is_batch complete l.initial.batch ≡ true → IsRest complete l.batch;
   walked : (name nonce : List ℕ) (read : List RawMessage) → Leads name nonce read (phase_of l.initial.self.phase) →
-      Walked name nonce read l.initial.batch l.batch l.self.phase
+      Walked name nonce read l.initial.batch l.batch l.self.phase;
 }
 
 abbrev pub decreases-messages : goal.decreases-messages

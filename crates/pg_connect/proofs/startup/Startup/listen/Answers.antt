@@ -24,9 +24,9 @@ pub pieces-preserved : goal.pieces-preserved
 pieces-preserved g c = record {
   same = c.in-Ok-true.ensures.reads.same
       ∙ ap (λ (x : Startup). record x { buffer = c.read_piece.new.self.buffer; given = c.read_piece.new.self.given; moved = c.read_piece.new.self.moved })
-          (c.hear_all.ensures.same ∙ ap (λ (x : Startup). record x { phase = c.hear_all.new.self.phase; buffer = c.hear_all.new.self.buffer }) c.pieces.invariant.same)
+      (c.hear_all.ensures.same ∙ ap (λ (x : Startup). record x { phase = c.hear_all.new.self.phase; buffer = c.hear_all.new.self.buffer }) c.pieces.invariant.same)
       ∙ ap (λ (p : Phase). record c.args.self.now { phase = p; buffer = c.read_piece.new.self.buffer; given = c.read_piece.new.self.given; moved = c.read_piece.new.self.moved })
-          (sym (ap (λ (x : Startup). x.phase) c.in-Ok-true.ensures.reads.same));
+      (sym (ap (λ (x : Startup). x.phase) c.in-Ok-true.ensures.reads.same));
   within = (rw c.in-Ok-true.field-0-test at c.in-Ok-true.ensures.end).1;
   link = keeps_then _ _ _ c.pieces.invariant.link c.in-Ok-true.ensures.reads.link;
   opening = λ name nonce begin at.

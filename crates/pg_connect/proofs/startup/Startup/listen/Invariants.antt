@@ -10,7 +10,7 @@ invariant-pieces g l = record {
   within : l.self.given ≤ l.self.max_bytes;
   link : Keeps (g.L.Link.view l.initial.link) (g.L.Link.view l.link);
   opening : (name nonce : List ℕ) (begin : LinkView) → Opening name nonce begin (g.L.Link.view l.initial.link) l.initial.self →
-      Opening name nonce begin (g.L.Link.view l.link) l.self
+      Opening name nonce begin (g.L.Link.view l.link) l.self;
 }
 
 abbrev pub decreases-pieces : goal.decreases-pieces

@@ -25,9 +25,8 @@ returns-in-Ok-Over-clause-answer g c =
 
 pub returns-in-Err-clause-answer : goal.returns-in-Err-clause-answer
 returns-in-Err-clause-answer g c =
-    let w = c.in-Err in
-    (
+    let w = c.in-Err in (
       ap (λ (x : Streams). x.ended || is_some x.unread) c.end-in-Err.ensures,
       inr (turned_failed _ _ _ _ c.args.self.now c.begin.new.self c.turn.new.self c.end-in-Err.new.self (g.L.Link.view c.args.link.now) (g.L.Link.view c.turn.new.link) w.fault c.into_error.result
-      c.fail.result (sym c.is_over-over.ensures ∙ c.if-over.false) c.begin.ensures c.end-in-Err.ensures c.into_error.ensures w.ensures.turns c.fail.ensures.event),
+          c.fail.result (sym c.is_over-over.ensures ∙ c.if-over.false) c.begin.ensures c.end-in-Err.ensures c.into_error.ensures w.ensures.turns c.fail.ensures.event),
     )
