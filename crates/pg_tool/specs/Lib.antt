@@ -1,3 +1,5 @@
 pub mod Asked
 pub mod Reading
 pub mod Writing
+pub mod Openings
+pub mod Plays

@@ -1,5 +1,8 @@
 //! A handle, which runs the commands of its script one after another.
 
+ghost use Rattle.std.specs.Prelude.{◌≡◌, IfErr, length, None, []};
+ghost use Rattle.pg_client.specs.Queries.{IsLiveQuery};
+
 use futures::task::Poll;
 use pg_client::SimpleQueryState;
 use pg_desk::{Desk, Stamp};
@@ -13,8 +16,15 @@ use std::alloc::Global;
 /// that at the place of their number.
 #[derive(Drop)]
 pub(crate) struct Handle {
-    running: Option<SimpleQueryState>,
+    running: Option<Running>,
     answers: Vec<Answer>,
+}
+
+/// A command that hasn't answered.
+#[derive(Drop)]
+struct Running {
+    state: SimpleQueryState,
+    ghost live: { IsLiveQuery state },
 }
 
 /// What a handle's turn did.
@@ -31,7 +41,10 @@ pub(crate) enum Polling {
 }
 
 impl Handle {
-    pub(crate) fn new(alloc: Global) -> Handle {
+    pub(crate) fn new(alloc: Global) -> Handle
+        ensures running { result.running ≡ None }
+        ensures answers { result.answers.items ≡ [] }
+    {
         Handle {
             running: None,
             answers: Vec::new(alloc),
@@ -39,7 +52,9 @@ impl Handle {
     }
 
     /// How many commands were answered, so the place of the next one or of the one that runs.
-    pub(crate) fn answered(&self) -> usize {
+    pub(crate) fn answered(&self) -> usize
+        ensures { result ≡ length self.now.answers.items }
+    {
         self.answers.len()
     }
 
@@ -51,9 +66,11 @@ impl Handle {
         desk: &mut D,
         script: &[Command],
         stamp: Stamp,
-    ) -> Result<Polling, Error> {
+    ) -> Result<Polling, Error>
+        ensures { IfErr result (λ e. e ≡ Error.OutOfMemory) }
+    {
         match self.running.take() {
-            Some(state) => self.poll(alloc, desk, stamp, state, Polling::Waits),
+            Some(Running { state, .. }) => self.poll(alloc, desk, stamp, state, Polling::Waits),
             None => match script.get(self.answers.len()) {
                 Some(command) => {
                     let state = begin(alloc, command);
@@ -72,22 +89,29 @@ impl Handle {
         stamp: Stamp,
         state: SimpleQueryState,
         waiting: Polling,
-    ) -> Result<Polling, Error> {
+    ) -> Result<Polling, Error>
+        requires { IsLiveQuery state }
+        ensures { IfErr result (λ e. e ≡ Error.OutOfMemory) }
+    {
         let mut state = state;
         match state.poll(alloc, desk, stamp) {
             Poll::Pending => {
-                self.running = Some(state);
+                self.running = Some(Running { state });
                 Ok(waiting)
             }
             Poll::Ready(answer) => {
-                self.answer(answer)?;
-                Ok(Polling::Answered)
+                match self.answer(answer) {
+                    Ok(()) => Ok(Polling::Answered),
+                    Err(error) => Err(error),
+                }
             }
         }
     }
 
     /// Keeps the answer of the command that ran. Want of memory ends the session.
-    fn answer(&mut self, answer: Result<List<SimpleMessage>, Error>) -> Result<(), Error> {
+    fn answer(&mut self, answer: Result<List<SimpleMessage>, Error>) -> Result<(), Error>
+        ensures { IfErr result (λ e. e ≡ Error.OutOfMemory) }
+    {
         let answer = match answer {
             Ok(messages) => Answer::Messages(messages),
             Err(Error::OutOfMemory) => return Err(Error::OutOfMemory),
@@ -99,7 +123,9 @@ impl Handle {
         }
     }
 
-    pub(crate) fn into_answers(self) -> List<Answer> {
+    pub(crate) fn into_answers(self) -> List<Answer>
+        ensures { result ≡ self.answers.items }
+    {
         let Handle {
             running: _,
             answers,
@@ -109,7 +135,9 @@ impl Handle {
 }
 
 /// The state of a command.
-fn begin(alloc: Global, command: &Command) -> SimpleQueryState {
+fn begin(alloc: Global, command: &Command) -> SimpleQueryState
+    ensures { IsLiveQuery result }
+{
     match command {
         Command::Simple { text, take } => SimpleQueryState::new(alloc, text.as_str(), *take),
     }

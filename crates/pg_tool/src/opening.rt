@@ -1,10 +1,11 @@
 //! The startup of a session.
 
-ghost use Rattle.std.specs.Prelude.{◌≡◌, ◌^◌, ◌<◌, ◌≤◌, ℕ, List, OnOk};
+ghost use Rattle.std.specs.Prelude.{◌≡◌, ◌^◌, ◌<◌, ◌≤◌, ℕ, List};
 ghost use Rattle.pg_spec.specs.Links.{LinkView};
-ghost use Rattle.pg_wire.specs.LinkCalls.{Continues};
+ghost use Rattle.pg_wire.specs.LinkCalls.{SameBytes, Keeps};
 ghost use Rattle.pg_connect.specs.Startups.{Opening};
-ghost use Rattle.pg_tool.specs.Openings.{OpenEnds, WaitEnds};
+ghost use Rattle.pg_connect.specs.StartupPolls.{SameStart};
+ghost use Rattle.pg_tool.specs.Openings.{Steps, GoesOn, WaitEnds, OpenEnds};
 
 use futures::task::Poll;
 use pg_connect::Startup;
@@ -20,21 +21,33 @@ enum Opens {
 }
 
 /// Polls a startup once.
-fn poll_once<L: Link>(startup: &mut Startup, link: &mut L) -> Result<Opens, Error> {
+fn poll_once<L: Link>(startup: &mut Startup, link: &mut L) -> Result<Opens, Error>
+    requires limit { startup.old.max_bytes < 2 ^ 63 }
+    requires given { startup.old.given ≤ startup.old.max_bytes }
+    ensures answer { (name nonce : List ℕ) (begin : LinkView) → Opening name nonce begin (L.view link.old) startup.old →
+        Steps name nonce begin (L.view link.new) startup.new result }
+    ensures waits { GoesOn (L.view link.old) (L.view link.new) startup.new result }
+    ensures same { SameStart startup.old startup.new }
+{
     match startup.poll(link) {
         Poll::Ready(Ok(())) => Ok(Opens::Done),
         Poll::Ready(Err(error)) => Err(error),
-        Poll::Pending => Ok(if startup.moved() {
-            Opens::Moved
-        } else {
-            Opens::Quiet
-        }),
+        Poll::Pending => {
+            if startup.moved() {
+                return Ok(Opens::Moved);
+            }
+            Ok(Opens::Quiet)
+        }
     }
 }
 
 /// Waits for the link behind turns that moved nothing, in which its count of calls that weren't ready
 /// went from `before` to `after`.
-pub(crate) fn wait_for<L: Link>(link: &mut L, before: u64, after: u64) -> Result<(), Error> {
+pub(crate) fn wait_for<L: Link>(link: &mut L, before: u64, after: u64) -> Result<(), Error>
+    ensures end { WaitEnds before after (L.view link.old) (L.view link.new) result }
+    ensures bytes { SameBytes (L.view link.old) (L.view link.new) }
+    ensures keeps { Keeps (L.view link.old) (L.view link.new) }
+{
     match link.wait() {
         LinkWait::Ready => Ok(()),
         LinkWait::Idle => Err(Error::Stalled { before, after }),
@@ -44,11 +57,20 @@ pub(crate) fn wait_for<L: Link>(link: &mut L, before: u64, after: u64) -> Result
 
 /// Polls the startup until it answers. Where a poll moved nothing the link is waited for, and where the
 /// next one moves nothing either, the session is stalled.
-pub(crate) fn open<L: Link>(startup: &mut Startup, link: &mut L) -> Result<(), Error> {
+pub(crate) fn open<L: Link>(startup: &mut Startup, link: &mut L) -> Result<(), Error>
+    requires limit { startup.old.max_bytes < 2 ^ 63 }
+    requires given { startup.old.given ≤ startup.old.max_bytes }
+    ensures answer { (name nonce : List ℕ) (begin : LinkView) → Opening name nonce begin (L.view link.old) startup.old →
+        OpenEnds name nonce begin (L.view link.new) startup.new result }
+    ensures same { SameStart startup.old startup.new }
+{
     let mut waited = false;
     'polls: for _ in 0..u64::MAX {
         let before = link.quiet();
-        let opens = poll_once(startup, link)?;
+        let opens = match poll_once(startup, link) {
+            Ok(opens) => opens,
+            Err(error) => return Err(error),
+        };
         let after = link.quiet();
         match opens {
             Opens::Done => return Ok(()),
@@ -57,7 +79,10 @@ pub(crate) fn open<L: Link>(startup: &mut Startup, link: &mut L) -> Result<(), E
                 if waited {
                     return Err(Error::Stalled { before, after });
                 }
-                wait_for(link, before, after)?;
+                match wait_for(link, before, after) {
+                    Ok(()) => {}
+                    Err(error) => return Err(error),
+                }
                 waited = true;
             }
         }

@@ -1,5 +1,9 @@
 //! A session behind its startup: handles and the connection take turns on one hub.
 
+ghost use Rattle.std.specs.Prelude.{◌≡◌, ◌^◌, ◌<◌, ◌≤◌, length, false, IfOk};
+ghost use Rattle.pg_wire.specs.LinkCalls.{Continues};
+ghost use Rattle.pg_tool.specs.Plays.{IsReady};
+
 use crate::handle::{Handle, Polling};
 use crate::opening::wait_for;
 use futures::task::Poll;
@@ -58,7 +62,10 @@ impl Play {
     }
 
     /// Where every command is answered, no request will be booked any more.
-    fn close_if_answered(&mut self) -> Result<(), Error> {
+    fn close_if_answered(&mut self) -> Result<(), Error>
+        ensures streams { self.new.streams ≡ self.old.streams }
+        ensures handles { self.new.handles ≡ self.old.handles }
+    {
         if self.unanswered > 0 {
             return Ok(());
         }
@@ -75,7 +82,10 @@ impl Play {
         link: &mut L,
         scripts: &Scripts,
         turns: &[u32],
-    ) -> Result<(), Error> {
+    ) -> Result<(), Error>
+        requires ready { IsReady scripts.now self.old }
+        ensures link { Continues (L.view link.old) (L.view link.new) }
+    {
         for turn in turns {
             if self.turn(alloc, link, scripts, *turn)? == End::Over {
                 return Ok(());
@@ -91,7 +101,10 @@ impl Play {
         alloc: Global,
         link: &mut L,
         scripts: &Scripts,
-    ) -> Result<(), Error> {
+    ) -> Result<(), Error>
+        requires ready { IsReady scripts.now self.old }
+        ensures link { Continues (L.view link.old) (L.view link.new) }
+    {
         let mut waited = false;
         for _ in 0..u64::MAX {
             let before = link.quiet();
@@ -118,7 +131,11 @@ impl Play {
         alloc: Global,
         link: &mut L,
         scripts: &Scripts,
-    ) -> Result<End, Error> {
+    ) -> Result<End, Error>
+        requires ready { IsReady scripts.now self.old }
+        ensures ready { IsReady scripts.now self.new }
+        ensures link { Continues (L.view link.old) (L.view link.new) }
+    {
         let mut moved = false;
         let handles = self.handles.len() as u32;
         for turn in 0..handles {
@@ -139,7 +156,11 @@ impl Play {
         link: &mut L,
         scripts: &Scripts,
         turn: u32,
-    ) -> Result<End, Error> {
+    ) -> Result<End, Error>
+        requires ready { IsReady scripts.now self.old }
+        ensures ready { IsReady scripts.now self.new }
+        ensures link { Continues (L.view link.old) (L.view link.new) }
+    {
         let end = if (turn as usize) < self.handles.len() {
             self.handle_turn(alloc, scripts, turn)?
         } else {
@@ -150,7 +171,10 @@ impl Play {
     }
 
     /// Notes a turn that was made.
-    fn mark(&mut self, turn: u32) -> Result<(), Error> {
+    fn mark(&mut self, turn: u32) -> Result<(), Error>
+        ensures streams { self.new.streams ≡ self.old.streams }
+        ensures handles { self.new.handles ≡ self.old.handles }
+    {
         let mark = TurnMark {
             turn,
             delivered: self.streams.delivered,
@@ -184,7 +208,14 @@ impl Play {
     }
 
     /// The connection's turn: one poll.
-    fn connection_turn<L: Link>(&mut self, alloc: Global, link: &mut L) -> Result<End, Error> {
+    fn connection_turn<L: Link>(&mut self, alloc: Global, link: &mut L) -> Result<End, Error>
+        requires limit { self.old.streams.max_bytes < 2 ^ 63 }
+        requires within { self.old.streams.ended ≡ false → self.old.streams.given ≤ self.old.streams.max_bytes }
+        ensures limit { self.new.streams.max_bytes ≡ self.old.streams.max_bytes }
+        ensures within { self.new.streams.ended ≡ false → self.new.streams.given ≤ self.new.streams.max_bytes }
+        ensures handles { self.new.handles ≡ self.old.handles }
+        ensures link { Continues (L.view link.old) (L.view link.new) }
+    {
         match self.streams.poll_message(alloc, link, &mut self.hub) {
             Poll::Pending => Ok(if self.streams.moved {
                 End::Moved

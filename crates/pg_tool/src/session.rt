@@ -1,5 +1,10 @@
 //! A session: the startup, the turns, and the report.
 
+ghost use Rattle.std.specs.Prelude.{◌≡◌, ◌<◌, ◌^◌, Err};
+ghost use Rattle.pg_spec.specs.Causes.{IsNotBuilt};
+ghost use Rattle.pg_text.specs.Views.{scripts_of};
+ghost use Rattle.pg_wire.specs.LinkCalls.{Continues};
+
 use crate::asked::{is_in_form, user_of};
 use crate::opening::open;
 use crate::play::Play;
@@ -27,6 +32,16 @@ pub fn run_session<L: Link>(
     link: &mut L,
 ) -> Result<Report, Error>
     requires { max_bytes < 2 ^ 63 }
+    ensures link { Continues (L.view link.old) (L.view link.new) }
+    ensures refused { IsNotBuilt (record {
+      config = config.now;
+      nonce = nonce.now;
+      scripts = scripts_of scripts.now;
+      turns = turns.now;
+      limit = max_bytes;
+      before = L.view link.old;
+      after = L.view link.new;
+    }) → (result ≡ Err (Error.Config Cause.NotBuilt)) × (L.view link.new ≡ L.view link.old) }
 {
     let Some(user) = user_of(config) else {
         return Err(Error::Config(Cause::NotBuilt));
@@ -34,10 +49,22 @@ pub fn run_session<L: Link>(
     if !is_in_form(nonce) {
         return Err(Error::Config(Cause::NotBuilt));
     }
-    let mut startup = Startup::new(alloc, user, max_bytes)?;
-    open(&mut startup, link)?;
+    let mut startup = match Startup::new(alloc, user, max_bytes) {
+        Ok(startup) => startup,
+        Err(error) => return Err(error),
+    };
+    match open(&mut startup, link) {
+        Ok(()) => {}
+        Err(error) => return Err(error),
+    }
     let (opening, streams) = startup.into_streams(alloc);
-    let mut play = Play::new(alloc, streams, scripts)?;
-    play.run(alloc, link, scripts, turns)?;
+    let mut play = match Play::new(alloc, streams, scripts) {
+        Ok(play) => play,
+        Err(error) => return Err(error),
+    };
+    match play.run(alloc, link, scripts, turns) {
+        Ok(()) => {}
+        Err(error) => return Err(error),
+    }
     play.into_report(alloc, opening)
 }
