@@ -1,7 +1,9 @@
 //! A handle, which runs the commands of its script one after another.
 
-ghost use Rattle.std.specs.Prelude.{◌≡◌, IfErr, length, None, []};
+ghost use Rattle.std.specs.Prelude.{◌≡◌, ◌<◌, IfErr, length, None, []};
+ghost use Rattle.std.specs.List.{All};
 ghost use Rattle.pg_client.specs.Queries.{IsLiveQuery};
+ghost use Rattle.pg_tool.specs.Handles.{IsLiveHandle};
 
 use futures::task::Poll;
 use pg_client::SimpleQueryState;
@@ -16,15 +18,8 @@ use std::alloc::Global;
 /// that at the place of their number.
 #[derive(Drop)]
 pub(crate) struct Handle {
-    running: Option<Running>,
+    running: Option<SimpleQueryState>,
     answers: Vec<Answer>,
-}
-
-/// A command that hasn't answered.
-#[derive(Drop)]
-struct Running {
-    state: SimpleQueryState,
-    ghost live: { IsLiveQuery state },
 }
 
 /// What a handle's turn did.
@@ -67,10 +62,12 @@ impl Handle {
         script: &[Command],
         stamp: Stamp,
     ) -> Result<Polling, Error>
-        ensures { IfErr result (λ e. e ≡ Error.OutOfMemory) }
+        requires { IsLiveHandle self.old }
+        ensures live { IsLiveHandle self.new }
+        ensures error { IfErr result (λ e. e ≡ Error.OutOfMemory) }
     {
         match self.running.take() {
-            Some(Running { state, .. }) => self.poll(alloc, desk, stamp, state, Polling::Waits),
+            Some(state) => self.poll(alloc, desk, stamp, state, Polling::Waits),
             None => match script.get(self.answers.len()) {
                 Some(command) => {
                     let state = begin(alloc, command);
@@ -90,13 +87,15 @@ impl Handle {
         state: SimpleQueryState,
         waiting: Polling,
     ) -> Result<Polling, Error>
-        requires { IsLiveQuery state }
-        ensures { IfErr result (λ e. e ≡ Error.OutOfMemory) }
+        requires state { IsLiveQuery state }
+        requires none { self.old.running ≡ None }
+        ensures live { IsLiveHandle self.new }
+        ensures error { IfErr result (λ e. e ≡ Error.OutOfMemory) }
     {
         let mut state = state;
         match state.poll(alloc, desk, stamp) {
             Poll::Pending => {
-                self.running = Some(Running { state });
+                self.running = Some(state);
                 Ok(waiting)
             }
             Poll::Ready(answer) => {
@@ -110,7 +109,8 @@ impl Handle {
 
     /// Keeps the answer of the command that ran. Want of memory ends the session.
     fn answer(&mut self, answer: Result<List<SimpleMessage>, Error>) -> Result<(), Error>
-        ensures { IfErr result (λ e. e ≡ Error.OutOfMemory) }
+        ensures running { self.new.running ≡ self.old.running }
+        ensures error { IfErr result (λ e. e ≡ Error.OutOfMemory) }
     {
         let answer = match answer {
             Ok(messages) => Answer::Messages(messages),
@@ -141,4 +141,22 @@ fn begin(alloc: Global, command: &Command) -> SimpleQueryState
     match command {
         Command::Simple { text, take } => SimpleQueryState::new(alloc, text.as_str(), *take),
     }
+}
+
+/// The turn of the handle at a place.
+pub(crate) fn turn_at<D: Desk>(
+    handles: &mut [Handle],
+    place: usize,
+    alloc: Global,
+    desk: &mut D,
+    script: &[Command],
+    stamp: Stamp,
+) -> Result<Polling, Error>
+    requires place { place < length handles.old }
+    requires live { All IsLiveHandle handles.old }
+    ensures live { All IsLiveHandle handles.new }
+    ensures count { length handles.new ≡ length handles.old }
+    ensures error { IfErr result (λ e. e ≡ Error.OutOfMemory) }
+{
+    handles[place].turn(alloc, desk, script, stamp)
 }

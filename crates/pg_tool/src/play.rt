@@ -4,7 +4,7 @@ ghost use Rattle.std.specs.Prelude.{◌≡◌, ◌^◌, ◌<◌, ◌≤◌, leng
 ghost use Rattle.pg_wire.specs.LinkCalls.{Continues};
 ghost use Rattle.pg_tool.specs.Plays.{IsReady};
 
-use crate::handle::{Handle, Polling};
+use crate::handle::{Handle, Polling, turn_at};
 use crate::opening::wait_for;
 use futures::task::Poll;
 use pg_connect::Streams;
@@ -187,15 +187,22 @@ impl Play {
 
     /// A handle's turn. It moves if a command begins, books, takes, hangs up or answers.
     fn handle_turn(&mut self, alloc: Global, scripts: &Scripts, turn: u32) -> Result<End, Error> {
-        let script = scripts.as_slice()[turn as usize].as_slice();
-        let handle = &mut self.handles[turn as usize];
+        let place = turn as usize;
+        let script = scripts.as_slice()[place].as_slice();
         let stamp = Stamp {
             owner: turn,
-            command: handle.answered() as u32,
+            command: self.handles[place].answered() as u32,
             turn: self.trace.len() as u64,
         };
         let _ = self.hub.touched();
-        match handle.turn(alloc, &mut self.hub, script, stamp)? {
+        match turn_at(
+            &mut self.handles,
+            place,
+            alloc,
+            &mut self.hub,
+            script,
+            stamp,
+        )? {
             Polling::Answered => {
                 self.unanswered = self.unanswered.saturating_sub(1);
                 self.close_if_answered()?;
