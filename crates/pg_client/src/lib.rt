@@ -4,8 +4,6 @@
 mod laws;
 mod simple_query;
 mod simple_reading;
-#[cfg(test)]
-mod tests;
 
 pub use laws::{simple_query_answers, simple_query_awaits};
 pub use simple_query::SimpleQueryState;
