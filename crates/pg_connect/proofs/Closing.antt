@@ -36,7 +36,7 @@ last_has_none (e ∷ f ∷ es) is = last_has_none (f ∷ es) is
 
 pub goes-ends : {H : Type 0} (becomes : H → List Event → H → Type 0) (h i : H) (a b : Streams) (l m : LinkView) (hs : List _) (E F : List Event → Type 0) →
     Goes becomes h i a b l m hs E → ((es : List Event) → E es → F es) → Goes becomes h i a b l m hs F
-goes-ends becomes h i a b l m hs E F goes ends = record { events = goes.events; became = goes.became; passes = goes.passes; ended = ends goes.events goes.ended }
+goes-ends becomes h i a b l m hs E F goes ends = record { events = goes.events; calls = goes.calls; became = goes.became; passes = goes.passes; ended = ends goes.events goes.ended }
 
 -- what a write step says where the connection was closing already
 pub written_closing : (s t : Streams) (a b : LinkView) (may : Bool) (r : Result WriteEnd ConnectionFault) → s.closing ≡ true →

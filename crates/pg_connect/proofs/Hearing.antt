@@ -4,7 +4,7 @@ use Rattle.pg_spec.specs.Batches.{is_batch, is_nothing}
 use Rattle.pg_spec.specs.Causes.{is_built, is_built_message}
 use Rattle.pg_spec.specs.Faults.{WireFault, UnexpectedMessage}
 use Rattle.pg_spec.specs.Messages.{Message, message_of}
-use Rattle.pg_spec.specs.RawMessages.{RawMessage, messages, bytes_left, is_aside, is_ready}
+use Rattle.pg_spec.specs.RawMessages.{RawMessage, messages, bytes_left, has_bad_header, is_aside, is_ready}
 use Rattle.pg_spec.specs.Startup.{Done, Refused}
 use Rattle.pg_errors.specs.declared.cause.Cause.TheVariants as cause
 use Rattle.pg_errors.specs.declared.error.Error.{Error}
@@ -16,7 +16,8 @@ use Rattle.pg_wire.specs.declared.fault.WireFault as wire_faults
 use Rattle.pg_wire.specs.declared.fault.WireFault.TheVariants as wire
 use Rattle.pg_wire.specs.Faults.{wire_fault}
 use Rattle.pg_wire.specs.Backend.{RefusedBy}
-use Rattle.pg_connect.specs.Startups.{phase_of, refusal_of, Leads, Ends, MeetsMore, MeetsRefused, Hears, HearsAll}
+use Rattle.pg_wire.specs.Decode.{Decodes}
+use Rattle.pg_connect.specs.Startups.{phase_of, refusal_of, stop_of, Leads, Ends, MeetsMore, MeetsRefused, Hears, HearsAll}
 use Rattle.pg_connect.proofs.Starting.{leads-nil}
 
 -- These messages were heard, those are left, and the dialogue waits in that phase.
@@ -152,3 +153,13 @@ pub all-fails : (name nonce : List ℕ) (read : List RawMessage) (old new : List
     Hears name nonce read (messages old) (messages new) at (Err e) → HearsAll name nonce read old new at (Err e)
 all-fails name nonce read old new at (error.Io (cause.Wire wire.BadLength)) l h = absurd h
 all-fails name nonce read old new at _ l h = (l, h)
+
+-- what stands in front can't be taken off
+pub refused-all : (name nonce : List ℕ) (read : List RawMessage) (old mid new : List ℕ) (at : Phase) (fault : wire_faults.WireFault) → bytes_left mid ≡ bytes_left old →
+    Walked name nonce read (messages old) (messages mid) at → Decodes mid new (Err fault) → HearsAll name nonce read old new at (Err (stop_of fault))
+refused-all name nonce read old mid new at wire.OutOfMemory l w d = (ap bytes_left d ∙ l, tt)
+refused-all name nonce read old mid new at wire.BadLength l w d = ap has_bad_header (sym l ∙ d.left) ∙ d.header
+refused-all name nonce read old mid new at wire.Layout l w d =
+    (ap bytes_left d.same ∙ l, malformed name nonce read (messages old) (messages mid) d.rest at d.raw _ w d.front d.broken)
+refused-all name nonce read old mid new at wire.UnknownTag l w d = absurd d
+refused-all name nonce read old mid new at wire.NotUtf8 l w d = absurd d

@@ -25,7 +25,7 @@ use Rattle.pg_connect.specs.declared.fault.ConnectionFault.TheVariants as fault
 use Rattle.pg_connect.specs.declared.streams.Streams.{Streams}
 use Rattle.pg_connect.specs.Faults.{of_desk}
 use Rattle.pg_connect.specs.Kept.{keep, keep_all}
-use Rattle.pg_connect.specs.Passed.{delivered_in, delivered_by, bytes_out_in, bytes_out_by, moves_in}
+use Rattle.pg_connect.specs.Passed.{AllEngineCalls, delivered_in, delivered_by, bytes_out_in, bytes_out_by, moves_in}
 use Rattle.pg_connect.specs.Passes.{Passes, Goes, waiting, delayed_in, IsUnread, goodbye, moves, risen}
 use Rattle.pg_connect.specs.Ends.{WasBlocked, last_is, is_closed_out, OfferEnds, PartsEnds}
 
@@ -230,13 +230,18 @@ passes-joined a b c l m n es fs hs js p q = record {
 
 -- ---- with the events of the hub
 
+pub calls-then : (es fs : List Event) → AllEngineCalls es → AllEngineCalls fs → AllEngineCalls (es ++ fs)
+calls-then [] fs first more = more
+calls-then (e ∷ es) fs first more = (first.0, calls-then es fs first.1 more)
+
 pub goes-then : {H : Type 0} (becomes : H → List Event → H → Type 0)
     (joins : (a b c : H) (es fs : List Event) → becomes a es b → becomes b fs c → becomes a (es ++ fs) c)
     (h i k : H) (a b c : Streams) (l m n : LinkView) (hs js : List RawMessage) (fs : List Event) (E F : List Event → Type 0) →
-    Goes becomes h i a b l m hs E → becomes i fs k → Passes b c m n fs js → ((es : List Event) → E es → F (es ++ fs)) →
+    Goes becomes h i a b l m hs E → AllEngineCalls fs → becomes i fs k → Passes b c m n fs js → ((es : List Event) → E es → F (es ++ fs)) →
     Goes becomes h k a c l n (hs ++ js) F
-goes-then becomes joins h i k a b c l m n hs js fs E F first became passes ends = record {
+goes-then becomes joins h i k a b c l m n hs js fs E F first calls became passes ends = record {
   events = first.events ++ fs;
+  calls = calls-then first.events fs first.calls calls;
   became = joins h i k first.events fs first.became became;
   passes = passes-joined a b c l m n first.events fs hs js first.passes passes;
   ended = ends first.events first.ended;
@@ -248,6 +253,7 @@ pub goes-also : {H : Type 0} (becomes : H → List Event → H → Type 0) (h i 
     Goes becomes h i a b l m hs E → Passes b c m n [] js → ((es : List Event) → E es → F es) → Goes becomes h i a c l n (hs ++ js) F
 goes-also becomes h i a b c l m n hs js E F first passes ends = record {
   events = first.events;
+  calls = first.calls;
   became = first.became;
   passes = subst (λ (x : List Event). Passes a c l n x (hs ++ js)) (append-nil first.events) (passes-joined a b c l m n first.events [] hs js first.passes passes);
   ended = ends first.events first.ended;

@@ -2,6 +2,7 @@ pub mod Keeping
 pub mod Joining
 pub mod Sends
 pub mod Parts
+pub mod Clearing
 pub mod Closing
 pub mod Starting
 pub mod Sizes

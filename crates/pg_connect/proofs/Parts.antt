@@ -29,7 +29,7 @@ pub answered : {H : Type 0} (becomes : H → List Event → H → Type 0) → Jo
     bytes_out_in (NextOut answer) ≡ [] → moves_in (NextOut answer) ≡ false →
     ((es : List Event) → F (es ++ NextOut answer ∷ [])) → Goes becomes h k a c l n [] F
 answered becomes joins h i k a b c l m n given answer F so_far offered read event is none still ends =
-    goes-then becomes joins h i k a b c l m n [] [] (NextOut answer ∷ []) Anything F so_far
+    goes-then becomes joins h i k a b c l m n [] [] (NextOut answer ∷ []) Anything F so_far (tt, tt)
     (subst (λ (r : Result Out DeskFault). becomes i (NextOut r ∷ []) k) is event)
     (passes-joined b c c m n n [] (NextOut answer ∷ []) [] [] offered
     (passes_nothing c n n (NextOut answer ∷ []) read (record { given = refl; taken = refl; due = refl }) (keeps_same n) refl (ap (λ x. x ++ []) none) (ap (λ (b : Bool). b || false) still)))
@@ -42,7 +42,7 @@ pub came_out : {H : Type 0} (becomes : H → List Event → H → Type 0) → Jo
     c.unsent ≡ [] → c.closing ≡ false → d ≡ record c { unsent = part; moved = true } → Goes becomes h k a d l n [] Anything
 came_out becomes joins h i k a b c d l m n given part so_far offered read event is sent active queued =
     let e : Event = NextOut (Ok (out.Part part)) in
-    goes-then becomes joins h i k a b d l m n [] [] (e ∷ []) Anything Anything so_far
+    goes-then becomes joins h i k a b d l m n [] [] (e ∷ []) Anything Anything so_far (tt, tt)
     (subst (λ (r : Result Out DeskFault). becomes i (NextOut r ∷ []) k) is event)
     (passes-joined b c d m n n [] (e ∷ []) [] [] offered
     (subst (λ (x : Streams). Passes c x n n (e ∷ []) []) (sym queued) (passes_part c n part (e ∷ []) read sent active refl (append-nil part) refl)))

@@ -15,7 +15,7 @@ use Rattle.pg_connect.specs.declared.streams.Streams.{Streams}
 use Rattle.pg_connect.specs.Passes.{Passes, PassesOn, Goes, Hands}
 use Rattle.pg_connect.specs.Ends.{last_is}
 use Rattle.pg_connect.specs.Reads.{HandedOff, OffEnds, DeliverEnds, PassEnds, AllEnds, PieceEnds, ReadEnds, HandedIn, HandedAll, AllDecoded, WasDry, EndsInside, RefusesFirst}
-use Rattle.pg_connect.proofs.Joining.{passes-joined, rose_later}
+use Rattle.pg_connect.proofs.Joining.{calls-then, passes-joined, rose_later}
 use Rattle.pg_connect.proofs.Parts.{Joins}
 
 -- ---- joining
@@ -34,6 +34,7 @@ pub goes-behind : {H : Type 0} (becomes : H → List Event → H → Type 0) (h 
     Passes a b l m [] hs → Goes becomes h i b c m n js E → ((es : List Event) → E es → F es) → Goes becomes h i a c l n (hs ++ js) F
 goes-behind becomes h i a b c l m n hs js E F passes goes ends = record {
   events = goes.events;
+  calls = goes.calls;
   became = goes.became;
   passes = passes-joined a b c l m n [] goes.events hs js passes goes.passes;
   ended = ends goes.events goes.ended;
@@ -44,6 +45,7 @@ pub goes-both : {H : Type 0} (becomes : H → List Event → H → Type 0) → J
     Goes becomes h i a b l m hs E → Goes becomes i k b c m n js F → ((es fs : List Event) → F fs → G (es ++ fs)) → Goes becomes h k a c l n (hs ++ js) G
 goes-both becomes joins h i k a b c l m n hs js E F G first more ends = record {
   events = first.events ++ more.events;
+  calls = calls-then first.events more.events first.calls more.calls;
   became = joins h i k first.events more.events first.became more.became;
   passes = passes-joined a b c l m n first.events more.events hs js first.passes more.passes;
   ended = ends first.events more.events more.ended;
@@ -63,7 +65,7 @@ hands-both becomes joins h i k a b c l m n W V E F G first more which ends = rec
 -- no event at all
 pub goes-quietly : {H : Type 0} (becomes : H → List Event → H → Type 0) (h : H) → becomes h [] h → (a b : Streams) (l m : LinkView)
     (hs : List RawMessage) (F : List Event → Type 0) → Passes a b l m [] hs → F [] → Goes becomes h h a b l m hs F
-goes-quietly becomes h stays a b l m hs F passes ends = record { events = []; became = stays; passes = passes; ended = ends }
+goes-quietly becomes h stays a b l m hs F passes ends = record { events = []; calls = tt; became = stays; passes = passes; ended = ends }
 
 pub hands-quietly : {H : Type 0} (becomes : H → List Event → H → Type 0) (h : H) → becomes h [] h → (a b : Streams) (l m : LinkView)
     (W V : List RawMessage → Type 0) (F : List Event → Type 0) → PassesOn a b l m [] W → ((handed : List RawMessage) → W handed → V handed) → F [] →

@@ -20,11 +20,12 @@ use Rattle.pg_connect.specs.declared.ends.TurnEnd.TheVariants as turn
 use Rattle.pg_connect.specs.declared.ends.WriteEnd.{WriteEnd}
 use Rattle.pg_connect.specs.declared.ends.WriteEnd.TheVariants as writes
 use Rattle.pg_connect.specs.declared.streams.Streams.{Streams}
-use Rattle.pg_connect.specs.Passes.{Goes, Hands, OnlyReads, OnlySends}
+use Rattle.pg_connect.specs.Passes.{Passes, Goes, Hands, OnlyReads, OnlySends}
 use Rattle.pg_connect.specs.Ends.{WasBlocked, last_is, has_no_more, Closes, Written, WriteEnds}
-use Rattle.pg_connect.specs.Reads.{ReadEnds, NothingDue, WasDry, AllDecoded, EndsInside, Carries, HandedBy, is_full}
+use Rattle.pg_connect.specs.Reads.{ReadEnds, NothingDue, WasDry, AllDecoded, IsCleared, EndsInside, Carries, HandedBy, is_full}
 use Rattle.pg_connect.specs.Polls.{FlushEnds, SendEnds, SendWaits, Sends, StopsWriting, TurnEnds, Turns, HandedTurn, Waits, ReadDry, BeganToClose, NothingDueBefore, some_is}
-use Rattle.pg_connect.proofs.Joining.{passes-joined, goes-also, rose_later, rose_before, blocked_later}
+use Rattle.pg_connect.proofs.Clearing.{still_cleared}
+use Rattle.pg_connect.proofs.Joining.{calls-then, passes-joined, goes-also, rose_later, rose_before, blocked_later}
 use Rattle.pg_connect.proofs.Sends.{passes_nothing}
 use Rattle.pg_connect.proofs.Parts.{Joins}
 use Rattle.pg_connect.proofs.Passing.{last_behind, decoded_same}
@@ -100,12 +101,14 @@ written_later t l m n es fs keeps was = elim was [
 ]
 
 -- what the read step says of the link, at the end of the turn
-dry_turn : (s mid t : Streams) (l m n : LinkView) → Keeps m n → OnlyReads s mid l m → OnlySends mid t m n → WasDry l m → AllDecoded mid → ReadDry t l n
-dry_turn s mid t l m n after reads sends dry decoded = record {
-  rose = rose_before l.dry m.dry n.dry dry.rose after.counts.dry;
-  quiet = rose_before l.quiet m.quiet n.quiet dry.quiet after.counts.quiet;
+dry_turn : (s mid t : Streams) (l m n : LinkView) (fs : List Event) → Passes mid t m n fs [] → OnlyReads s mid l m → OnlySends mid t m n →
+    WasDry l m × AllDecoded mid × IsCleared mid → ReadDry t l n
+dry_turn s mid t l m n fs more reads sends (dry, decoded, cleared) = record {
+  rose = rose_before l.dry m.dry n.dry dry.rose more.link.counts.dry;
+  quiet = rose_before l.quiet m.quiet n.quiet dry.quiet more.link.counts.quiet;
   decoded = decoded_same mid t sends.buffer decoded;
-  nothing_due = λ steady. due_before l m n reads.taken sends.given after.plan (dry.nothing_due steady);
+  cleared = still_cleared mid t m n fs [] more sends decoded.none_whole cleared;
+  nothing_due = λ steady. due_before l m n reads.taken sends.given more.link.plan (dry.nothing_due steady);
 }
 
 -- an active connection that may not close goes on so
@@ -140,7 +143,7 @@ read_error s t l n fault.Ended es active same is = is
 read_error s t l n fault.BadLength es active same is = is
 read_error s t l n fault.Layout es active same is = is
 read_error s t l n (fault.Unreadable c) es active same is = is
-read_error s t l n (fault.Unasked e) es active same is = is
+read_error s t l n (fault.Unasked e) es active same is = (is.0, is.1, same ∙ active)
 read_error s t l n (fault.LimitReached given limit) es active same is = is
 read_error s t l n fault.OutOfMemory es active same is = tt
 
@@ -151,6 +154,7 @@ goes-all : {H : Type 0} (becomes : H → List Event → H → Type 0) → Joins 
 goes-all becomes joins h i k a b c l m n hs E F G first more ends =
     subst (λ (x : List RawMessage). Goes becomes h k a c l n x G) (append-nil hs) (record {
       events = first.events ++ more.events;
+      calls = calls-then first.events more.events first.calls more.calls;
       became = joins h i k first.events more.events first.became more.became;
       passes = passes-joined a b c l m n first.events more.events hs [] first.passes more.passes;
       ended = ends first.events more.events first.ended more.ended;
@@ -191,37 +195,40 @@ turned_full becomes joins h i k a b c l m n active reads first more = record {
         writing = written_later c l m n es fs first.goes.passes.link f.end.writing;
         closing = λ x. absurd (not_both c.closing x (stays_open a b c fs active reads.closing f.closes));
         began = λ x. absurd (not_both c.closing x (stays_open a b c fs active reads.closing f.closes));
+        still = λ x. absurd (not_both a.closing x active);
       });
 }
 
 pub turned_dry : {H : Type 0} (becomes : H → List Event → H → Type 0) → Joins becomes → (h i k : H) (a b c : Streams) (l m n : LinkView) →
-    OnlyReads a b l m → OnlySends b c m n → Hands becomes h i a b l m (HandedBy (Ok ending.Dry)) (ReadEnds b l m (Ok ending.Dry)) →
+    a.closing ≡ false → OnlyReads a b l m → OnlySends b c m n → Hands becomes h i a b l m (HandedBy (Ok ending.Dry)) (ReadEnds b l m (Ok ending.Dry)) →
     Goes becomes i k b c m n [] (Sends b c m n true (Ok sending.Waits)) → Turns becomes h k a c l n (Ok turn.Waits)
-turned_dry becomes joins h i k a b c l m n reads sends first more = record {
+turned_dry becomes joins h i k a b c l m n active reads sends first more = record {
   handed = first.handed;
   which = first.is;
   goes = goes-all becomes joins h i k a b c l m n first.handed (ReadEnds b l m (Ok ending.Dry)) (Sends b c m n true (Ok sending.Waits)) (TurnEnds a c l n (Ok turn.Waits)) first.goes more
       (λ es fs e f.
-      let dry = dry_turn a b c l m n more.passes.link reads sends e.0 e.1 in
+      let dry = dry_turn a b c l m n more.events more.passes reads sends e in
       record {
         reading = inr (inr dry);
         writing = written_later c l m n es fs first.goes.passes.link f.end.writing;
         closing = λ x. blocked_later l m n first.goes.passes.link (f.end.closing x);
         began = closes_dry a b c l n es fs reads.closing dry f.closes;
+        still = λ x. absurd (not_both a.closing x active);
       });
 }
 
 pub turned_over : {H : Type 0} (becomes : H → List Event → H → Type 0) → Joins becomes → (h i k : H) (a b c : Streams) (l m n : LinkView) →
-    OnlyReads a b l m → OnlySends b c m n → Hands becomes h i a b l m (HandedBy (Ok ending.Dry)) (ReadEnds b l m (Ok ending.Dry)) →
+    a.closing ≡ false → OnlyReads a b l m → OnlySends b c m n → Hands becomes h i a b l m (HandedBy (Ok ending.Dry)) (ReadEnds b l m (Ok ending.Dry)) →
     Goes becomes i k b c m n [] (Sends b c m n true (Ok sending.Over)) → Turns becomes h k a c l n (Ok turn.Over)
-turned_over becomes joins h i k a b c l m n reads sends first more = record {
+turned_over becomes joins h i k a b c l m n active reads sends first more = record {
   handed = first.handed;
   which = first.is;
   goes = goes-all becomes joins h i k a b c l m n first.handed (ReadEnds b l m (Ok ending.Dry)) (Sends b c m n true (Ok sending.Over)) (TurnEnds a c l n (Ok turn.Over)) first.goes more
       (λ es fs e f. record {
         closing = f.end.0;
         sent = f.end.1;
-        began = closes_dry a b c l n es fs reads.closing (dry_turn a b c l m n more.passes.link reads sends e.0 e.1) f.closes;
+        began = closes_dry a b c l n es fs reads.closing (dry_turn a b c l m n more.events more.passes reads sends e) f.closes;
+        still = λ x. absurd (not_both a.closing x active);
       });
 }
 
@@ -248,14 +255,20 @@ pub turned_closing : {H : Type 0} (becomes : H → List Event → H → Type 0) 
 turned_closing becomes h i s t l m x r none goes ends = record {
   handed = [];
   which = none [] refl;
-  goes = record { events = goes.events; became = goes.became; passes = goes.passes; ended = ends goes.events goes.ended };
+  goes = record { events = goes.events; calls = goes.calls; became = goes.became; passes = goes.passes; ended = ends goes.events goes.ended };
 }
 
-pub closing_waits : (s t : Streams) (l m : LinkView) (es : List Event) → s.closing ≡ true → Sends s t l m false (Ok sending.Waits) es → TurnEnds s t l m (Ok turn.Waits) es
-closing_waits s t l m es closing was = record { reading = inl closing; writing = was.end.writing; closing = was.end.closing; began = λ x. inl closing }
+pub closing_waits : (s t : Streams) (l m : LinkView) (es : List Event) → s.closing ≡ true → OnlySends s t l m → Sends s t l m false (Ok sending.Waits) es → TurnEnds s t l m (Ok turn.Waits) es
+closing_waits s t l m es closing only was = record {
+  reading = inl closing;
+  writing = was.end.writing;
+  closing = was.end.closing;
+  began = λ x. inl closing;
+  still = λ x. only;
+}
 
-pub closing_over : (s t : Streams) (l m : LinkView) (es : List Event) → s.closing ≡ true → Sends s t l m false (Ok sending.Over) es → TurnEnds s t l m (Ok turn.Over) es
-closing_over s t l m es closing was = record { closing = was.end.0; sent = was.end.1; began = λ x. inl closing }
+pub closing_over : (s t : Streams) (l m : LinkView) (es : List Event) → s.closing ≡ true → OnlySends s t l m → Sends s t l m false (Ok sending.Over) es → TurnEnds s t l m (Ok turn.Over) es
+closing_over s t l m es closing only was = record { closing = was.end.0; sent = was.end.1; began = λ x. inl closing; still = λ x. only }
 
 closing_failed : (s t : Streams) (l m : LinkView) (e : ConnectionFault) (es : List Event) → SendEnds t l m (Err e) es → TurnEnds s t l m (Err e) es
 closing_failed s t l m fault.Link es is = is
@@ -268,5 +281,5 @@ pub closing_error : {H : Type 0} (becomes : H → List Event → H → Type 0) (
 closing_error becomes h i s t l m e goes = record {
   handed = [];
   which = tt;
-  goes = record { events = goes.events; became = goes.became; passes = goes.passes; ended = closing_failed s t l m e goes.events goes.ended.end };
+  goes = record { events = goes.events; calls = goes.calls; became = goes.became; passes = goes.passes; ended = closing_failed s t l m e goes.events goes.ended.end };
 }

@@ -1,5 +1,8 @@
 -- How a startup goes on from message to message.
-use Rattle.std.proofs.Common.{◌≡◌, ℕ, zero, suc, ◌+◌, List, [], ◌∷◌, ◌++◌, length, Option, Some, None, Ok, Err, append-nil, refl, sym, ◌∙◌, ap, subst, arith, append_assoc, length-append}
+use Rattle.std.proofs.Common.{◌≡◌, ℕ, zero, suc, ◌+◌, Bool, true, ◌&&◌, List, [], ◌∷◌, ◌++◌, length, Option, Some, None, Ok, Err, append-nil, refl, sym, ◌∙◌, ap, subst, arith, append_assoc, length-append}
+use Rattle.std.specs.List.{list_all}
+use Rattle.std.proofs.lemmas.Bool.{and_from, and_parts}
+use Rattle.pg_spec.specs.Causes.{is_built}
 use Rattle.pg_spec.specs.ConnectionStrings.{only_user}
 use Rattle.pg_spec.specs.Faults.{Failure}
 use Rattle.pg_spec.specs.Links.{LinkView, Grew}
@@ -42,7 +45,7 @@ behind-more (suc n) s e = later-is (behind n s) ∙ ap one_more (behind-more n s
 
 -- at first
 pub leads-none : (name nonce : List ℕ) → Leads name nonce [] First
-leads-none name nonce = record { on = λ more. refl }
+leads-none name nonce = record { on = λ more. refl; built = refl }
 
 -- a message behind those that were read, and what it makes of the dialogue
 step : (name nonce : List ℕ) (read : List RawMessage) (at : Phase) (raw : RawMessage) (move : Move) → Leads name nonce read at →
@@ -56,27 +59,35 @@ step name nonce read at raw move leads e more =
 length-push : (read : List RawMessage) (raw : RawMessage) → length (read ++ raw ∷ []) ≡ suc (length read)
 length-push read raw = length-append read (raw ∷ []) ∙ omega arith
 
+-- each was known, and one more is
+built-push : (read : List RawMessage) (raw : RawMessage) → list_all is_built read ≡ true → is_built raw ≡ true → list_all is_built (read ++ raw ∷ []) ≡ true
+built-push [] raw each known = ap (λ (b : Bool). b && true) known
+built-push (m ∷ ms) raw each known = and_from (is_built m) _ (and_parts (is_built m) _ each).0 (built-push ms raw (and_parts (is_built m) _ each).1 known)
+
 pub leads-more : (name nonce : List ℕ) (read : List RawMessage) (at next : Phase) (raw : RawMessage) → Leads name nonce read at →
-    startup_move (only_user name) nonce at raw ≡ Writes [] next → Leads name nonce (read ++ raw ∷ []) next
-leads-more name nonce read at next raw leads e = record {
+    startup_move (only_user name) nonce at raw ≡ Writes [] next → is_built raw ≡ true → Leads name nonce (read ++ raw ∷ []) next
+leads-more name nonce read at next raw leads e known = record {
   on = λ more. step name nonce read at raw (Writes [] next) leads e more
       ∙ behind-suc (length read) (dialogue (only_user name) nonce next more)
       ∙ ap (λ n. behind n (dialogue (only_user name) nonce next more)) (sym (length-push read raw));
+  built = built-push read raw leads.built known;
 }
 
 pub ends-done : (name nonce : List ℕ) (read : List RawMessage) (at : Phase) (raw : RawMessage) → Leads name nonce read at →
-    startup_move (only_user name) nonce at raw ≡ startups.Ends → Ends name nonce (read ++ raw ∷ []) (Done (length (read ++ raw ∷ [])))
-ends-done name nonce read at raw leads e = record {
+    startup_move (only_user name) nonce at raw ≡ startups.Ends → is_built raw ≡ true → Ends name nonce (read ++ raw ∷ []) (Done (length (read ++ raw ∷ [])))
+ends-done name nonce read at raw leads e known = record {
   over = λ more. ap (λ s. s.outcome) (step name nonce read at raw startups.Ends leads e more)
       ∙ behind-done (length read) _ refl
       ∙ ap Done (omega (arith, length-push read raw));
+  built = built-push read raw leads.built known;
 }
 
 pub ends-refused : (name nonce : List ℕ) (read : List RawMessage) (at : Phase) (raw : RawMessage) (f : Failure) → Leads name nonce read at →
-    startup_move (only_user name) nonce at raw ≡ Refuses f → Ends name nonce (read ++ raw ∷ []) (Refused f)
-ends-refused name nonce read at raw f leads e = record {
+    startup_move (only_user name) nonce at raw ≡ Refuses f → is_built raw ≡ true → Ends name nonce (read ++ raw ∷ []) (Refused f)
+ends-refused name nonce read at raw f leads e known = record {
   over = λ more. ap (λ s. s.outcome) (step name nonce read at raw (Refuses f) leads e more)
       ∙ behind-refused (length read) _ f refl;
+  built = built-push read raw leads.built known;
 }
 
 pub leads-nil : (name nonce : List ℕ) (read : List RawMessage) (at : Phase) → Leads name nonce read at → Leads name nonce (read ++ []) at

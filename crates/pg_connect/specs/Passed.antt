@@ -31,3 +31,14 @@ abbrev pub moves_in : Event → Bool
 moves_in (NextOut (Ok (Part part))) = true
 moves_in (Deliver batch complete Taken) = true
 moves_in _ = false
+
+-- a call that hands a part out or takes a batch in
+abbrev pub IsEngineCall : Event → Type 0
+IsEngineCall (NextOut answer) = Unit {0}
+IsEngineCall (Deliver batch complete answer) = Unit {0}
+IsEngineCall _ = ⊥
+
+-- no other calls
+abbrev pub AllEngineCalls : List Event → Type 0
+AllEngineCalls [] = Unit {0}
+AllEngineCalls (e ∷ es) = IsEngineCall e × AllEngineCalls es

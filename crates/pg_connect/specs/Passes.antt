@@ -16,7 +16,7 @@ use Rattle.pg_desk.specs.declared.event.Event.{Event}
 use Rattle.pg_connect.specs.declared.streams.Held.{Held}
 use Rattle.pg_connect.specs.declared.streams.Streams.{Streams}
 use Rattle.pg_connect.specs.Kept.{keep_all}
-use Rattle.pg_connect.specs.Passed.{delivered_by, bytes_out_by, moves_in}
+use Rattle.pg_connect.specs.Passed.{AllEngineCalls, delivered_by, bytes_out_by, moves_in}
 
 -- the messages of a batch that is held
 abbrev pub waiting : Option Held → List RawMessage
@@ -98,10 +98,11 @@ pub record PassesOn (old new : Streams) (before after : LinkView) (events : List
   pub is : which handed
   pub passes : Passes old new before after events handed
 
--- By some events the hub became another, these passed on what they did, and they ended so.
+-- By some calls of an engine the hub became another, these passed on what they did, and they ended so.
 pub record Goes {H : Type 0} (becomes : H → List Event → H → Type 0) (a b : H) (old new : Streams) (before after : LinkView)
     (handed : List RawMessage) (ends : List Event → Type 0) : Type 0 where
   pub events : List Event
+  pub calls : AllEngineCalls events
   pub became : becomes a events b
   pub passes : Passes old new before after events handed
   pub ended : ends events

@@ -13,8 +13,8 @@ use Rattle.pg_connect.specs.declared.ends.TurnEnd.{TurnEnd}
 use Rattle.pg_connect.specs.declared.ends.TurnEnd.TheVariants as turn
 use Rattle.pg_connect.specs.declared.streams.Streams.{Streams}
 use Rattle.pg_connect.specs.Ends.{WasBlocked, last_is, has_none, has_no_more, is_closed_out, Closes}
-use Rattle.pg_connect.specs.Passes.{waiting, Goes}
-use Rattle.pg_connect.specs.Reads.{AllDecoded, BreaksLayout, Carries, EndsInside, IsUnasked, LeavesDelayed, LeavesUnread, is_full, has_no_request}
+use Rattle.pg_connect.specs.Passes.{waiting, Goes, OnlySends}
+use Rattle.pg_connect.specs.Reads.{AllDecoded, BreaksLayout, Carries, EndsInside, IsCleared, IsUnasked, LeavesDelayed, LeavesUnread, is_full, has_no_request}
 
 -- how a flush step ended; `closing`: Terminate is queued
 abbrev pub FlushEnds : Bool → LinkView → LinkView → Result FlushEnd ConnectionFault → Type 0
@@ -56,11 +56,12 @@ some_is p (e ∷ es) = p e || some_is p es
 abbrev pub NothingDueBefore : LinkView → LinkView → Type 0
 NothingDueBefore before after = IfSome after.plan (λ plan. IfSome after.given (λ given. IfSome before.taken (λ taken. due_by plan given taken ≡ [])))
 
--- Reading ended at a link that wasn't ready, with all that came decoded.
+-- Reading ended at a link that wasn't ready, with all that came decoded, and nothing of it lying there.
 pub record ReadDry (new : Streams) (before after : LinkView) : Type 0 where
   pub rose : Rose before.dry after.dry
   pub quiet : Rose before.quiet after.quiet
   pub decoded : AllDecoded new
+  pub cleared : IsCleared new
   pub nothing_due : IsTrue before.steady → NothingDueBefore before after
 
 -- A connection that is closing was so before, or reading ended dry in this call and the hub's last answer
@@ -69,12 +70,13 @@ abbrev pub BeganToClose : Streams → Streams → LinkView → LinkView → List
 BeganToClose old new before after events =
     new.closing ≡ true → (old.closing ≡ true) ⊎ (ReadDry new before after × (last_is has_no_more events ≡ true))
 
--- Why a poll has to wait.
+-- Why a poll has to wait. Where the connection was closing, it read nothing.
 pub record Waits (old new : Streams) (before after : LinkView) (events : List Event) : Type 0 where
   pub reading : (old.closing ≡ true) ⊎ ((some_is is_full events ≡ true) ⊎ ReadDry new before after)
   pub writing : StopsWriting new before after events
   pub closing : new.closing ≡ true → WasBlocked before after
   pub began : BeganToClose old new before after events
+  pub still : old.closing ≡ true → OnlySends old new before after
 
 -- A turn that hands a message out reads no further, and the connection doesn't begin to close.
 pub record HandsOut (old new : Streams) (before after : LinkView) (events : List Event) : Type 0 where
@@ -82,11 +84,12 @@ pub record HandsOut (old new : Streams) (before after : LinkView) (events : List
   pub stays : new.closing ≡ false
   pub writing : StopsWriting new before after events
 
--- Terminate was taken and flushed, and the link is shut down.
+-- Terminate was taken and flushed, and the link is shut down. Where the connection was closing, nothing was read.
 pub record IsOver (old new : Streams) (before after : LinkView) (events : List Event) : Type 0 where
   pub closing : new.closing ≡ true
   pub sent : new.unsent ≡ []
   pub began : BeganToClose old new before after events
+  pub still : old.closing ≡ true → OnlySends old new before after
 
 -- the link gave its end behind a whole message, while the connection was active
 pub record EndsWhole (old new : Streams) (before after : LinkView) : Type 0 where
@@ -112,7 +115,7 @@ TurnEnds old new before after (Err fault.Ended) events = EndsInside new before a
 TurnEnds old new before after (Err fault.BadLength) events = has_bad_header new.buffer.items ≡ true
 TurnEnds old new before after (Err fault.Layout) events = BreaksLayout new
 TurnEnds old new before after (Err (fault.Unreadable c)) events = LeavesUnread new c ⊎ LeavesDelayed new c
-TurnEnds old new before after (Err (fault.Unasked e)) events = (last_is has_no_request events ≡ true) × IsUnasked (waiting new.held) (fault.Unasked e)
+TurnEnds old new before after (Err (fault.Unasked e)) events = (last_is has_no_request events ≡ true) × IsUnasked (waiting new.held) (fault.Unasked e) × (new.closing ≡ false)
 TurnEnds old new before after (Err (fault.LimitReached given limit)) events = (given ≡ new.given) × (limit ≡ new.max_bytes) × (limit < given)
 TurnEnds old new before after (Err fault.OutOfMemory) events = Unit {0}
 

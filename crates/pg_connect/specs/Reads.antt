@@ -32,7 +32,7 @@ use Rattle.pg_connect.specs.declared.ends.ReadEnd.TheVariants as reads
 use Rattle.pg_connect.specs.declared.streams.Streams.{Streams}
 use Rattle.pg_connect.specs.Ends.{last_is}
 use Rattle.pg_connect.specs.Kept.{keep}
-use Rattle.pg_connect.specs.Passes.{waiting}
+use Rattle.pg_connect.specs.Passes.{waiting, delayed_in}
 
 -- ---- messages that no request asked for
 
@@ -125,6 +125,12 @@ IsUnasked batch _ = ⊥
 pub record AllDecoded (s : Streams) : Type 0 where
   pub none_whole : messages s.buffer.items ≡ []
   pub no_bad_header : has_bad_header s.buffer.items ≡ false
+
+-- no batch is held, no notice delayed, and no message lies there that couldn't be read
+pub record IsCleared (s : Streams) : Type 0 where
+  pub held : waiting s.held ≡ []
+  pub delayed : delayed_in s ≡ []
+  pub unread : s.unread ≡ None
 
 -- the message in front, which no request asked for, breaks its layout
 pub record BreaksLayout (s : Streams) : Type 0 where
@@ -245,12 +251,12 @@ pub record EndsInside (s : Streams) (before after : LinkView) : Type 0 where
   pub some : 0 < length s.buffer.items
   pub decoded : AllDecoded s
 
--- How a read step ended: a message is handed out, a mailbox is full, or the link isn't ready and all is
--- decoded. Or why it was broken off.
+-- How a read step ended: a message is handed out, a mailbox is full, or the link isn't ready, all is decoded
+-- and nothing of it lies there. Or why it was broken off.
 abbrev pub ReadEnds : Streams → LinkView → LinkView → Result ReadEnd ConnectionFault → List Event → Type 0
 ReadEnds new before after (Ok (reads.Handed message)) events = Unit {0}
 ReadEnds new before after (Ok reads.Full) events = last_is is_full events ≡ true
-ReadEnds new before after (Ok reads.Dry) events = WasDry before after × AllDecoded new
+ReadEnds new before after (Ok reads.Dry) events = WasDry before after × AllDecoded new × IsCleared new
 ReadEnds new before after (Err fault.Link) events = Rose before.faults after.faults
 ReadEnds new before after (Err fault.Closed) events = Rose before.ends after.ends × (new.buffer.items ≡ [])
 ReadEnds new before after (Err fault.Ended) events = EndsInside new before after

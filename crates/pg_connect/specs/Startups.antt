@@ -1,6 +1,7 @@
 -- Where a startup stands, and what its polls answer (PostgreSQL documentation, "Start-up").
 use Rattle.std.specs.Prelude.{◌≡◌, ◌≢◌, ℕ, zero, suc, ◌+◌, ◌<◌, ◌≤◌, Bool, true, false, List, [], ◌∷◌, ◌++◌, length, Option, Some, None, Result, Ok, Err, IsTrue, IsFalse}
-use Rattle.pg_spec.specs.Causes.{is_built}
+use Rattle.std.specs.List.{list_all}
+use Rattle.pg_spec.specs.Causes.{is_built, is_built_message}
 use Rattle.pg_spec.specs.ConnectionStrings.{only_user}
 use Rattle.pg_spec.specs.Faults as spec
 use Rattle.pg_spec.specs.Frames.{startup_frame}
@@ -57,10 +58,11 @@ behind (suc n) rest = startups.after_one [] (behind n rest)
 abbrev pub dialogue_of : List ℕ → List ℕ → List RawMessage → startups.Startup
 dialogue_of name nonce ms = startups.dialogue (only_user name) nonce startups.First ms
 
--- These messages lead to that phase, and no frame answers them.
+-- These messages lead to that phase, no frame answers them, and this version knows each.
 pub record Leads (name nonce : List ℕ) (read : List RawMessage) (at : startups.Phase) : Type 0 where
   pub on : (more : List RawMessage) →
       dialogue_of name nonce (read ++ more) ≡ behind (length read) (startups.dialogue (only_user name) nonce at more)
+  pub built : list_all is_built read ≡ true
 
 -- what a message makes of the dialogue, where it waits in that phase
 abbrev pub Judges : Phase → Message → Judgement → Type 0
@@ -71,6 +73,11 @@ Judges at message judgement.Done = (name nonce : List ℕ) (raw : RawMessage) �
 Judges at message judgement.Unexpected = (name nonce : List ℕ) (raw : RawMessage) → message_of raw ≡ Ok (message_view message) →
     startups.startup_move (only_user name) nonce (phase_of at) raw ≡ startups.Refuses spec.UnexpectedMessage
 Judges at message judgement.NotBuilt = (raw : RawMessage) → message_of raw ≡ Ok (message_view message) → is_built raw ≡ false
+
+-- this version knows the message, unless it answers that it doesn't
+abbrev pub IsKnown : Message → Judgement → Type 0
+IsKnown message judgement.NotBuilt = Unit {0}
+IsKnown message _ = is_built_message (message_view message) ≡ true
 
 -- why a message that can't be read ends the startup: this version doesn't know it
 abbrev pub refusal_of : WireFault → Error
@@ -92,9 +99,10 @@ abbrev pub WasLast : Message → Result Heard Error → Type 0
 WasLast message (Ok heard.Done) = (status : ℕ) × (message_view message ≡ ReadyForQuery status)
 WasLast message _ = Unit {0}
 
--- The dialogue is over with these messages, whatever follows.
+-- The dialogue is over with these messages, whatever follows, and this version knows each.
 pub record Ends (name nonce : List ℕ) (read : List RawMessage) (outcome : startups.Outcome) : Type 0 where
   pub over : (more : List RawMessage) → (dialogue_of name nonce (read ++ more)).outcome ≡ outcome
+  pub built : list_all is_built read ≡ true
 
 -- a message among these is one that this version doesn't know, and the dialogue waits for it
 pub record MeetsMore (name nonce : List ℕ) (read ms : List RawMessage) : Type 0 where

@@ -10,7 +10,7 @@ ghost use Rattle.futures.specs.Poll.{OnPending};
 ghost use Rattle.pg_spec.specs.Messages.{message_of};
 ghost use Rattle.pg_spec.specs.RawMessages.{RawMessage};
 ghost use Rattle.pg_wire.specs.Messages.{message_view};
-ghost use Rattle.pg_connect.specs.Startups.{Made, Leads, Hears, HearsAll, refusal_of, stop_of, Judges, IsLast, WasLast, Opening, Opened, Failed, phase_of};
+ghost use Rattle.pg_connect.specs.Startups.{Made, Leads, Hears, HearsAll, refusal_of, stop_of, Judges, IsKnown, IsLast, WasLast, Opening, Opened, Failed, phase_of};
 
 use crate::{Parameters, Streams};
 use bytes::{Bytes, BytesMut};
@@ -395,6 +395,7 @@ fn stop(fault: WireFault) -> Error
 /// What a message makes of the startup that waits in this phase.
 fn judge(phase: Phase, message: Message) -> Judgement
     ensures judges { Judges phase message result }
+    ensures known { IsKnown message result }
     ensures last { IsLast message result }
 {
     match message {

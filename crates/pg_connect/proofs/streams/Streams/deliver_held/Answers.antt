@@ -16,6 +16,7 @@ use Rattle.pg_connect.proofs.streams.Streams.deliver_held.Goals as goal
 pub returns-in-None-clause-goes : goal.returns-in-None-clause-goes
 returns-in-None-clause-goes g c = λ l. record {
   events = [];
+  calls = tt;
   became = g.met.E.Desk.stays c.args.hub.now;
   passes = reads_nothing c.args.self.now _ l l c.requires (record { given = refl; taken = refl; due = refl })
       (record { buffer = refl; unread = c.requires; held = ap waiting (c.take.ensures.after ∙ c.in-None.ensures.value); delayed = refl; parameters = refl; given = refl; delivered = refl })
@@ -29,6 +30,7 @@ returns-in-Taken-clause-goes g c =
     let e : Event = Deliver batch c.in-Some.held.complete answer.Taken in
     λ l. record {
       events = e ∷ [];
+      calls = (tt, tt);
       became = c.in-Taken.ensures.event;
       passes = delivered_taken c.args.self.now c.take.new.self c.count.new.self l batch c.in-Some.held.complete c.len-messages.result c.requires
           (ap waiting (sym c.in-Some.ensures.value)) c.take.ensures.after c.len-messages.ensures c.count.ensures;
@@ -40,6 +42,7 @@ returns-in-Full-clause-goes g c =
     let e : Event = Deliver c.in-Some.held.batch c.in-Some.held.complete (answer.Full c.in-Full.batch) in
     λ l. record {
       events = e ∷ [];
+      calls = (tt, tt);
       became = c.in-Full.ensures.event;
       passes = delivered_back c.args.self.now c.take.new.self c.hold.new.self l e c.in-Full.batch c.requires refl refl refl
           (ap waiting (sym c.in-Some.ensures.value) ∙ sym c.in-Full.ensures.back) c.hold.ensures.held c.hold.ensures.same;
@@ -52,6 +55,7 @@ returns-in-NoRequest-clause-goes g c =
     let t = c.hold-in-NoRequest.new.self in
     λ l. record {
       events = e ∷ [];
+      calls = (tt, tt);
       became = c.in-NoRequest.ensures.event;
       passes = delivered_back c.args.self.now c.take.new.self t l e c.in-NoRequest.batch c.requires refl refl refl
           (ap waiting (sym c.in-Some.ensures.value) ∙ sym c.in-NoRequest.ensures.back) c.hold-in-NoRequest.ensures.held c.hold-in-NoRequest.ensures.same;
@@ -63,6 +67,7 @@ returns-in-OutOfMemory-clause-goes g c =
     let e : Event = Deliver c.in-Some.held.batch c.in-Some.held.complete (answer.OutOfMemory c.in-OutOfMemory.batch) in
     λ l. record {
       events = e ∷ [];
+      calls = (tt, tt);
       became = c.in-OutOfMemory.ensures.event;
       passes = delivered_back c.args.self.now c.take.new.self c.hold-in-OutOfMemory.new.self l e c.in-OutOfMemory.batch c.requires refl refl refl
           (ap waiting (sym c.in-Some.ensures.value) ∙ sym c.in-OutOfMemory.ensures.back) c.hold-in-OutOfMemory.ensures.held c.hold-in-OutOfMemory.ensures.same;

@@ -3,6 +3,7 @@ use Rattle.pg_connect.specs.declared.ends.Step.TheVariants as step
 use Rattle.pg_connect.specs.declared.ends.ReadEnd.TheVariants as ending
 use Rattle.pg_connect.specs.Reads.{AllEnds, PieceEnds, HandedAll, HandedBy, ReadEnds}
 use Rattle.pg_connect.proofs.Joining.{keeps_same, goes-also}
+use Rattle.pg_connect.proofs.Clearing.{cleared_by}
 use Rattle.pg_connect.proofs.Taking.{piece_none}
 use Rattle.pg_connect.proofs.Parts.{Anything}
 use Rattle.pg_connect.proofs.Passing.{goes-both, goes-quietly, hands-both, idle, idle_goes, any_link, given_same, last_behind, all_refused, piece_refused, settled, dry_later, decoded_same}
@@ -117,7 +118,11 @@ returns-in-Ok-false-clause-goes g c =
       handed = [];
       is = refl;
       goes = goes-also _ _ _ c.args.self.now t u a v w [] [] Anything _ so_far c.in-Ok-false.ensures.passes
-          (λ es was. (dry_later a v w c.pieces.invariant.goes.passes.link end.0, decoded_same t u end.1 i.decoded));
+          (λ es was. (
+            dry_later a v w c.pieces.invariant.goes.passes.link end.0,
+            decoded_same t u end.1 i.decoded,
+            cleared_by u (c.in-Ok-false.ensures.held ∙ i.held) (c.in-Ok-false.ensures.delayed ∙ all.ensures.delayed) c.in-Ok-false.ensures.unread,
+          ));
     }
 
 pub returns-in-Err-read_piece-clause-goes : goal.returns-in-Err-read_piece-clause-goes

@@ -13,6 +13,7 @@ pub parts-init : goal.parts-init
 parts-init g c = record {
   goes = record {
     events = [];
+    calls = tt;
     became = g.met.E.Desk.stays c.args.hub.now;
     passes = passes_nothing c.args.self.now (g.L.Link.view c.args.link.now) (g.L.Link.view c.args.link.now) [] c.requires.unread (record { given = refl; taken = refl; due = refl }) (keeps_same _) refl refl refl;
     ended = tt;

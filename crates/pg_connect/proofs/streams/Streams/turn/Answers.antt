@@ -52,7 +52,7 @@ returns-in-Ok-Waits-send-2-clause-turns g c =
     let n = g.L.Link.view c.send-in-Ok-Dry.new.link in
     let r = c.in-Ok-Dry in
     let w = c.in-Ok-Waits-send-2 in
-    turned_dry _ g.met.E.Desk.joins _ _ _ s mid t l m n r.ensures.only w.ensures.only
+    turned_dry _ g.met.E.Desk.joins _ _ _ s mid t l m n c.if-self.false r.ensures.only w.ensures.only
     (at_read _ _ _ s mid l m ending.Dry r.field-0 r.field-0-is r.ensures.goes)
     (at_send _ _ _ mid t m n _ sending.Waits w.field-0 w.field-0-is w.ensures.goes)
 
@@ -66,7 +66,7 @@ returns-in-Ok-Over-send-2-clause-turns g c =
     let n = g.L.Link.view c.send-in-Ok-Dry.new.link in
     let r = c.in-Ok-Dry in
     let w = c.in-Ok-Over-send-2 in
-    turned_over _ g.met.E.Desk.joins _ _ _ s mid t l m n r.ensures.only w.ensures.only
+    turned_over _ g.met.E.Desk.joins _ _ _ s mid t l m n c.if-self.false r.ensures.only w.ensures.only
     (at_read _ _ _ s mid l m ending.Dry r.field-0 r.field-0-is r.ensures.goes)
     (at_send _ _ _ mid t m n _ sending.Over w.field-0 w.field-0-is w.ensures.goes)
 

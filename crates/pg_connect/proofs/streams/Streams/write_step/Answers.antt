@@ -13,6 +13,7 @@ use Rattle.pg_connect.proofs.streams.Streams.write_step.Goals as goal
 pub returns-then-self-clause-goes : goal.returns-then-self-clause-goes
 returns-then-self-clause-goes g c = record {
   events = [];
+  calls = tt;
   became = g.met.E.Desk.stays c.args.hub.now;
   passes = c.offer_last.ensures.passes;
   ended = written_closing c.args.self.now c.offer_last.new.self (g.L.Link.view c.args.link.now) (g.L.Link.view c.offer_last.new.link) c.args.may_close c.offer_last.result c.if-self.true c.offer_last.ensures.end;
