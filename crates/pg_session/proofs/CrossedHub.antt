@@ -1,0 +1,224 @@
+-- What the events of a hub deliver and let out, and what stays once nothing more can come.
+use Rattle.std.proofs.Common.{◌≡◌, ◌<◌, ◌≤◌, ℕ, suc, List, [], ◌∷◌, ◌++◌, length, drop, Bool, true, false, ◌||◌, if◌then◌else◌, Ok, Err, refl, sym, ap, subst, ◌∙◌, arith, append_assoc, append-nil, nat_lt}
+use Rattle.std.proofs.lemmas.List.{length_push}
+use Rattle.std.proofs.lemmas.Bool.Decides.{nat_tests}
+use Rattle.pg_spec.specs.RawMessages.{RawMessage}
+use Rattle.pg_desk.specs.declared.event.Stamp.{Stamp}
+use Rattle.pg_desk.specs.declared.event.Booking.{Booking}
+use Rattle.pg_desk.specs.declared.event.Take.TheVariants as taking
+use Rattle.pg_desk.specs.declared.event.Out.TheVariants as out
+use Rattle.pg_desk.specs.declared.event.Deliver.TheVariants as delivering
+use Rattle.pg_desk.specs.declared.event.Event.{Event}
+use Rattle.pg_desk.specs.declared.event.Event.TheVariants.{Book, Take as TakeEvent, HangUp, NextStatement, NextPortal, NextOut, Deliver as DeliverEvent, CloseRequests, Fail}
+use Rattle.pg_desk.specs.History.{State, Delivery, wire, finished, received, joined, after, after_all, out_of_rest, Allows, IsLegal, HasOpen}
+use Rattle.pg_desk.proofs.Soundness.{AllCut, cut-more}
+use Rattle.pg_connect.specs.Ends.{last_is, has_no_more}
+use Rattle.pg_connect.specs.Passed.{delivered_in, delivered_by, bytes_out_in, bytes_out_by}
+
+-- ---- the kinds of events
+
+-- the bookings, what went out and came, and whether requests are closed, are as before
+pub record Same (s t : State) : Type 0 where
+  pub book : t.book ≡ s.book
+  pub gone_out : t.gone_out ≡ s.gone_out
+  pub deliveries : t.deliveries ≡ s.deliveries
+  pub closed : t.closed ≡ s.closed
+
+-- By this event nothing is booked, delivered, let out or closed.
+pub record Plain (e : Event) : Type 0 where
+  pub same : (s : State) → Same s (after s e)
+  pub none_in : delivered_in e ≡ []
+  pub none_out : bytes_out_in e ≡ []
+
+-- an event books, lets a part out, is a batch that was taken, closes requests, or is plain
+pub by_kind : (P : Event → Type 0) → ((stamp : Stamp) (part : List ℕ) (copying : Bool) (id : ℕ) → P (Book stamp part copying (Ok id))) →
+    ((part : List ℕ) → P (NextOut (Ok (out.Part part)))) → ((batch : List RawMessage) (complete : Bool) → P (DeliverEvent batch complete delivering.Taken)) →
+    P (CloseRequests (Ok tt)) → ((e : Event) → Plain e → P e) → (e : Event) → P e
+by_kind P books goes comes closes other (Book stamp part copying (Ok id)) = books stamp part copying id
+by_kind P books goes comes closes other (NextOut (Ok (out.Part part))) = goes part
+by_kind P books goes comes closes other (DeliverEvent batch complete delivering.Taken) = comes batch complete
+by_kind P books goes comes closes other (CloseRequests (Ok x)) = closes
+by_kind P books goes comes closes other (Book stamp part copying (Err e)) = other _ (record { same = λ s. record { book = refl; gone_out = refl; deliveries = refl; closed = refl }; none_in = refl; none_out = refl })
+by_kind P books goes comes closes other (TakeEvent id (Ok (taking.Batch ms))) = other _ (record { same = λ s. record { book = refl; gone_out = refl; deliveries = refl; closed = refl }; none_in = refl; none_out = refl })
+by_kind P books goes comes closes other (TakeEvent id (Ok x)) = other _ (record { same = λ s. record { book = refl; gone_out = refl; deliveries = refl; closed = refl }; none_in = refl; none_out = refl })
+by_kind P books goes comes closes other (TakeEvent id (Err e)) = other _ (record { same = λ s. record { book = refl; gone_out = refl; deliveries = refl; closed = refl }; none_in = refl; none_out = refl })
+by_kind P books goes comes closes other (HangUp id (Ok x)) = other _ (record { same = λ s. record { book = refl; gone_out = refl; deliveries = refl; closed = refl }; none_in = refl; none_out = refl })
+by_kind P books goes comes closes other (HangUp id (Err e)) = other _ (record { same = λ s. record { book = refl; gone_out = refl; deliveries = refl; closed = refl }; none_in = refl; none_out = refl })
+by_kind P books goes comes closes other (NextStatement (Ok n)) = other _ (record { same = λ s. record { book = refl; gone_out = refl; deliveries = refl; closed = refl }; none_in = refl; none_out = refl })
+by_kind P books goes comes closes other (NextStatement (Err e)) = other _ (record { same = λ s. record { book = refl; gone_out = refl; deliveries = refl; closed = refl }; none_in = refl; none_out = refl })
+by_kind P books goes comes closes other (NextPortal (Ok n)) = other _ (record { same = λ s. record { book = refl; gone_out = refl; deliveries = refl; closed = refl }; none_in = refl; none_out = refl })
+by_kind P books goes comes closes other (NextPortal (Err e)) = other _ (record { same = λ s. record { book = refl; gone_out = refl; deliveries = refl; closed = refl }; none_in = refl; none_out = refl })
+by_kind P books goes comes closes other (NextOut (Ok x)) = other _ (record { same = λ s. record { book = refl; gone_out = refl; deliveries = refl; closed = refl }; none_in = refl; none_out = refl })
+by_kind P books goes comes closes other (NextOut (Err e)) = other _ (record { same = λ s. record { book = refl; gone_out = refl; deliveries = refl; closed = refl }; none_in = refl; none_out = refl })
+by_kind P books goes comes closes other (DeliverEvent batch complete x) = other _ (record { same = λ s. record { book = refl; gone_out = refl; deliveries = refl; closed = refl }; none_in = refl; none_out = refl })
+by_kind P books goes comes closes other (CloseRequests (Err e)) = other _ (record { same = λ s. record { book = refl; gone_out = refl; deliveries = refl; closed = refl }; none_in = refl; none_out = refl })
+by_kind P books goes comes closes other (Fail (Ok x)) = other _ (record { same = λ s. record { book = refl; gone_out = refl; deliveries = refl; closed = refl }; none_in = refl; none_out = refl })
+by_kind P books goes comes closes other (Fail (Err e)) = other _ (record { same = λ s. record { book = refl; gone_out = refl; deliveries = refl; closed = refl }; none_in = refl; none_out = refl })
+
+-- ---- what came and went out
+
+received-push : (ds : List Delivery) (d : Delivery) → received (ds ++ d ∷ []) ≡ received ds ++ d.messages
+received-push [] d = append-nil d.messages
+received-push (x ∷ ds) d = ap (λ (l : List RawMessage). x.messages ++ l) (received-push ds d) ∙ sym (append_assoc x.messages (received ds) d.messages)
+
+joined-push : {A : Type 0} (xss : List (List A)) (xs : List A) → joined (xss ++ xs ∷ []) ≡ joined xss ++ xs
+joined-push [] xs = append-nil xs
+joined-push {A} (x ∷ xss) xs = ap (λ (l : List A). x ++ l) (joined-push xss xs) ∙ sym (append_assoc x (joined xss) xs)
+
+as_before : {A : Type 0} (a b c : List A) → b ≡ a → c ≡ [] → b ≡ a ++ c
+as_before {A} a b c same none = same ∙ sym (append-nil a) ∙ ap (λ (l : List A). a ++ l) (sym none)
+
+received-one : (s : State) (e : Event) → received (after s e).deliveries ≡ received s.deliveries ++ delivered_in e
+received-one s e = by_kind (λ e. received (after s e).deliveries ≡ received s.deliveries ++ delivered_in e)
+    (λ stamp part copying id. sym (append-nil (received s.deliveries)))
+    (λ part. sym (append-nil (received s.deliveries)))
+    (λ batch complete. received-push s.deliveries (record { messages = batch; complete = complete }))
+    (sym (append-nil (received s.deliveries)))
+    (λ e plain. as_before (received s.deliveries) (received (after s e).deliveries) (delivered_in e) (ap received (plain.same s).deliveries) plain.none_in)
+    e
+
+-- what the hub received is what was delivered by its events
+pub received-all : (s : State) (es : List Event) → received (after_all s es).deliveries ≡ received s.deliveries ++ delivered_by es
+received-all s [] = sym (append-nil (received s.deliveries))
+received-all s (e ∷ es) = received-all (after s e) es ∙ ap (λ (l : List RawMessage). l ++ delivered_by es) (received-one s e)
+    ∙ append_assoc (received s.deliveries) (delivered_in e) (delivered_by es)
+
+out-one : (s : State) (e : Event) → joined (after s e).gone_out ≡ joined s.gone_out ++ bytes_out_in e
+out-one s e = by_kind (λ e. joined (after s e).gone_out ≡ joined s.gone_out ++ bytes_out_in e)
+    (λ stamp part copying id. sym (append-nil (joined s.gone_out)))
+    (λ part. joined-push s.gone_out part)
+    (λ batch complete. sym (append-nil (joined s.gone_out)))
+    (sym (append-nil (joined s.gone_out)))
+    (λ e plain. as_before (joined s.gone_out) (joined (after s e).gone_out) (bytes_out_in e) (ap (λ (l : List (List ℕ)). joined l) (plain.same s).gone_out) plain.none_out)
+    e
+
+-- what went out of the hub went out by its events
+pub out-all : (s : State) (es : List Event) → joined (after_all s es).gone_out ≡ joined s.gone_out ++ bytes_out_by es
+out-all s [] = sym (append-nil (joined s.gone_out))
+out-all s (e ∷ es) = out-all (after s e) es ∙ ap (λ (l : List ℕ). l ++ bytes_out_by es) (out-one s e)
+    ∙ append_assoc (joined s.gone_out) (bytes_out_in e) (bytes_out_by es)
+
+-- ---- once nothing more can come
+
+-- Requests are closed, all parts went out, and each of them was answered.
+pub record Spent (s : State) : Type 0 where
+  pub closed : s.closed ≡ true
+  pub out : drop (length s.gone_out) (wire s.book) ≡ []
+  pub answered : length s.gone_out ≤ finished s.deliveries
+
+not_open : (a b : Bool) → a ≡ true → a || b ≡ false → ⊥
+not_open a b e f = let g : true || b ≡ false = subst (λ (x : Bool). x || b ≡ false) e f in let h : true ≡ false = g in cc
+
+no_part : (s : State) (part : List ℕ) (l : List (List ℕ)) → l ≡ [] → out.Part part ≡ out_of_rest s l → ⊥
+no_part s part (x ∷ l) none e = absurd cc
+no_part s part [] none e = by_tests (nat_lt (finished s.deliveries) (length s.gone_out)) s.closed e
+  where
+    by_tests : (a b : Bool) → out.Part part ≡ (if a then out.Nothing else (if b then out.NoMore else out.Nothing)) → ⊥
+    by_tests true b e = absurd cc
+    by_tests false true e = absurd cc
+    by_tests false false e = absurd cc
+
+spent-same : (s t : State) → Same s t → Spent s → Spent t
+spent-same s t same h = record {
+  closed = same.closed ∙ h.closed;
+  out = ap (λ (l : List (List ℕ)). drop (length l) (wire t.book)) same.gone_out ∙ ap (λ (b : List Booking). drop (length s.gone_out) (wire b)) same.book ∙ h.out;
+  answered = let a = ap (λ (l : List (List ℕ)). length l) same.gone_out in let b = ap finished same.deliveries in let c = h.answered in omega arith;
+}
+
+-- It stays so, whatever happens.
+pub spent-one : (s : State) (e : Event) → Spent s → Allows s e → Spent (after s e)
+spent-one s e h = by_kind (λ e. Allows s e → Spent (after s e))
+    (λ stamp part copying id a. absurd (not_open s.closed s.failed h.closed a.0))
+    (λ part a. absurd (no_part s part (drop (length s.gone_out) (wire s.book)) h.out a.1))
+    (λ batch complete a. let b : finished s.deliveries < length s.gone_out = a.1 in absurd (omega (arith, b, h.answered)))
+    (λ a. record { closed = refl; out = h.out; answered = h.answered })
+    (λ e plain a. spent-same s (after s e) (plain.same s) h)
+    e
+
+pub spent-all : (s : State) (es : List Event) → Spent s → IsLegal s es → Spent (after_all s es)
+spent-all s [] h l = h
+spent-all s (e ∷ es) h l = spent-all (after s e) es (spent-one s e h l.0) l.1
+
+no_rest : (s : State) (l : List (List ℕ)) → out.NoMore ≡ out_of_rest s l → l ≡ []
+no_rest s (x ∷ l) e = absurd cc
+no_rest s [] e = refl
+
+no_more : (s : State) (l : List (List ℕ)) → out.NoMore ≡ out_of_rest s l → (s.closed ≡ true) × (length s.gone_out ≤ finished s.deliveries)
+no_more s (x ∷ l) e = absurd cc
+no_more s [] e = by_tests (nat_lt (finished s.deliveries) (length s.gone_out)) s.closed refl refl e
+  where
+    by_tests : (a b : Bool) → nat_lt (finished s.deliveries) (length s.gone_out) ≡ a → s.closed ≡ b → out.NoMore ≡ (if a then out.Nothing else (if b then out.NoMore else out.Nothing)) →
+        (s.closed ≡ true) × (length s.gone_out ≤ finished s.deliveries)
+    by_tests true b p q e = absurd cc
+    by_tests false true p q e = (q, grind (arith, nat_tests))
+    by_tests false false p q e = absurd cc
+
+no-more-one : (s : State) (e : Event) → has_no_more e ≡ true → Allows s e → Spent (after s e)
+no-more-one s (NextOut (Ok out.NoMore)) is a =
+    let rest = drop (length s.gone_out) (wire s.book) in
+    let h = no_more s rest a.1 in
+    record { closed = h.0; out = no_rest s rest a.1; answered = h.1 }
+no-more-one s _ is a = absurd cc
+
+-- It is so where the hub's last answer was that nothing more will come.
+pub no-more-spent : (s : State) (es : List Event) → last_is has_no_more es ≡ true → IsLegal s es → Spent (after_all s es)
+no-more-spent s [] is l = absurd cc
+no-more-spent s (e ∷ []) is l = no-more-one s e is l.0
+no-more-spent s (e ∷ f ∷ es) is l = no-more-spent (after s e) (f ∷ es) is l.1
+
+-- ---- the deliveries of a legal list
+
+-- the last batch ended its group, or none came
+abbrev pub ends_whole : List Delivery → Bool
+ends_whole [] = true
+ends_whole (d ∷ []) = d.complete
+ends_whole (d ∷ e ∷ ds) = ends_whole (e ∷ ds)
+
+-- Each delivery was a batch, and a group that isn't whole is of a request that is open.
+pub record Ran (s : State) : Type 0 where
+  pub cut : AllCut s.deliveries
+  pub tail : ends_whole s.deliveries ≡ false → HasOpen s
+
+ends-push : (ds : List Delivery) (d : Delivery) → ends_whole (ds ++ d ∷ []) ≡ d.complete
+ends-push [] d = refl
+ends-push (x ∷ []) d = refl
+ends-push (x ∷ y ∷ ds) d = ends-push (y ∷ ds) d
+
+finished-push : (ds : List Delivery) (messages : List RawMessage) → finished (ds ++ record { messages = messages; complete = false } ∷ []) ≡ finished ds
+finished-push [] messages = refl
+finished-push (x ∷ ds) messages = ap (λ (n : ℕ). if x.complete then suc n else n) (finished-push ds messages)
+
+ran-deliver : (s : State) (batch : List RawMessage) (complete : Bool) → Ran s → Allows s (DeliverEvent batch complete delivering.Taken) →
+    Ran (after s (DeliverEvent batch complete delivering.Taken))
+ran-deliver s batch true h a = record {
+  cut = cut-more s.deliveries (record { messages = batch; complete = true }) h.cut a.0;
+  tail = λ e. let no : true ≡ false = sym (ends-push s.deliveries (record { messages = batch; complete = true })) ∙ e in absurd cc;
+}
+ran-deliver s batch false h a = record {
+  cut = cut-more s.deliveries (record { messages = batch; complete = false }) h.cut a.0;
+  tail = λ e. subst (λ (n : ℕ). n < length s.gone_out) (sym (finished-push s.deliveries batch)) a.1;
+}
+
+ran-same : (s t : State) → Same s t → Ran s → Ran t
+ran-same s t same h = record {
+  cut = subst AllCut (sym same.deliveries) h.cut;
+  tail = λ e.
+      let b : finished s.deliveries < length s.gone_out = h.tail (sym (ap ends_whole same.deliveries) ∙ e) in
+      let g = ap (λ (l : List (List ℕ)). length l) same.gone_out in let d = ap finished same.deliveries in omega arith;
+}
+
+ran-one : (s : State) (e : Event) → Ran s → Allows s e → Ran (after s e)
+ran-one s e h = by_kind (λ e. Allows s e → Ran (after s e))
+    (λ stamp part copying id a. record { cut = h.cut; tail = h.tail })
+    (λ part a. record {
+      cut = h.cut;
+      tail = λ e. let b : finished s.deliveries < length s.gone_out = h.tail e in omega (arith, b, length_push s.gone_out part);
+    })
+    (λ batch complete a. ran-deliver s batch complete h a)
+    (λ a. record { cut = h.cut; tail = h.tail })
+    (λ e plain a. ran-same s (after s e) (plain.same s) h)
+    e
+
+pub ran-all : (s : State) (es : List Event) → Ran s → IsLegal s es → Ran (after_all s es)
+ran-all s [] h l = h
+ran-all s (e ∷ es) h l = ran-all (after s e) es (ran-one s e h l.0) l.1

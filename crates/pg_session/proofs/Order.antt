@@ -1,0 +1,52 @@
+-- Turns of a session made one after another.
+use Rattle.std.proofs.Common.{ℕ, false, List, [], ◌∷◌, ◌++◌, refl, subst, ◌∙◌}
+use Rattle.pg_spec.specs.Links.{LinkView}
+use Rattle.pg_wire.specs.LinkCalls.{SameBytes}
+use Rattle.pg_connect.proofs.Joining.{keeps_same, keeps_then}
+use Rattle.pg_text.specs.declared.command.Command.{Command}
+use Rattle.pg_session.specs.States.{SessionState}
+use Rattle.pg_session.specs.Turns.{Makes}
+use Rattle.pg_session.specs.Sessions.{Rests, MakesAll}
+
+-- ---- the link between two turns
+
+pub rests_none : (l : LinkView) → Rests l l
+rests_none l = record { bytes = record { given = refl; taken = refl; due = refl }; keeps = keeps_same l }
+
+bytes_then : (a b c : LinkView) → SameBytes a b → SameBytes b c → SameBytes a c
+bytes_then a b c p q = record { given = q.given ∙ p.given; taken = q.taken ∙ p.taken; due = q.due ∙ p.due }
+
+pub rests_then : (a b c : LinkView) → Rests a b → Rests b c → Rests a c
+rests_then a b c p q = record { bytes = bytes_then a b c p.bytes q.bytes; keeps = keeps_then a b c p.keeps q.keeps }
+
+-- ---- turns behind others
+
+-- no turn
+pub makes_none : (scripts : List (List Command)) (s : SessionState) (l m : LinkView) → Rests l m → MakesAll scripts [] s l s m
+makes_none scripts s l m rest = (refl, rest)
+
+-- the link was waited for before the first of them
+pub makes_all_rested : (scripts : List (List Command)) (turns : List ℕ) (s : SessionState) (l k : LinkView) (t : SessionState) (m : LinkView) →
+    Rests l k → MakesAll scripts turns s k t m → MakesAll scripts turns s l t m
+makes_all_rested scripts [] s l k t m rest made = (made.0, rests_then l k m rest made.1)
+makes_all_rested scripts (turn ∷ turns) s l k t m rest made =
+    (made.0, made.1, made.2, rests_then l k made.0 rest made.3, made.4, made.5)
+
+-- turns and then others
+pub makes_all_then : (scripts : List (List Command)) (xs ys : List ℕ) (s : SessionState) (l : LinkView) (mid : SessionState) (k : LinkView) (t : SessionState) (m : LinkView) →
+    MakesAll scripts xs s l mid k → MakesAll scripts ys mid k t m → MakesAll scripts (xs ++ ys) s l t m
+makes_all_then scripts [] ys s l mid k t m first then =
+    subst (λ (x : SessionState). MakesAll scripts ys x l t m) first.0 (makes_all_rested scripts ys mid l k t m first.1 then)
+makes_all_then scripts (x ∷ xs) ys s l mid k t m first then =
+    (first.0, first.1, first.2, first.3, first.4, makes_all_then scripts xs ys first.1 first.2 mid k t m first.5 then)
+
+-- one turn alone
+pub makes_one : (scripts : List (List Command)) (turn : ℕ) (s : SessionState) (l k : LinkView) (t : SessionState) (m : LinkView) →
+    Rests l k → Makes scripts turn s t k m false → MakesAll scripts (turn ∷ []) s l t m
+makes_one scripts turn s l k t m rest made = (k, t, m, rest, made, makes_none scripts t m m (rests_none m))
+
+-- one more turn at the end
+pub makes_all_one : (scripts : List (List Command)) (turns : List ℕ) (turn : ℕ) (s : SessionState) (l : LinkView) (mid : SessionState) (k r : LinkView) (t : SessionState) (m : LinkView) →
+    MakesAll scripts turns s l mid k → Rests k r → Makes scripts turn mid t r m false → MakesAll scripts (turns ++ turn ∷ []) s l t m
+makes_all_one scripts turns turn s l mid k r t m first rest made =
+    makes_all_then scripts turns (turn ∷ []) s l mid k t m first (makes_one scripts turn mid k r t m rest made)

@@ -1,0 +1,9 @@
+use Rattle.pg_session.proofs.Caused.{broken-cause}
+use Rattle.pg_session.proofs.StartCauses.{start_cause}
+use Rattle.pg_session.proofs.causes.each_failure_has_its_cause.Goals as goal
+
+pub returns-clause-startup : goal.returns-clause-startup
+returns-clause-startup c = start_cause
+
+pub returns-clause-later : goal.returns-clause-later
+returns-clause-later c call user scripts e means b limit moves = broken-cause call user scripts e means b limit moves

@@ -1,0 +1,5 @@
+use Rattle.pg_session.proofs.OrderHolds.{turns_are_in_order}
+use Rattle.pg_session.proofs.turn_order.turns_in_order.Goals as goal
+
+pub returns : goal.returns
+returns c = turns_are_in_order

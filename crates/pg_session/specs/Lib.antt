@@ -1,0 +1,10 @@
+pub mod States
+pub mod HandleTurns
+pub mod Turns
+pub mod Sessions
+pub mod Reports
+pub mod Lives
+pub mod Crossed
+pub mod Failures
+pub mod WholeSession
+pub mod FailureCauses

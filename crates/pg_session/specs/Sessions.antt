@@ -1,0 +1,86 @@
+-- A whole session: the startup, the turns one after another, and the report.
+use Rattle.std.specs.Prelude.{◌≡◌, ◌<◌, ◌≤◌, ◌+◌, ◌^◌, ◌⊎◌, ℕ, zero, suc, true, false, List, [], ◌∷◌, ◌++◌, length}
+use Rattle.pg_spec.specs.Links.{LinkView}
+use Rattle.pg_wire.specs.LinkCalls.{SameBytes, Keeps}
+use Rattle.pg_desk.specs.History.{start, IsFrontOf}
+use Rattle.pg_hub.specs.Fits.{Fits}
+use Rattle.pg_hub.specs.Standing.{Standing}
+use Rattle.pg_text.specs.declared.command.Command.{Command}
+use Rattle.pg_text.specs.declared.report.Report.{Report}
+use Rattle.pg_connect.specs.Startups.{Opened}
+use Rattle.pg_connect.specs.StartupPolls.{IsFresh}
+use Rattle.pg_connect.specs.declared.startup.Startup.{Startup}
+use Rattle.pg_session.specs.Reports.{Reports}
+use Rattle.pg_session.specs.States.{SessionState, new_handles, commands_in}
+use Rattle.pg_session.specs.Turns.{Closes, Makes}
+
+-- between two turns the link may be waited for
+pub record Rests (before after : LinkView) : Type 0 where
+  pub bytes : SameBytes before after
+  pub keeps : Keeps before after
+
+-- these turns were made one after another, and the connection wasn't shut down in any of them
+abbrev pub MakesAll : List (List Command) → (turns : List ℕ) → SessionState → LinkView → SessionState → LinkView → Type 0
+MakesAll scripts [] s l t m = (t ≡ s) × Rests l m
+MakesAll scripts (turn ∷ turns) s l t m =
+    (rested : LinkView) × (mid : SessionState) × (passed : LinkView)
+    × Rests l rested × Makes scripts turn s mid rested passed false × MakesAll scripts turns mid passed t m
+
+-- the same, and the connection was shut down in one more turn behind them
+pub record EndsWith (scripts : List (List Command)) (turns : List ℕ) (last : ℕ) (s : SessionState) (l : LinkView) (t : SessionState) (m : LinkView) : Type 0 where
+  pub state : SessionState
+  pub link : LinkView
+  pub before : MakesAll scripts turns s l state link
+  pub over : Makes scripts last state t link m true
+
+-- the numbers below n, in order
+abbrev pub numbers : ℕ → List ℕ
+numbers zero = []
+numbers (suc n) = numbers n ++ n ∷ []
+
+-- whole rounds: each handle in order, and then the connection
+abbrev pub rounds : (handles count : ℕ) → List ℕ
+rounds handles zero = []
+rounds handles (suc n) = rounds handles n ++ numbers (handles + 1)
+
+-- the turns that were given, all of them, and then whole rounds and a front of one more
+pub record InRounds (given : List ℕ) (handles : ℕ) (turns : List ℕ) (last : ℕ) : Type 0 where
+  pub count : ℕ
+  pub whole : turns ≡ given ++ rounds handles count ++ numbers last
+  pub within : last ≤ handles
+
+-- the turns in their order, the last of which is told apart: a front of those given, or rounds behind them
+abbrev pub InOrder : (given : List ℕ) (handles : ℕ) (turns : List ℕ) (last : ℕ) → Type 0
+InOrder given handles turns last = IsFrontOf (turns ++ last ∷ []) given ⊎ InRounds given handles turns last
+
+-- the session was played from here to its end
+pub record Plays (scripts : List (List Command)) (given : List ℕ) (s : SessionState) (l : LinkView) (t : SessionState) (m : LinkView) : Type 0 where
+  pub turns : List ℕ
+  pub last : ℕ
+  pub order : InOrder given (length scripts) turns last
+  pub ends : EndsWith scripts turns last s l t m
+
+-- a session before its first turn
+pub record IsNewSession (scripts : List (List Command)) (s : SessionState) : Type 0 where
+  pub hub : Standing
+  pub new : Fits (start 0 0) hub
+  pub closes : Closes (commands_in scripts) hub s.hub
+  pub handles : s.handles ≡ new_handles scripts
+  pub unanswered : s.unanswered ≡ commands_in scripts
+  pub trace : s.trace ≡ []
+  pub asynchronous : s.asynchronous ≡ []
+
+-- A whole session: it was opened as this user, and played from there to its end, and this is its report. The bytes
+-- that the link gave in it are counted by 64 bits.
+pub record HasPlayed (user nonce : List ℕ) (scripts : List (List Command)) (given : List ℕ) (before after : LinkView) (report : Report) : Type 0 where
+  pub startup : Startup
+  pub link : LinkView
+  pub opened : Opened user nonce before link startup
+  pub opening : List ℕ
+  pub new : SessionState
+  pub fresh : IsFresh startup opening new.streams
+  pub is_new : IsNewSession scripts new
+  pub last : SessionState
+  pub plays : Plays scripts given new link last after
+  pub reports : Reports opening last report
+  pub counted : last.streams.given < 2 ^ 64

@@ -1,0 +1,86 @@
+-- What one turn of a session does.
+use Rattle.std.specs.Prelude.{◌≡◌, ◌<◌, ◌≤◌, ◌-◌, ◌⊎◌, ℕ, zero, suc, Bool, true, false, List, [], ◌∷◌, ◌++◌, length, Option, Some, None, slice_get, slice_set, Result, Ok, Err}
+use Rattle.futures.specs.declared.task.Poll.{Poll}
+use Rattle.futures.specs.declared.task.Poll.TheVariants.{Ready, Pending}
+use Rattle.pg_spec.specs.Links.{LinkView}
+use Rattle.pg_connect.specs.Answers.{PollAnswers}
+use Rattle.pg_desk.specs.declared.event.Event.TheVariants.{CloseRequests}
+use Rattle.pg_errors.specs.declared.async_message.AsyncMessage.{AsyncMessage}
+use Rattle.pg_errors.specs.declared.error.Error.{Error}
+use Rattle.pg_hub.specs.Fits.{HubBecomes}
+use Rattle.pg_hub.specs.Standing.{Standing}
+use Rattle.pg_text.specs.declared.command.Command.{Command}
+use Rattle.pg_session.specs.declared.handle_turn.Polling.{Polling}
+use Rattle.pg_session.specs.declared.handle_turn.Polling.TheVariants as polling
+use Rattle.pg_session.specs.HandleTurns.{HandleTurns}
+use Rattle.pg_session.specs.States.{HandleState, SessionState}
+
+-- a hub of which nobody has asked yet whether something moved
+abbrev pub untouched : Standing → Standing
+untouched hub = record hub { touched = false }
+
+-- where no command is left unanswered, requests are closed; else nothing happens
+abbrev pub Closes : (left : ℕ) → Standing → Standing → Type 0
+Closes zero a b = HubBecomes a (CloseRequests (Ok tt) ∷ []) b
+Closes (suc n) a b = b ≡ a
+
+-- how many commands are left unanswered behind a turn of a handle
+abbrev pub left_behind : Polling → ℕ → ℕ
+left_behind polling.Answered left = left - 1
+left_behind other left = left
+
+-- what is done behind the poll of a handle's turn
+abbrev pub ClosesBehind : Polling → (left : ℕ) → Standing → Standing → Type 0
+ClosesBehind polling.Answered left a b = Closes (left - 1) a b
+ClosesBehind polling.Waits left a b = b ≡ untouched a
+ClosesBehind other left a b = b ≡ a
+
+-- a turn of a handle: nothing but the hub and the handle changes
+pub record HandleMade (scripts : List (List Command)) (turn : ℕ) (s t : SessionState) (did : Polling) : Type 0 where
+  pub script : List Command
+  pub script_at : slice_get scripts turn ≡ Some script
+  pub old : HandleState
+  pub old_at : slice_get s.handles turn ≡ Some old
+  pub new : HandleState
+  pub hub : Standing
+  pub turns : HandleTurns HubBecomes script (record { owner = turn; command = length old.answers; turn = length s.trace })
+      (untouched s.hub) old hub new did
+  pub closes : ClosesBehind did s.unanswered hub t.hub
+  pub handles : t.handles ≡ slice_set s.handles turn new
+  pub unanswered : t.unanswered ≡ left_behind did s.unanswered
+  pub streams : t.streams ≡ s.streams
+  pub asynchronous : t.asynchronous ≡ s.asynchronous
+  pub trace : t.trace ≡ s.trace ++ record { turn = turn; delivered = s.streams.delivered } ∷ []
+
+-- what is kept of the answer of a poll, and whether it was the connection's end
+abbrev pub HandsOn : Poll (Option (Result AsyncMessage Error)) → (old new : List AsyncMessage) → (over : Bool) → Type 0
+HandsOn Pending old new over = (new ≡ old) × (over ≡ false)
+HandsOn (Ready None) old new over = (new ≡ old) × (over ≡ true)
+HandsOn (Ready (Some (Ok message))) old new over = (new ≡ old ++ message ∷ []) × (over ≡ false)
+HandsOn (Ready (Some (Err e))) old new over = ⊥
+
+-- a turn of the connection: one poll
+pub record ConnectionMade (turn : ℕ) (s t : SessionState) (before after : LinkView) (over : Bool) : Type 0 where
+  pub answer : Poll (Option (Result AsyncMessage Error))
+  pub polled : PollAnswers HubBecomes s.hub t.hub s.streams t.streams before after answer
+  pub hands : HandsOn answer s.asynchronous t.asynchronous over
+  pub handles : t.handles ≡ s.handles
+  pub unanswered : t.unanswered ≡ s.unanswered
+  pub trace : t.trace ≡ s.trace ++ record { turn = turn; delivered = t.streams.delivered } ∷ []
+
+-- a turn of a handle crosses no link
+pub record HandleTurn (scripts : List (List Command)) (turn : ℕ) (s t : SessionState) (before after : LinkView) (over : Bool) : Type 0 where
+  pub own : turn < length scripts
+  pub did : Polling
+  pub made : HandleMade scripts turn s t did
+  pub link : after ≡ before
+  pub goes_on : over ≡ false
+
+-- every other turn is the connection's
+pub record ConnectionTurn (scripts : List (List Command)) (turn : ℕ) (s t : SessionState) (before after : LinkView) (over : Bool) : Type 0 where
+  pub other : length scripts ≤ turn
+  pub made : ConnectionMade turn s t before after over
+
+-- one turn of a session, and whether the connection was shut down in it
+abbrev pub Makes : List (List Command) → (turn : ℕ) → SessionState → SessionState → (before after : LinkView) → (over : Bool) → Type 0
+Makes scripts turn s t before after over = HandleTurn scripts turn s t before after over ⊎ ConnectionTurn scripts turn s t before after over

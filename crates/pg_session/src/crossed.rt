@@ -1,0 +1,19 @@
+//! What crossed the link in a session that ended.
+
+ghost use Rattle.std.specs.Prelude.{ℕ, List};
+ghost use Rattle.pg_spec.specs.Links.{LinkView, OfBytes};
+ghost use Rattle.pg_text.specs.declared.command.Command.{Command};
+ghost use Rattle.pg_text.specs.declared.report.Report.{Report};
+ghost use Rattle.pg_session.specs.Crossed.{session_of, Sent, Crossed};
+ghost use Rattle.pg_session.specs.Sessions.{HasPlayed};
+
+/// Where the link tells its bytes, a session that was played to its end was started, sent the startup's frame,
+/// each request whole, in booking order, and Terminate, and reports that. All that the server gave was read, sorted
+/// and reported too.
+pub fn what_crossed()
+    ensures sent { (user nonce : List ℕ) (scripts : List (List Command)) (given : List ℕ) (before after : LinkView) (report : Report) →
+        HasPlayed user nonce scripts given before after report → OfBytes before after (λ g t. Sent (session_of user nonce scripts given report g) t) }
+    ensures crossed { (user nonce : List ℕ) (scripts : List (List Command)) (given : List ℕ) (before after : LinkView) (report : Report) →
+        HasPlayed user nonce scripts given before after report →
+        OfBytes before after (λ g t. Crossed (session_of user nonce scripts given report g) t) }
+{}
