@@ -1,0 +1,15 @@
+pub mod Growing
+pub mod Limits
+pub mod Playing
+pub mod Telling
+pub mod Following
+pub mod Later
+pub mod NotBuilt
+pub mod Waiting
+pub mod Turned
+pub mod Counting
+pub mod Made
+pub mod Chaining
+pub mod Played
+pub mod Failing
+pub mod Causing

@@ -1,0 +1,70 @@
+-- A turn of a handle, step by step.
+use Rattle.std.proofs.Common.{◌≡◌, ℕ, suc, List, take, None, option_map, arith, [], ◌∷◌, ◌++◌, length, map, Bool, Option, Some, IfOk, OnOk, Result, Ok, Err, slice_get, slice_set, refl, sym, ◌∙◌, ap, subst}
+use Rattle.std.proofs.Math.Seq.{take-append_seam}
+use Rattle.std.specs.List.{All}
+use Rattle.pg_errors.specs.declared.error.Error.{Error}
+use Rattle.pg_hub.specs.Fits.{HubBecomes}
+use Rattle.pg_hub.specs.Standing.{Standing}
+use Rattle.pg_session.specs.HandleTurns.{HandleTurns}
+use Rattle.pg_session.specs.Turns.{ClosesBehind, HandleMade, left_behind, untouched}
+use Rattle.pg_session.specs.declared.handle_turn.Polling.{Polling}
+use Rattle.pg_text.specs.declared.command.Command.{Command}
+use Rattle.pg_tool.specs.declared.handle.Handle.{Handle}
+use Rattle.pg_tool.specs.declared.play.Play.{Play}
+use Rattle.pg_client.specs.Queries.{place_of_query}
+use Rattle.pg_session.specs.States.{idle_handle, new_handles}
+use Rattle.pg_tool.specs.Handles.{IsIdleHandle, OneTurned, view_of}
+use Rattle.pg_tool.specs.Plays.{state_of}
+
+-- a slice that is written back whole
+pub written_back : {X : Type 0} (n : ℕ) (xs ys : List X) → n ≡ length xs → take n (xs ++ ys) ≡ xs
+written_back n xs ys is = ap (λ k. take k (xs ++ ys)) is ∙ take-append_seam xs ys
+
+-- handles that have begun no command
+pub idle_views : (handles : List Handle) (scripts : List (List Command)) → length handles ≡ length scripts → All IsIdleHandle handles → map view_of handles ≡ new_handles scripts
+idle_views [] [] count idle = refl
+idle_views [] (script ∷ scripts) count idle = absurd (omega (arith, count))
+idle_views (h ∷ hs) [] count idle = absurd (omega (arith, count))
+idle_views (h ∷ hs) (script ∷ scripts) count idle =
+    let first : IsIdleHandle h = idle 0 h (omega arith) in
+    let views : view_of h ≡ idle_handle =
+    ap (λ r. record { running = option_map (λ state. place_of_query state.value) r; answers = h.answers.items }) first.running
+    ∙ ap (λ items. record { running = None; answers = items }) first.answers in
+    ap (λ v. v ∷ map view_of hs) views
+    ∙ ap (λ vs. idle_handle ∷ vs) (idle_views hs scripts (omega (arith, count)) (λ k d within. idle (suc k) d (omega (arith, within))))
+
+-- the handle was polled, requests were closed behind it, and the turn was noted
+pub handle_made : (scripts : List (List Command)) (turn turns : ℕ) (p q u : Play) (script : List Command) (first hub : Standing) (olds news : List Handle) (did : Polling) (r : Result (Option Bool) Error) →
+    slice_get scripts turn ≡ Some script → turns ≡ length p.trace.items → first ≡ untouched p.hub → olds ≡ p.handles.items →
+    OneTurned HubBecomes script (λ old. record { owner = turn; command = length old.answers; turn = turns }) turn
+    first (map view_of olds) hub (map view_of news) did →
+    ClosesBehind did p.unanswered hub q.hub → q.handles.items ≡ news → q.streams ≡ p.streams → q.unanswered ≡ left_behind did p.unanswered →
+    q.asynchronous ≡ p.asynchronous → q.trace ≡ p.trace → u ≡ record q { trace = u.trace } →
+    OnOk r (u.trace.items ≡ q.trace.items ++ record { turn = turn; delivered = q.streams.delivered } ∷ []) →
+    IfOk r (λ moved. (x : Polling) × HandleMade scripts turn (state_of p) (state_of u) x)
+handle_made scripts turn turns p q u script first hub olds news did (Err e) at count touched old turned closes handles streams unanswered asynchronous trace same marks = tt
+handle_made scripts turn turns p q u script first hub olds news did (Ok moved) at count touched old turned closes handles streams unanswered asynchronous trace same marks = (
+  did,
+  record {
+    script = script;
+    script_at = at;
+    old = turned.old;
+    old_at = subst (λ hs. slice_get (map view_of hs) turn ≡ Some turned.old) old turned.old_at;
+    new = turned.new;
+    hub = hub;
+    turns = subst (λ n. HandleTurns HubBecomes script (record { owner = turn; command = length turned.old.answers; turn = n }) (untouched p.hub) turned.old hub turned.new did) count
+        (subst (λ h. HandleTurns HubBecomes script (record { owner = turn; command = length turned.old.answers; turn = turns }) h turned.old hub turned.new did) touched turned.turns);
+    closes = subst (λ h. ClosesBehind did p.unanswered hub h) (sym (ap (λ (x : Play). x.hub) same)) closes;
+    handles = ap (λ (x : Play). map view_of x.handles.items) same ∙ ap (map view_of) handles ∙ turned.handles ∙ ap (λ hs. slice_set (map view_of hs) turn turned.new) old;
+    unanswered = ap (λ (x : Play). x.unanswered) same ∙ unanswered;
+    streams = ap (λ (x : Play). x.streams) same ∙ streams;
+    asynchronous = ap (λ (x : Play). x.asynchronous.items) same ∙ ap (λ x. x.items) asynchronous;
+    trace = marks ∙ ap (λ t. t.items ++ record { turn = turn; delivered = q.streams.delivered } ∷ []) trace
+        ∙ ap (λ s. p.trace.items ++ record { turn = turn; delivered = s.delivered } ∷ []) streams;
+  },
+)
+
+-- the answers of handles
+pub answers_view : (handles : List Handle) → map (λ h. h.answers.items) handles ≡ map (λ h. h.answers) (map view_of handles)
+answers_view [] = refl
+answers_view (h ∷ hs) = ap (λ rest. h.answers.items ∷ rest) (answers_view hs)

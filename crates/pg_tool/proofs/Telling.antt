@@ -1,0 +1,125 @@
+-- What a run of the program wrote, and its status.
+use Rattle.std.proofs.Common.{◌≡◌, ◌≢◌, ℕ, ◌≤◌, inl, inr, List, length, Option, Some, None, Ok, Err, refl, sym, subst, ◌∙◌, arith}
+use Rattle.std.specs.Prelude.{IfSome}
+use Rattle.pg_spec.specs.Faults.{Failure, Io, UnexpectedMessage, Tls, Closed, Db, Parse, Encode, Authentication, ConfigParse, Config, Stalled, LimitReached, OutOfMemory}
+use Rattle.pg_spec.specs.Links.{Rose}
+use Rattle.pg_spec.specs.ReportText.{report_text, error_text}
+use Rattle.pg_spec.specs.Report.{Report}
+use Rattle.pg_spec.specs.SessionText.{SessionText, IsRefusedAt, IsSessionText}
+use Rattle.pg_wire.specs.Streams.{SinkView}
+use Rattle.pg_errors.specs.declared.error.Error.{Error}
+use Rattle.pg_errors.specs.declared.error.Error.TheVariants as error
+use Rattle.pg_errors.specs.Views.{failure_of}
+use Rattle.pg_tool.specs.Reading.{longest_text, ReadWhole}
+use Rattle.pg_tool.specs.RunContract.{Answered, EndsWith, IsPlayed, IsRefused, NotPlayed, PlayedText, RefusedLine, Run, RunContract, SaysResult, SessionResult, StatusSays, Written, play, usage}
+
+-- ---- a session's result
+
+pub answered_ok : (old new : SinkView) (status : ℕ) (report : Report) → Written old new (report_text report) 0 status → Answered old new status (Ok report)
+answered_ok old new status report w = record { says = w.ends; sink_failed = w.sink_failed (λ e. cc e) }
+
+says_failed : (old new : SinkView) (status : ℕ) (e : Error) → e ≢ error.OutOfMemory → EndsWith old new (error_text (failure_of e)) 1 status → SaysResult old new status (Err (failure_of e))
+says_failed old new status (error.Io cause) other ends = ends
+says_failed old new status error.UnexpectedMessage other ends = ends
+says_failed old new status (error.Tls cause) other ends = ends
+says_failed old new status error.Closed other ends = ends
+says_failed old new status (error.Db fields) other ends = ends
+says_failed old new status (error.Parse cause) other ends = ends
+says_failed old new status (error.Encode cause) other ends = ends
+says_failed old new status (error.Authentication cause) other ends = ends
+says_failed old new status (error.ConfigParse cause) other ends = ends
+says_failed old new status (error.Config cause) other ends = ends
+says_failed old new status (error.Stalled before after) other ends = ends
+says_failed old new status (error.LimitReached given limit) other ends = ends
+says_failed old new status error.OutOfMemory other ends = absurd (other refl)
+
+pub answered_failed : (old new : SinkView) (status : ℕ) (e : Error) → e ≢ error.OutOfMemory → Written old new (error_text (failure_of e)) 1 status → Answered old new status (Err (failure_of e))
+answered_failed old new status e other w = record { says = says_failed old new status e other w.ends; sink_failed = w.sink_failed (λ e. cc e) }
+
+-- ---- no status but those
+
+ends_not_3 : (old new : SinkView) (text : List ℕ) (due status : ℕ) → EndsWith old new text due status → due ≢ 3 → status ≡ 3 → ⊥
+ends_not_3 old new text due status (inl wrote) other is = other (sym wrote.0 ∙ is)
+ends_not_3 old new text due status (inr (inl e, front)) other is = omega (arith, e, is)
+ends_not_3 old new text due status (inr (inr e, front)) other is = omega (arith, e, is)
+
+failed_not_3 : (old new : SinkView) (status : ℕ) (failure : Failure) → SaysResult old new status (Err failure) → status ≡ 3 → ⊥
+failed_not_3 old new status (Io cause) says is = ends_not_3 old new _ 1 status says (λ e. cc e) is
+failed_not_3 old new status UnexpectedMessage says is = ends_not_3 old new _ 1 status says (λ e. cc e) is
+failed_not_3 old new status (Tls cause) says is = ends_not_3 old new _ 1 status says (λ e. cc e) is
+failed_not_3 old new status Closed says is = ends_not_3 old new _ 1 status says (λ e. cc e) is
+failed_not_3 old new status (Db error) says is = ends_not_3 old new _ 1 status says (λ e. cc e) is
+failed_not_3 old new status (Parse cause) says is = ends_not_3 old new _ 1 status says (λ e. cc e) is
+failed_not_3 old new status (Encode cause) says is = ends_not_3 old new _ 1 status says (λ e. cc e) is
+failed_not_3 old new status (Authentication cause) says is = ends_not_3 old new _ 1 status says (λ e. cc e) is
+failed_not_3 old new status (ConfigParse cause) says is = ends_not_3 old new _ 1 status says (λ e. cc e) is
+failed_not_3 old new status (Config cause) says is = ends_not_3 old new _ 1 status says (λ e. cc e) is
+failed_not_3 old new status (Stalled before after) says is = ends_not_3 old new _ 1 status says (λ e. cc e) is
+failed_not_3 old new status (LimitReached given limit) says is = ends_not_3 old new _ 1 status says (λ e. cc e) is
+failed_not_3 old new status OutOfMemory says is = omega (arith, says.0, is)
+
+text_not_3 : (bytes : List ℕ) (old new : SinkView) (status : ℕ) (result : Option SessionResult) → PlayedText bytes old new status result → status ≡ 3 → ⊥
+text_not_3 bytes old new status None (inl refused) is = ends_not_3 old new _ 2 status refused.2.ends (λ e. cc e) is
+text_not_3 bytes old new status None (inr nothing) is = omega (arith, nothing.0, is)
+text_not_3 bytes old new status (Some (Ok report)) played is = ends_not_3 old new _ 0 status played.2.answered.says (λ e. cc e) is
+text_not_3 bytes old new status (Some (Err failure)) played is = failed_not_3 old new status failure played.2.answered.says is
+
+text_sink_failed : (bytes : List ℕ) (old new : SinkView) (status : ℕ) (result : Option SessionResult) → PlayedText bytes old new status result → status ≡ 4 → Rose old.faults new.faults
+text_sink_failed bytes old new status None (inl refused) is = refused.2.sink_failed (λ e. cc e) is
+text_sink_failed bytes old new status None (inr nothing) is = absurd (omega (arith, nothing.0, is))
+text_sink_failed bytes old new status (Some result) played is = played.2.answered.sink_failed is
+
+-- ---- a text that is refused
+
+-- for a line of it
+pub line_refused : (bytes : List ℕ) (old new : SinkView) (number status : ℕ) → IsRefusedAt bytes number → RefusedLine old new number status → NotPlayed bytes old new status
+line_refused bytes old new number status at (inl w) = inl (Some number, at, w)
+line_refused bytes old new number status at (inr nothing) = inr nothing
+
+-- ---- the run
+
+-- what holds of the bytes that were read holds of the source's, where it tells them
+of_left : (P : List ℕ → Type 0) (left : Option (List ℕ)) (bytes : List ℕ) → IfSome left (λ l. l ≡ bytes) → P bytes → IfSome left P
+of_left P None bytes all p = tt
+of_left P (Some l) bytes all p = subst P (sym all) p
+
+-- where no session was played nothing is said of one
+no_session : (P : SessionResult → Type 0) (result : Option SessionResult) → result ≡ None → IfSome result P
+no_session P result none = subst (λ r. IfSome r P) (sym none) tt
+
+-- other words
+pub run_usage : (run : Run) → run.words ≢ play → run.result ≡ None → Written run.sink_before run.sink_after usage 2 run.status → RunContract run
+run_usage run other none w = record {
+  status = subst (λ r. StatusSays run r) (sym none) (inl (other, w.ends));
+  source_failed = λ is. absurd (ends_not_3 _ _ _ 2 run.status w.ends (λ e. cc e) is);
+  sink_failed = w.sink_failed (λ e. cc e);
+  session = no_session _ run.result none;
+}
+
+text_status : (run : Run) (bytes : List ℕ) (result : Option SessionResult) → run.words ≡ play → IfSome run.source_before.left (λ left. left ≡ bytes) →
+    PlayedText bytes run.sink_before run.sink_after run.status result → StatusSays run result
+text_status run bytes (Some result) words all played = played.2.answered.says
+text_status run bytes None words all (inl refused) =
+    inr (inl (words, refused.0, of_left (λ text. IsRefused text refused.0) run.source_before.left bytes all refused.1, refused.2.ends))
+text_status run bytes None words all (inr nothing) = inr (inr (inr nothing.0, nothing.1))
+
+text_session : (run : Run) (bytes : List ℕ) (result : Option SessionResult) → run.words ≡ play → ReadWhole run.source_before bytes →
+    PlayedText bytes run.sink_before run.sink_after run.status result →
+    IfSome result (λ result. (run.words ≡ play) × IfSome run.source_before.left (λ bytes. (length bytes ≤ longest_text)
+    × (text : SessionText) × IsSessionText bytes text × IsPlayed text result))
+text_session run bytes None words read played = tt
+text_session run bytes (Some result) words read played = (
+  words,
+  of_left (λ bytes. (length bytes ≤ longest_text) × (text : SessionText) × IsSessionText bytes text × IsPlayed text result)
+      run.source_before.left bytes read.all (read.within, played.0, played.1, played.2.played),
+)
+
+-- a text was read
+pub run_text : (run : Run) (bytes : List ℕ) → run.words ≡ play → ReadWhole run.source_before bytes →
+    PlayedText bytes run.sink_before run.sink_after run.status run.result → RunContract run
+run_text run bytes words read played = record {
+  status = text_status run bytes run.result words read.all played;
+  source_failed = λ is. absurd (text_not_3 bytes _ _ run.status run.result played is);
+  sink_failed = text_sink_failed bytes _ _ run.status run.result played;
+  session = text_session run bytes run.result words read played;
+}

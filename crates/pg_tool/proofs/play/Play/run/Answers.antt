@@ -1,0 +1,46 @@
+use Rattle.std.proofs.Common.{◌<◌, ◌≤◌, length, take, refl, arith}
+use Rattle.pg_tool.specs.Plays.{state_of}
+use Rattle.pg_tool.proofs.Chaining.{given_more, plays_given, plays_after}
+use Rattle.pg_tool.proofs.Failing.{given_fails, run_fails}
+use Rattle.pg_tool.proofs.Following.{continues_then}
+use Rattle.pg_tool.proofs.play.Play.run.Goals as goal
+
+pub returns-in-Ok-None-clause-plays : goal.returns-in-Ok-None-clause-plays
+returns-in-Ok-None-clause-plays g c =
+    let within : c.turns.turn-index < length c.args.turns.now = omega arith in
+    plays_given c.args.scripts.now c.args.turns.now c.turns.turn-index _ 0 (state_of c.args.self.now) (g.L.Link.view c.args.link.now) (state_of c.turns.self) (g.L.Link.view c.turns.link)
+    (state_of c.turn.new.self) (g.L.Link.view c.turn.new.link) within refl c.turns.invariant.made (rw c.in-Ok-None.field-0-is at c.in-Ok-None.ensures.made)
+
+pub returns-in-Ok-None-clause-link : goal.returns-in-Ok-None-clause-link
+returns-in-Ok-None-clause-link g c =
+    continues_then (g.L.Link.view c.args.link.now) (g.L.Link.view c.turns.link) (g.L.Link.view c.turn.new.link) c.turns.invariant.link c.turn.ensures.link
+
+pub turns-preserved : goal.turns-preserved
+turns-preserved g c =
+    let within : c.turns.turn-index < length c.args.turns.now = omega arith in
+    record {
+      ready = c.turn.ensures.ready;
+      made = given_more c.args.scripts.now c.args.turns.now c.turns.turn-index _ 0 (state_of c.args.self.now) (g.L.Link.view c.args.link.now) (state_of c.turns.self) (g.L.Link.view c.turns.link)
+          (state_of c.turn.new.self) (g.L.Link.view c.turn.new.link) within refl c.turns.invariant.made (rw c.in-Ok-Some.field-0-is at c.in-Ok-Some.ensures.made);
+      link = continues_then (g.L.Link.view c.args.link.now) (g.L.Link.view c.turns.link) (g.L.Link.view c.turn.new.link) c.turns.invariant.link c.turn.ensures.link;
+    }
+
+pub returns-clause-plays : goal.returns-clause-plays
+returns-clause-plays g c =
+    let all : length c.args.turns.now ≤ c.turns.turn-index = omega arith in
+    plays_after c.args.scripts.now c.args.turns.now c.turns.turn-index (state_of c.args.self.now) (g.L.Link.view c.args.link.now) (state_of c.turns.self) (g.L.Link.view c.turns.link)
+    (state_of c.rounds.new.self) (g.L.Link.view c.rounds.new.link) c.rounds.result all c.turns.invariant.made c.rounds.ensures.ends
+
+pub returns-clause-link : goal.returns-clause-link
+returns-clause-link g c =
+    continues_then (g.L.Link.view c.args.link.now) (g.L.Link.view c.turns.link) (g.L.Link.view c.rounds.new.link) c.turns.invariant.link c.rounds.ensures.link
+
+pub returns-in-Err-clause-fails : goal.returns-in-Err-clause-fails
+returns-in-Err-clause-fails g c =
+    given_fails c.args.scripts.now (take c.turns.turn-index c.args.turns.now) (state_of c.args.self.now) (g.L.Link.view c.args.link.now) (state_of c.turns.self) (g.L.Link.view c.turns.link)
+    (g.L.Link.view c.turn.new.link) c.in-Err.error c.turns.invariant.made c.in-Err.ensures.fails
+
+pub returns-clause-fails : goal.returns-clause-fails
+returns-clause-fails g c =
+    run_fails c.args.scripts.now (take c.turns.turn-index c.args.turns.now) (state_of c.args.self.now) (g.L.Link.view c.args.link.now) (state_of c.turns.self) (g.L.Link.view c.turns.link)
+    (g.L.Link.view c.rounds.new.link) c.rounds.result c.turns.invariant.made c.turns.invariant.link.keeps.counts.quiet c.rounds.ensures.fails

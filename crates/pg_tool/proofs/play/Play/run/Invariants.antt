@@ -1,0 +1,12 @@
+use Rattle.std.proofs.Common.{take}
+use Rattle.pg_wire.specs.LinkCalls.{Continues}
+use Rattle.pg_session.specs.Sessions.{MakesAll}
+use Rattle.pg_tool.specs.Plays.{IsReady, state_of}
+use Rattle.pg_tool.proofs.play.Play.run.Given as goal
+
+abbrev pub invariant-turns : goal.invariant-turns
+invariant-turns g l = record {
+  ready : IsReady l.scripts l.self;
+  made : MakesAll l.scripts (take l.turn-index l.turns) (state_of l.initial.self) (g.L.Link.view l.initial.link) (state_of l.self) (g.L.Link.view l.link);
+  link : Continues (g.L.Link.view l.initial.link) (g.L.Link.view l.link);
+}

@@ -1,0 +1,9 @@
+pub mod Asked
+pub mod Reading
+pub mod Writing
+pub mod Openings
+pub mod Plays
+pub mod Handles
+pub mod RunContract
+pub mod Fails
+pub mod SessionContract

@@ -1,0 +1,76 @@
+-- What stands between two turns of a session, and what its steps do.
+use Rattle.std.specs.Prelude.{◌≡◌, ◌⊎◌, ℕ, ◌^◌, ◌<◌, ◌≤◌, Bool, true, false, List, ◌++◌, ◌+◌, length, map, Option, Some, None, Result}
+use Rattle.std.specs.List.{All}
+use Rattle.pg_errors.specs.declared.error.Error.{Error}
+use Rattle.pg_errors.specs.declared.error.Error.TheVariants as error
+use Rattle.pg_spec.specs.Links.{LinkView}
+use Rattle.pg_connect.specs.Answers.{PollAnswers}
+use Rattle.pg_hub.specs.Fits.{HubBecomes}
+use Rattle.futures.specs.declared.task.Poll.{Poll}
+use Rattle.pg_errors.specs.declared.async_message.AsyncMessage.{AsyncMessage}
+use Rattle.pg_session.specs.Failures.{BreaksOff}
+use Rattle.pg_session.specs.Sessions.{EndsWith, MakesAll, numbers, rounds}
+use Rattle.pg_session.specs.States.{SessionState}
+use Rattle.pg_session.specs.Turns.{HandsOn}
+use Rattle.pg_text.specs.declared.command.Command.{Command}
+use Rattle.pg_tool.specs.declared.play.Play.{Play}
+use Rattle.pg_tool.specs.Handles.{IsLiveHandle, view_of}
+
+-- The session can go on: the link has given no more bytes than it may, unless the connection ended, each
+-- script has its handle, and no handle holds a command that answered.
+pub record IsReady (scripts : List (List Command)) (p : Play) : Type 0 where
+  pub limit : p.streams.max_bytes < 2 ^ 63
+  pub within : p.streams.ended ≡ false → p.streams.given ≤ p.streams.max_bytes
+  pub handles : length p.handles.items ≡ length scripts
+  pub live : All IsLiveHandle p.handles.items
+
+-- an error of a session behind its startup: none that speaks of what was asked for
+abbrev pub IsLater : Error → Type 0
+IsLater (error.Config cause) = ⊥
+IsLater _ = Unit {0}
+
+-- what a session stands for
+abbrev pub state_of : Play → SessionState
+state_of p = record {
+  hub = p.hub;
+  streams = p.streams;
+  handles = map view_of p.handles.items;
+  unanswered = p.unanswered;
+  trace = p.trace.items;
+  asynchronous = p.asynchronous.items;
+}
+
+-- the connection was shut down
+abbrev pub is_over : Option Bool → Bool
+is_over None = true
+is_over (Some moved) = false
+
+-- the connection was polled, and the turn isn't noted yet
+pub record ConnectionPolled (s t : SessionState) (before after : LinkView) (over : Bool) : Type 0 where
+  pub answer : Poll (Option (Result AsyncMessage Error))
+  pub polled : PollAnswers HubBecomes s.hub t.hub s.streams t.streams before after answer
+  pub hands : HandsOn answer s.asynchronous t.asynchronous over
+  pub handles : t.handles ≡ s.handles
+  pub unanswered : t.unanswered ≡ s.unanswered
+  pub trace : t.trace ≡ s.trace
+
+-- a round was made whole, or the connection was shut down in it
+abbrev pub RoundMade : (scripts : List (List Command)) (s : SessionState) (l : LinkView) (t : SessionState) (m : LinkView) → Option Bool → Type 0
+RoundMade scripts s l t m (Some moved) = MakesAll scripts (numbers (length scripts + 1)) s l t m
+RoundMade scripts s l t m None = (last : ℕ) × (last ≤ length scripts) × EndsWith scripts (numbers last) last s l t m
+
+-- some turns of a round were made, and the next one failed, or memory ran out
+abbrev pub RoundFails : List (List Command) → SessionState → (before after : LinkView) → Error → Type 0
+RoundFails scripts s l m e = (e ≡ error.OutOfMemory) ⊎ BreaksOff scripts s l m e
+
+-- whole rounds were made
+pub record RoundsMade (scripts : List (List Command)) (s : SessionState) (l : LinkView) (t : SessionState) (m : LinkView) : Type 0 where
+  pub count : ℕ
+  pub made : MakesAll scripts (rounds (length scripts) count) s l t m
+
+-- whole rounds were made, and a front of one more, in which the connection was shut down
+pub record RoundsEnd (scripts : List (List Command)) (s : SessionState) (l : LinkView) (t : SessionState) (m : LinkView) : Type 0 where
+  pub count : ℕ
+  pub last : ℕ
+  pub within : last ≤ length scripts
+  pub ends : EndsWith scripts (rounds (length scripts) count ++ numbers last) last s l t m

@@ -1,0 +1,180 @@
+-- The contract of the program: what it writes, and its exit status.
+use Rattle.std.specs.Prelude.{◌≡◌, ◌≢◌, ℕ, ◌<◌, ◌≤◌, ◌⊎◌, true, false, List, [], ◌∷◌, ◌++◌, length, Result, Ok, Err, Option, Some, None, IfSome, IfOk, IfErr, codes, decimal}
+use Rattle.std.specs.List.{concat}
+use Rattle.pg_spec.specs.Causes.{Call, IsNotBuilt}
+use Rattle.pg_spec.specs.Faults.{Failure, OutOfMemory, Config, NotBuilt}
+use Rattle.pg_spec.specs.Links.{LinkView, Rose, Grew}
+use Rattle.pg_spec.specs.Report.{Report}
+use Rattle.pg_spec.specs.ReportText.{report_text, error_text}
+use Rattle.pg_spec.specs.SessionText.{SessionText, IsSessionText, IsRefusedAt}
+use Rattle.pg_wire.specs.LinkCalls.{Tells, Continues}
+use Rattle.pg_wire.specs.Streams.{SourceView, SinkView}
+use Rattle.pg_errors.specs.declared.error.Error.{Error}
+use Rattle.pg_errors.specs.Views.{failure_of}
+use Rattle.pg_text.specs.declared.report.Report as told
+use Rattle.pg_text.specs.Views.{report_of}
+use Rattle.pg_tool.specs.SessionContract.{IsCaused, IsEndedWell, IsRun}
+use Rattle.pg_tool.specs.Reading.{longest_text}
+use Rattle.pg_tool.specs.Writing as writing
+
+-- what a session answered
+abbrev pub SessionResult : Type 0
+SessionResult = Result Report Failure
+
+-- the same of what `run_session` answers
+abbrev pub result_of : Result told.Report Error → SessionResult
+result_of (Ok report) = Ok (report_of report)
+result_of (Err error) = Err (failure_of error)
+
+-- one run of the program: its words, and the source and the sink before and after
+pub record Run : Type 0 where
+  pub words : List (List ℕ)
+  pub source_before : SourceView
+  pub source_after : SourceView
+  pub sink_before : SinkView
+  pub sink_after : SinkView
+  pub status : ℕ
+  pub result : Option SessionResult
+
+-- a link in memory, before its first call
+abbrev pub new_link : SessionText → LinkView
+new_link text = record {
+  given = Some [];
+  taken = Some [];
+  plan = Some (record { entries = text.plan; ends = false; is_troubled = false });
+  due = Some [];
+  steady = true;
+  promised = false;
+  faults = 0;
+  quiet = 0;
+  dry = 0;
+  blocked = 0;
+  lulls = 0;
+  ends = 0;
+}
+
+-- the nonce of a text that gives none
+abbrev pub default_nonce : List ℕ
+default_nonce = codes "abcdefghijklmnopqrstuvwx"
+
+-- the call that plays a text over the text's own link, which is then as told
+abbrev pub call_of : SessionText → LinkView → Call
+call_of text after = record {
+  config = text.config;
+  nonce = default_nonce;
+  scripts = text.scripts;
+  turns = text.turns;
+  limit = text.limit;
+  before = new_link text;
+  after = after;
+}
+
+-- the result is that of the text's session over the text's own link, which tells all bytes that crossed
+-- it, gave a front of its plan, and didn't fail
+pub record IsPlayed (text : SessionText) (result : SessionResult) : Type 0 where
+  pub after : LinkView
+  pub given : List ℕ
+  pub taken : List ℕ
+  pub told_given : after.given ≡ Some given
+  pub told_taken : after.taken ≡ Some taken
+  pub tells : Tells after
+  pub link : Continues (new_link text) after
+  pub rest : List ℕ
+  pub front : given ++ rest ≡ concat text.plan
+  pub no_fault : after.faults ≡ 0
+  -- where the session answered Ok, the main theorem
+  pub ended_well : IfOk result (IsEndedWell (call_of text after))
+  pub has_run : IfOk result (IsRun (call_of text after))
+  pub cause : IfErr result (IsCaused (call_of text after))
+  pub refused : IsNotBuilt (call_of text after) → (result ≡ Err (Config NotBuilt)) × (after ≡ new_link text)
+
+-- With the status that is due the text was written whole, with 4 or 5 a front of it; and nothing else was.
+abbrev pub EndsWith : SinkView → SinkView → List ℕ → (due status : ℕ) → Type 0
+EndsWith old new text due status =
+    ((status ≡ due) × Grew old.written new.written text)
+    ⊎ (((status ≡ 4) ⊎ (status ≡ 5)) × writing.WroteFront old new text)
+
+-- how writing a text ended: with 4 in place of the status that is due only where the sink failed
+pub record Written (old new : SinkView) (text : List ℕ) (due status : ℕ) : Type 0 where
+  pub ends : EndsWith old new text due status
+  pub sink_failed : due ≢ 4 → status ≡ 4 → Rose old.faults new.faults
+
+-- want of memory, and nothing was written
+abbrev pub WroteNothing : SinkView → SinkView → ℕ → Type 0
+WroteNothing old new status = (status ≡ 5) × Grew old.written new.written []
+
+-- what is written of a session's result, and the status
+abbrev pub SaysResult : SinkView → SinkView → ℕ → SessionResult → Type 0
+SaysResult old new status (Ok report) = EndsWith old new (report_text report) 0 status
+SaysResult old new status (Err OutOfMemory) = WroteNothing old new status
+SaysResult old new status (Err failure) = EndsWith old new (error_text failure) 1 status
+
+-- a session's result was told
+pub record Answered (old new : SinkView) (status : ℕ) (result : SessionResult) : Type 0 where
+  pub says : SaysResult old new status result
+  pub sink_failed : status ≡ 4 → Rose old.faults new.faults
+
+-- a session was played, and its result told
+pub record PlayedSession (text : SessionText) (old new : SinkView) (status : ℕ) (result : SessionResult) : Type 0 where
+  pub answered : Answered old new status result
+  pub played : IsPlayed text result
+
+-- why a text is refused: its length, or the first line that breaks the rules
+abbrev pub IsRefused : List ℕ → Option ℕ → Type 0
+IsRefused text None = longest_text < length text
+IsRefused text (Some n) = IsRefusedAt text n
+
+-- what is written then
+abbrev pub refusal : Option ℕ → List ℕ
+refusal None = codes "refused length\n"
+refusal (Some n) = codes "refused " ++ decimal n ++ codes "\n"
+
+-- what is written for other words
+abbrev pub usage : List ℕ
+usage = codes "usage: pgplay play | pipe FILE REPORT | threads | gen N SEED\n"
+
+-- which line is refused was written, or memory ran out before
+abbrev pub RefusedLine : SinkView → SinkView → (number status : ℕ) → Type 0
+RefusedLine old new number status = Written old new (refusal (Some number)) 2 status ⊎ WroteNothing old new status
+
+-- the words that play a session text
+abbrev pub play : List (List ℕ)
+play = codes "play" ∷ []
+
+-- what is written where a text was refused, or memory ran out before its session
+abbrev pub NotPlayed : List ℕ → SinkView → SinkView → ℕ → Type 0
+NotPlayed bytes old new status =
+    ((why : Option ℕ) × IsRefused bytes why × Written old new (refusal why) 2 status)
+    ⊎ WroteNothing old new status
+
+-- what a text came to
+abbrev pub PlayedText : List ℕ → SinkView → SinkView → ℕ → Option SessionResult → Type 0
+PlayedText bytes old new status None = NotPlayed bytes old new status
+PlayedText bytes old new status (Some result) =
+    (text : SessionText) × IsSessionText bytes text × PlayedSession text old new status result
+
+-- the text was written whole, and nothing else
+abbrev pub Wrote : Run → List ℕ → Type 0
+Wrote run text = Grew run.sink_before.written run.sink_after.written text
+
+-- the status where the text due was written whole, else 4 or 5, and a front of it was written
+abbrev pub Ends : Run → ℕ → List ℕ → Type 0
+Ends run status text = EndsWith run.sink_before run.sink_after text status run.status
+
+-- what each exit status says
+abbrev pub StatusSays : Run → Option SessionResult → Type 0
+StatusSays run (Some result) = SaysResult run.sink_before run.sink_after run.status result
+-- no session was played: for other words, for a text that is refused, or since the source failed or memory ran out
+StatusSays run None = ((run.words ≢ play) × Ends run 2 usage)
+    ⊎ ((run.words ≡ play) × (why : Option ℕ) × IfSome run.source_before.left (λ text. IsRefused text why) × Ends run 2 (refusal why))
+    ⊎ (((run.status ≡ 3) ⊎ (run.status ≡ 5)) × Wrote run [])
+
+-- what the program promises
+pub record RunContract (run : Run) : Type 0 where
+  pub status : StatusSays run run.result
+  pub source_failed : run.status ≡ 3 → Rose run.source_before.faults run.source_after.faults
+  pub sink_failed : run.status ≡ 4 → Rose run.sink_before.faults run.sink_after.faults
+  -- with `play`, the source's bytes are a session text, and the result is that session's
+  pub session : IfSome run.result (λ result. (run.words ≡ play)
+      × IfSome run.source_before.left (λ bytes. (length bytes ≤ longest_text)
+      × (text : SessionText) × IsSessionText bytes text × IsPlayed text result))

@@ -1,0 +1,201 @@
+//! A handle, which runs the commands of its script one after another.
+
+ghost use Rattle.std.specs.Prelude.{◌≡◌, ◌≢◌, ◌<◌, ◌++◌, ◌∷◌, IfOk, IfErr, OnOk, Err, MatchResult, length, map, None, []};
+ghost use Rattle.std.specs.List.{All};
+ghost use Rattle.pg_client.specs.Queries.{IsLiveQuery, place_of_query};
+ghost use Rattle.pg_session.specs.HandleTurns.{AsksCommand, HandleTurns, kept_answer};
+ghost use Rattle.pg_tool.specs.Handles.{IsIdleHandle, IsLiveHandle, OneTurned, PollEnds, view_of};
+
+use futures::task::Poll;
+use pg_client::SimpleQueryState;
+use pg_desk::{Desk, Stamp};
+use pg_errors::Error;
+use pg_query::{Polled, SimpleMessage};
+use pg_session::Polling;
+use pg_text::{Answer, Command};
+use pg_types::List;
+use std::alloc::Global;
+
+/// A handle: the command that runs, and the answers so far. The next command, or the one that runs, is
+/// that at the place of their number. A running command stands on the heap, so that a handle is small.
+#[derive(Drop)]
+pub(crate) struct Handle {
+    running: Option<Box<SimpleQueryState>>,
+    answers: Vec<Answer>,
+}
+
+impl Handle {
+    pub(crate) fn new(alloc: Global) -> Handle
+        ensures running { result.running ≡ None }
+        ensures answers { result.answers.items ≡ [] }
+    {
+        Handle {
+            running: None,
+            answers: Vec::new(alloc),
+        }
+    }
+
+    /// How many commands were answered, so the place of the next one or of the one that runs. OutOfMemory
+    /// comes above 4,294,967,295, which no script has.
+    pub(crate) fn answered(&self) -> Result<u32, Error>
+        ensures { MatchResult result (λ n. n ≡ length self.now.answers.items) (λ e. e ≡ Error.OutOfMemory) }
+    {
+        match u32::try_from(self.answers.len()) {
+            Ok(answered) => Ok(answered),
+            Err(_) => Err(Error::OutOfMemory),
+        }
+    }
+
+    /// A turn: the next command of the script begins where none runs, and the one that runs is polled
+    /// once. `owner` is the handle's number, and `turn` that of the turns made before.
+    pub(crate) fn turn<D: Desk>(
+        &mut self,
+        alloc: Global,
+        desk: &mut D,
+        script: &[Command],
+        owner: u32,
+        turn: u64,
+    ) -> Result<Polling, Error>
+        requires { IsLiveHandle self.old }
+        ensures live { IsLiveHandle self.new }
+        ensures turns { IfOk result (HandleTurns D.becomes script.now (record { owner = owner; command = length self.old.answers.items; turn = turn })
+            desk.old (view_of self.old) desk.new (view_of self.new)) }
+        ensures error { IfErr result (λ e. e ≡ Error.OutOfMemory) }
+    {
+        let stamp = match self.answered() {
+            Ok(command) => Stamp {
+                owner,
+                command,
+                turn,
+            },
+            Err(error) => return Err(error),
+        };
+        if let Some(state) = self.running.take() {
+            return self.poll(alloc, desk, stamp, state, Polling::Waits);
+        }
+        match script.get(self.answers.len()) {
+            Some(command) => match begin(alloc, command) {
+                Ok(state) => self.poll(alloc, desk, stamp, state, Polling::Began),
+                Err(error) => Err(error),
+            },
+            None => Ok(Polling::Idle),
+        }
+    }
+
+    /// Polls a command once. Where it waits, `waiting` is what the turn did.
+    fn poll<D: Desk>(
+        &mut self,
+        alloc: Global,
+        desk: &mut D,
+        stamp: Stamp,
+        state: Box<SimpleQueryState>,
+        waiting: Polling,
+    ) -> Result<Polling, Error>
+        requires state { IsLiveQuery state.value }
+        requires none { self.old.running ≡ None }
+        ensures live { IsLiveHandle self.new }
+        ensures ends { IfOk result (PollEnds D.becomes stamp desk.old (place_of_query state.value) desk.new self.old.answers.items (view_of self.new) waiting) }
+        ensures error { IfErr result (λ e. e ≡ Error.OutOfMemory) }
+    {
+        let mut state = state;
+        match state.poll(alloc, desk, stamp) {
+            Poll::Pending => {
+                self.running = Some(state);
+                Ok(waiting)
+            }
+            Poll::Ready(answer) => {
+                match self.answer(answer) {
+                    Ok(()) => Ok(Polling::Answered),
+                    Err(error) => Err(error),
+                }
+            }
+        }
+    }
+
+    /// Keeps the answer of the command that ran. Want of memory ends the session.
+    fn answer(&mut self, answer: Result<List<SimpleMessage>, Error>) -> Result<(), Error>
+        ensures running { self.new.running ≡ self.old.running }
+        ensures kept { OnOk result (self.new.answers.items ≡ self.old.answers.items ++ kept_answer answer ∷ []) }
+        ensures memory { OnOk result (answer ≢ Err Error.OutOfMemory) }
+        ensures error { IfErr result (λ e. e ≡ Error.OutOfMemory) }
+    {
+        let answer = match answer {
+            Ok(messages) => Answer::Messages(messages),
+            Err(Error::OutOfMemory) => return Err(Error::OutOfMemory),
+            Err(error) => Answer::Failed(error),
+        };
+        match self.answers.push(answer) {
+            Ok(()) => Ok(()),
+            Err(_) => Err(Error::OutOfMemory),
+        }
+    }
+
+    pub(crate) fn into_answers(self) -> List<Answer>
+        ensures { result ≡ self.answers.items }
+    {
+        let Handle {
+            running: _,
+            answers,
+        } = self;
+        List::new(answers)
+    }
+}
+
+/// Puts a value on the heap.
+fn boxed<T: Drop>(alloc: Global, value: T) -> Result<Box<T>, Error>
+    ensures { MatchResult result (λ boxed. boxed.value ≡ value) (λ e. e ≡ Error.OutOfMemory) }
+{
+    match Box::new(alloc, value) {
+        Ok(boxed) => Ok(boxed),
+        Err(_) => Err(Error::OutOfMemory),
+    }
+}
+
+/// The state of a command.
+fn begin(alloc: Global, command: &Command) -> Result<Box<SimpleQueryState>, Error>
+    ensures live { IfOk result (λ state. IsLiveQuery state.value) }
+    ensures asks { IfOk result (λ state. AsksCommand command.now (place_of_query state.value).dialogue) }
+    ensures error { IfErr result (λ e. e ≡ Error.OutOfMemory) }
+{
+    match command {
+        Command::Simple { text, take } => boxed(
+            alloc,
+            SimpleQueryState::new(alloc, text.as_str(), *take),
+        ),
+    }
+}
+
+/// So many handles, none of which has begun a command.
+pub(crate) fn new_handles(alloc: Global, count: usize) -> Result<Vec<Handle>, Error>
+    ensures { MatchResult result
+        (λ handles. (length handles.items ≡ count) × All IsIdleHandle handles.items)
+        (λ e. e ≡ Error.OutOfMemory) }
+{
+    let mut handles = Vec::new(alloc);
+    'handles: while handles.len() < count {
+        if handles.push(Handle::new(alloc)).is_err() {
+            return Err(Error::OutOfMemory);
+        }
+    }
+    Ok(handles)
+}
+
+/// The turn of the handle at a place, behind so many turns.
+pub(crate) fn turn_at<D: Desk>(
+    handles: &mut [Handle],
+    place: u32,
+    alloc: Global,
+    desk: &mut D,
+    script: &[Command],
+    turn: u64,
+) -> Result<Polling, Error>
+    requires place { place < length handles.old }
+    requires live { All IsLiveHandle handles.old }
+    ensures live { All IsLiveHandle handles.new }
+    ensures count { length handles.new ≡ length handles.old }
+    ensures turns { IfOk result (OneTurned D.becomes script.now (λ old. record { owner = place; command = length old.answers; turn = turn })
+        place desk.old (map view_of handles.old) desk.new (map view_of handles.new)) }
+    ensures error { IfErr result (λ e. e ≡ Error.OutOfMemory) }
+{
+    handles[place as usize].turn(alloc, desk, script, place, turn)
+}

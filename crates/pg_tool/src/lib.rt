@@ -1,0 +1,19 @@
+//! Sessions over a link, and the program around them.
+#![tactic(auto)]
+
+mod asked;
+mod handle;
+mod opening;
+mod play;
+mod program;
+mod reading;
+mod report;
+mod session;
+mod writing;
+
+pub use pg_text::{
+    Answer, Cells, Command, Pair, Report, Scripts, Session, SimpleMessage, TextFault, TurnMark,
+    report_text, session_text,
+};
+pub use program::{Outcome, run};
+pub use session::run_session;

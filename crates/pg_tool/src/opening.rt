@@ -1,0 +1,95 @@
+//! The startup of a session.
+
+ghost use Rattle.std.specs.Prelude.{◌≡◌, ◌^◌, ◌<◌, ◌≤◌, ℕ, List, not, IfOk};
+ghost use Rattle.pg_spec.specs.Links.{LinkView};
+ghost use Rattle.pg_wire.specs.LinkCalls.{SameBytes, Keeps};
+ghost use Rattle.pg_connect.specs.Startups.{Opening};
+ghost use Rattle.pg_connect.specs.StartupPolls.{SameStart};
+ghost use Rattle.pg_tool.specs.Openings.{Steps, GoesOn, WaitEnds, OpenEnds};
+
+use futures::task::Poll;
+use pg_connect::Startup;
+use pg_errors::{Cause, Error};
+use pg_wire::{Link, LinkWait};
+
+/// Polls a startup once. `None`: it is done; else whether anything moved.
+fn poll_once<L: Link>(startup: &mut Startup, link: &mut L) -> Result<Option<bool>, Error>
+    requires limit { startup.old.max_bytes < 2 ^ 63 }
+    requires given { startup.old.given ≤ startup.old.max_bytes }
+    ensures answer { (name nonce : List ℕ) (begin : LinkView) → Opening name nonce begin (L.view link.old) startup.old →
+        Steps name nonce begin (L.view link.new) startup.new result }
+    ensures waits { GoesOn (L.view link.old) (L.view link.new) startup.new result }
+    ensures same { SameStart startup.old startup.new }
+{
+    match startup.poll(link) {
+        Poll::Ready(Ok(())) => Ok(None),
+        Poll::Ready(Err(error)) => Err(error),
+        Poll::Pending => Ok(Some(startup.moved())),
+    }
+}
+
+/// Waits for the link behind turns that moved nothing, in which its count of calls that weren't ready
+/// went from `before` to `after`.
+pub(crate) fn wait_for<L: Link>(link: &mut L, before: u64, after: u64) -> Result<(), Error>
+    ensures end { WaitEnds before after (L.view link.old) (L.view link.new) result }
+    ensures bytes { SameBytes (L.view link.old) (L.view link.new) }
+    ensures keeps { Keeps (L.view link.old) (L.view link.new) }
+{
+    match link.wait() {
+        LinkWait::Ready => Ok(()),
+        LinkWait::Idle => Err(Error::Stalled { before, after }),
+        LinkWait::Failed => Err(Error::Io(Cause::Link)),
+    }
+}
+
+/// Behind a round of turns or a poll: where nothing moved the link is waited for, and where nothing moved
+/// behind a wait either, the session is stalled. The answer says whether the next one comes behind a wait.
+pub(crate) fn pause<L: Link>(
+    link: &mut L,
+    moved: bool,
+    waited: bool,
+    before: u64,
+    after: u64,
+) -> Result<bool, Error>
+    ensures end { WaitEnds before after (L.view link.old) (L.view link.new) result }
+    ensures next { IfOk result (λ next. next ≡ not moved) }
+    ensures bytes { SameBytes (L.view link.old) (L.view link.new) }
+    ensures keeps { Keeps (L.view link.old) (L.view link.new) }
+{
+    if moved {
+        return Ok(false);
+    }
+    if waited {
+        return Err(Error::Stalled { before, after });
+    }
+    match wait_for(link, before, after) {
+        Ok(()) => Ok(true),
+        Err(error) => Err(error),
+    }
+}
+
+/// Polls the startup until it answers. Where a poll moved nothing the link is waited for, and where the
+/// next one moves nothing either, the session is stalled.
+pub(crate) fn open<L: Link>(startup: &mut Startup, link: &mut L) -> Result<(), Error>
+    requires limit { startup.old.max_bytes < 2 ^ 63 }
+    requires given { startup.old.given ≤ startup.old.max_bytes }
+    ensures answer { (name nonce : List ℕ) (begin : LinkView) → Opening name nonce begin (L.view link.old) startup.old →
+        OpenEnds name nonce begin (L.view link.new) startup.new result }
+    ensures same { SameStart startup.old startup.new }
+{
+    let mut waited = false;
+    'polls: for _ in 0..u64::MAX {
+        let before = link.quiet();
+        let moved = match poll_once(startup, link) {
+            Ok(None) => return Ok(()),
+            Ok(Some(moved)) => moved,
+            Err(error) => return Err(error),
+        };
+        let after = link.quiet();
+        match pause(link, moved, waited, before, after) {
+            Ok(next) => waited = next,
+            Err(error) => return Err(error),
+        }
+    }
+    Err(Error::OutOfMemory)
+}

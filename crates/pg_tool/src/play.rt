@@ -1,0 +1,304 @@
+//! A session behind its startup: handles and the connection take turns on one hub.
+
+ghost use Rattle.std.specs.Prelude.{◌≡◌, ◌^◌, ◌<◌, ◌≤◌, ◌++◌, ◌∷◌, [], length, slice_get, Some, false, IfOk, IfErr, OnOk};
+ghost use Rattle.pg_session.specs.Failures.{HasFailed, TurnFails};
+ghost use Rattle.pg_session.specs.Sessions.{IsNewSession, Plays};
+ghost use Rattle.pg_session.specs.States.{commands_in};
+ghost use Rattle.pg_session.specs.Turns.{Closes, ClosesBehind, HandleMade, Makes, left_behind};
+ghost use Rattle.pg_text.specs.Scripts.{AreScripts};
+ghost use Rattle.pg_wire.specs.LinkCalls.{Continues};
+ghost use Rattle.pg_tool.specs.Plays.{ConnectionPolled, IsLater, IsReady, RoundFails, RoundMade, RoundsEnd, is_over, state_of};
+
+use crate::handle::{Handle, new_handles, turn_at};
+use crate::opening::pause;
+use futures::task::Poll;
+use pg_connect::Streams;
+use pg_errors::{AsyncMessage, Error};
+use pg_hub::{Engine, Hub};
+use pg_session::Polling;
+use pg_text::{Command, Scripts, TurnMark};
+use pg_types::List;
+use pg_wire::Link;
+use std::alloc::Global;
+
+/// The session's state between two turns.
+#[derive(Drop)]
+pub(crate) struct Play {
+    pub(crate) hub: Hub,
+    pub(crate) streams: Streams,
+    pub(crate) handles: Vec<Handle>,
+    /// How many commands of all handles aren't answered.
+    pub(crate) unanswered: usize,
+    pub(crate) trace: Vec<TurnMark>,
+    pub(crate) asynchronous: Vec<AsyncMessage>,
+}
+
+impl Play {
+    /// A session before its first turn. Requests are closed at once where there is no command.
+    pub(crate) fn new(alloc: Global, streams: Streams, scripts: &Scripts) -> Result<Play, Error>
+        requires limit { streams.max_bytes < 2 ^ 63 }
+        requires within { streams.given ≤ streams.max_bytes }
+        ensures ready { IfOk result (λ p. IsReady scripts.now p) }
+        ensures fresh { IfOk result (λ p. IsNewSession scripts.now (state_of p)) }
+        ensures streams { IfOk result (λ p. p.streams ≡ streams) }
+        ensures error { IfErr result (λ e. e ≡ Error.OutOfMemory) }
+    {
+        let handles = match new_handles(alloc, scripts.as_slice().len()) {
+            Ok(handles) => handles,
+            Err(error) => return Err(error),
+        };
+        let mut play = Play {
+            hub: Hub::new(alloc, 0, 0),
+            streams,
+            handles,
+            unanswered: count_commands(scripts.as_slice()),
+            trace: Vec::new(alloc),
+            asynchronous: Vec::new(alloc),
+        };
+        match play.close_if_answered() {
+            Ok(()) => Ok(play),
+            Err(error) => Err(error),
+        }
+    }
+
+    /// Where every command is answered, no request will be booked any more.
+    fn close_if_answered(&mut self) -> Result<(), Error>
+        ensures closes { OnOk result (Closes self.old.unanswered self.old.hub self.new.hub) }
+        ensures same { self.new ≡ record self.old { hub = self.new.hub } }
+        ensures error { IfErr result (λ e. e ≡ Error.OutOfMemory) }
+    {
+        if self.unanswered > 0 {
+            return Ok(());
+        }
+        match self.hub.close_requests() {
+            Ok(()) => Ok(()),
+            Err(_) => Err(Error::OutOfMemory),
+        }
+    }
+
+    /// Makes the turns that were given, then whole rounds, until the connection is shut down.
+    pub(crate) fn run<L: Link>(
+        &mut self,
+        alloc: Global,
+        link: &mut L,
+        scripts: &Scripts,
+        turns: &[u32],
+    ) -> Result<(), Error>
+        requires ready { IsReady scripts.now self.old }
+        ensures fails { IfErr result (HasFailed scripts.now (state_of self.old) (L.view link.old) (L.view link.new)) }
+        ensures plays { OnOk result (Plays scripts.now turns.now (state_of self.old) (L.view link.old) (state_of self.new) (L.view link.new)) }
+        ensures link { Continues (L.view link.old) (L.view link.new) }
+        ensures error { IfErr result IsLater }
+    {
+        'turns: for turn in turns {
+            match self.turn(alloc, link, scripts, *turn) {
+                Ok(Some(_)) => {}
+                Ok(None) => return Ok(()),
+                Err(error) => return Err(error),
+            }
+        }
+        self.rounds(alloc, link, scripts)
+    }
+
+    /// Makes whole rounds. Where one moved nothing the link is waited for, and where the next one moves
+    /// nothing either, the session is stalled.
+    fn rounds<L: Link>(
+        &mut self,
+        alloc: Global,
+        link: &mut L,
+        scripts: &Scripts,
+    ) -> Result<(), Error>
+        requires ready { IsReady scripts.now self.old }
+        ensures fails { IfErr result (HasFailed scripts.now (state_of self.old) (L.view link.old) (L.view link.new)) }
+        ensures ends { OnOk result (RoundsEnd scripts.now (state_of self.old) (L.view link.old) (state_of self.new) (L.view link.new)) }
+        ensures link { Continues (L.view link.old) (L.view link.new) }
+        ensures error { IfErr result IsLater }
+    {
+        let mut waited = false;
+        'rounds: for _ in 0..u64::MAX {
+            let before = link.quiet();
+            let moved = match self.round(alloc, link, scripts) {
+                Ok(None) => return Ok(()),
+                Ok(Some(moved)) => moved,
+                Err(error) => return Err(error),
+            };
+            let after = link.quiet();
+            match pause(link, moved, waited, before, after) {
+                Ok(next) => waited = next,
+                Err(error) => return Err(error),
+            }
+        }
+        Err(Error::OutOfMemory)
+    }
+
+    /// Each handle once, in order, and then the connection. `None`: the connection is shut down; else
+    /// whether anything moved.
+    fn round<L: Link>(
+        &mut self,
+        alloc: Global,
+        link: &mut L,
+        scripts: &Scripts,
+    ) -> Result<Option<bool>, Error>
+        requires ready { IsReady scripts.now self.old }
+        ensures ready { IsReady scripts.now self.new }
+        ensures fails { IfErr result (RoundFails scripts.now (state_of self.old) (L.view link.old) (L.view link.new)) }
+        ensures made { IfOk result (RoundMade scripts.now (state_of self.old) (L.view link.old) (state_of self.new) (L.view link.new)) }
+        ensures link { Continues (L.view link.old) (L.view link.new) }
+        ensures error { IfErr result IsLater }
+    {
+        let mut moved = false;
+        let connection = scripts.as_slice().len() as u32;
+        'turns: for turn in 0..connection + 1 {
+            match self.turn(alloc, link, scripts, turn) {
+                Ok(Some(more)) => moved |= more,
+                Ok(None) => return Ok(None),
+                Err(error) => return Err(error),
+            }
+        }
+        Ok(Some(moved))
+    }
+
+    /// One turn: a handle's where the number is below that of the handles, else the connection's.
+    /// `None`: the connection is shut down; else whether anything moved.
+    fn turn<L: Link>(
+        &mut self,
+        alloc: Global,
+        link: &mut L,
+        scripts: &Scripts,
+        turn: u32,
+    ) -> Result<Option<bool>, Error>
+        requires ready { IsReady scripts.now self.old }
+        ensures ready { IsReady scripts.now self.new }
+        ensures fails { IfErr result (TurnFails (state_of self.old) (L.view link.old) (L.view link.new)) }
+        ensures made { IfOk result (λ moved. Makes scripts.now turn (state_of self.old) (state_of self.new) (L.view link.old) (L.view link.new) (is_over moved)) }
+        ensures link { Continues (L.view link.old) (L.view link.new) }
+        ensures error { IfErr result IsLater }
+    {
+        if (turn as usize) < scripts.as_slice().len() {
+            return self.handle_turn(alloc, scripts, turn);
+        }
+        match self.poll_connection(alloc, link) {
+            Ok(moved) => self.mark(turn, moved),
+            Err(error) => Err(error),
+        }
+    }
+
+    /// Notes a turn that was made, and passes on what it moved.
+    fn mark(&mut self, turn: u32, moved: Option<bool>) -> Result<Option<bool>, Error>
+        ensures trace { OnOk result (self.new.trace.items ≡ self.old.trace.items ++ record { turn = turn; delivered = self.old.streams.delivered } ∷ []) }
+        ensures moved { IfOk result (λ passed. passed ≡ moved) }
+        ensures same { self.new ≡ record self.old { trace = self.new.trace } }
+        ensures error { IfErr result (λ e. e ≡ Error.OutOfMemory) }
+    {
+        let mark = TurnMark {
+            turn,
+            delivered: self.streams.delivered,
+        };
+        match self.trace.push(mark) {
+            Ok(()) => Ok(moved),
+            Err(_) => Err(Error::OutOfMemory),
+        }
+    }
+
+    /// How many turns were made, so the place of the next one.
+    fn turns_made(&self) -> u64
+        ensures { result ≡ length self.now.trace.items }
+    {
+        self.trace.len() as u64
+    }
+
+    /// A handle's turn. It moves if a command begins, books, takes, hangs up or answers.
+    fn handle_turn(
+        &mut self,
+        alloc: Global,
+        scripts: &Scripts,
+        turn: u32,
+    ) -> Result<Option<bool>, Error>
+        requires ready { IsReady scripts.now self.old }
+        requires place { turn < length scripts.now }
+        ensures ready { IsReady scripts.now self.new }
+        ensures made { IfOk result (λ moved. (did : Polling) × HandleMade scripts.now turn (state_of self.old) (state_of self.new) did) }
+        ensures goes_on { IfOk result (λ moved. is_over moved ≡ false) }
+        ensures error { IfErr result (λ e. e ≡ Error.OutOfMemory) }
+    {
+        let script = script_at(scripts, turn);
+        let turns = self.turns_made();
+        let _ = self.hub.touched();
+        let polling = match turn_at(&mut self.handles, turn, alloc, &mut self.hub, script, turns) {
+            Ok(polling) => polling,
+            Err(error) => return Err(error),
+        };
+        match self.behind_poll(polling) {
+            Ok(moved) => self.mark(turn, Some(moved)),
+            Err(error) => Err(error),
+        }
+    }
+
+    /// Closes requests behind the last answer, and says whether a handle's turn moved anything.
+    fn behind_poll(&mut self, polling: Polling) -> Result<bool, Error>
+        ensures closes { OnOk result (ClosesBehind polling self.old.unanswered self.old.hub self.new.hub) }
+        ensures unanswered { OnOk result (self.new.unanswered ≡ left_behind polling self.old.unanswered) }
+        ensures same { self.new ≡ record self.old { hub = self.new.hub; unanswered = self.new.unanswered } }
+        ensures error { IfErr result (λ e. e ≡ Error.OutOfMemory) }
+    {
+        match polling {
+            Polling::Idle => Ok(false),
+            Polling::Began => Ok(true),
+            Polling::Waits => Ok(self.hub.touched()),
+            Polling::Answered => {
+                self.unanswered = self.unanswered.saturating_sub(1);
+                match self.close_if_answered() {
+                    Ok(()) => Ok(true),
+                    Err(error) => Err(error),
+                }
+            }
+        }
+    }
+
+    /// Polls the connection once.
+    fn poll_connection<L: Link>(
+        &mut self,
+        alloc: Global,
+        link: &mut L,
+    ) -> Result<Option<bool>, Error>
+        requires limit { self.old.streams.max_bytes < 2 ^ 63 }
+        requires within { self.old.streams.ended ≡ false → self.old.streams.given ≤ self.old.streams.max_bytes }
+        ensures fails { IfErr result (TurnFails (state_of self.old) (L.view link.old) (L.view link.new)) }
+        ensures polled { IfOk result (λ moved. ConnectionPolled (state_of self.old) (state_of self.new) (L.view link.old) (L.view link.new) (is_over moved)) }
+        ensures limit { self.new.streams.max_bytes ≡ self.old.streams.max_bytes }
+        ensures within { self.new.streams.ended ≡ false → self.new.streams.given ≤ self.new.streams.max_bytes }
+        ensures handles { self.new.handles ≡ self.old.handles }
+        ensures link { Continues (L.view link.old) (L.view link.new) }
+        ensures error { IfErr result IsLater }
+    {
+        match self.streams.poll_message(alloc, link, &mut self.hub) {
+            Poll::Pending => Ok(Some(self.streams.moved)),
+            Poll::Ready(None) => Ok(None),
+            Poll::Ready(Some(Err(error))) => Err(error),
+            Poll::Ready(Some(Ok(message))) => match self.asynchronous.push(message) {
+                Ok(()) => Ok(Some(true)),
+                Err(_) => Err(Error::OutOfMemory),
+            },
+        }
+    }
+}
+
+/// The script at a place.
+fn script_at(scripts: &Scripts, place: u32) -> &[Command]
+    requires { place < length scripts.now }
+    ensures { slice_get scripts.now place ≡ Some result.now }
+{
+    scripts.as_slice()[place as usize].as_slice()
+}
+
+/// How many commands the scripts have together.
+fn count_commands(scripts: &[List<Command>]) -> usize
+    requires { AreScripts scripts.now }
+    ensures { result ≡ commands_in scripts.now }
+{
+    let mut commands = 0;
+    'scripts: for script in scripts {
+        commands += script.as_slice().len();
+    }
+    commands
+}

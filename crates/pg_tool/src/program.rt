@@ -1,0 +1,185 @@
+//! The program around a session.
+
+ghost use Rattle.std.specs.Prelude.{◌≡◌, ◌<◌, ◌^◌, ◌↔◌, ℕ, List, None, Err, IfOk, IfSome, IsSome, IsTrue, map, option_map, string_bytes};
+ghost use Rattle.pg_errors.specs.Views.{failure_of};
+ghost use Rattle.pg_text.specs.Sessions.{IsNew, session_of};
+ghost use Rattle.pg_tool.specs.RunContract.{Answered, PlayedSession, PlayedText, RefusedLine, RunContract, Written, play, result_of};
+
+use crate::reading::{ReadFault, read_all};
+use crate::session::run_session;
+use crate::writing::{WriteFault, write_all};
+use pg_errors::Error;
+use pg_text::{Report, Session, TextFault, error_text, report_text, session_text};
+use pg_types::{Blob, OutOfMemory};
+use pg_wire::{Link, Sink, Source};
+use std::alloc::Global;
+
+/// What is written for words that are none of the program's.
+const USAGE: &str = "usage: pgplay play | pipe FILE REPORT | threads | gen N SEED\n";
+
+/// The exit status, and what the session answered where one was played.
+#[derive(Drop)]
+pub struct Outcome {
+    /// 0: the session answered Ok. 1: it answered an error. 2: the words or the text were refused. 3: the
+    /// source failed. 4: the sink failed. 5: want of memory.
+    pub status: u8,
+    pub result: Option<Result<Report, Error>>,
+}
+
+/// Runs the program: its words say what to do, the source has the session text, and the sink gets the
+/// report. With the one word `play` the text is played over its own link, and the link handed in isn't
+/// used.
+pub fn run<S: Source, K: Sink, L: Link>(
+    alloc: Global,
+    words: &[String],
+    source: &mut S,
+    sink: &mut K,
+    link: &mut L,
+) -> Outcome
+    ensures { RunContract (record {
+      words = map string_bytes words.now;
+      source_before = S.state source.old;
+      source_after = S.state source.new;
+      sink_before = K.state sink.old;
+      sink_after = K.state sink.new;
+      status = result.status;
+      result = option_map result_of result.result;
+    }) }
+{
+    let _ = &link;
+    if !is_play(words) {
+        return refuse(sink, USAGE.as_bytes());
+    }
+    match read_all(alloc, source) {
+        Ok(text) => play(alloc, text, sink),
+        Err(ReadFault::TooLong) => refuse(sink, b"refused length\n"),
+        Err(ReadFault::Failed) => without_session(3),
+        Err(ReadFault::OutOfMemory) => without_session(5),
+    }
+}
+
+/// The words are `play` alone.
+fn is_play(words: &[String]) -> bool
+    ensures { IsTrue result ↔ (map string_bytes words.now ≡ play) }
+{
+    match words {
+        [word] => word.as_str() == "play",
+        _ => false,
+    }
+}
+
+/// An end without a session and without a text.
+fn without_session(status: u8) -> Outcome
+    ensures { result ≡ record { status = status; result = None } }
+{
+    Outcome {
+        status,
+        result: None,
+    }
+}
+
+/// Writes why the words or the text are refused.
+fn refuse<K: Sink>(sink: &mut K, text: &[u8]) -> Outcome
+    ensures status { Written (K.state sink.old) (K.state sink.new) text.now 2 result.status }
+    ensures none { result.result ≡ None }
+{
+    without_session(status_of(sink, text, 2))
+}
+
+/// The status where the text due was written whole, else 4 or 5.
+fn status_of<K: Sink>(sink: &mut K, text: &[u8], status: u8) -> u8
+    ensures { Written (K.state sink.old) (K.state sink.new) text.now status result }
+{
+    match write_all(sink, text) {
+        Ok(()) => status,
+        Err(WriteFault::Failed) => 4,
+        Err(WriteFault::OutOfMemory) => 5,
+    }
+}
+
+/// Plays a text.
+fn play<K: Sink>(alloc: Global, text: Vec<u8>, sink: &mut K) -> Outcome
+    ensures { PlayedText text.items (K.state sink.old) (K.state sink.new)
+        result.status (option_map result_of result.result) }
+{
+    match session_text(alloc, text.as_slice()) {
+        Ok(session) => play_session(alloc, session, sink),
+        Err(TextFault::TooLong) => refuse(sink, b"refused length\n"),
+        Err(TextFault::Line(number)) => refuse_line(alloc, number, sink),
+        Err(TextFault::OutOfMemory) => without_session(5),
+    }
+}
+
+/// Writes which line is refused.
+fn refuse_line<K: Sink>(alloc: Global, number: u64, sink: &mut K) -> Outcome
+    ensures status { RefusedLine (K.state sink.old) (K.state sink.new) number result.status }
+    ensures none { result.result ≡ None }
+{
+    match format!(in alloc; "refused {number}\n") {
+        Ok(text) => refuse(sink, text.as_str().as_bytes()),
+        Err(_) => without_session(5),
+    }
+}
+
+/// Plays a session over its own link, and writes what it answered.
+fn play_session<K: Sink>(alloc: Global, session: Session, sink: &mut K) -> Outcome
+    requires limit { session.max_bytes < 2 ^ 63 }
+    requires new { IsNew session }
+    ensures some { IsSome result.result }
+    ensures played { IfSome (option_map result_of result.result)
+        (PlayedSession (session_of session) (K.state sink.old) (K.state sink.new) result.status) }
+{
+    let Session {
+        config,
+        scripts,
+        turns,
+        nonce,
+        max_bytes,
+        mut link,
+    } = session;
+    let result = run_session(
+        alloc,
+        config.as_str(),
+        &scripts,
+        turns.as_slice(),
+        nonce.as_slice(),
+        max_bytes,
+        &mut link,
+    );
+    let status = write_answer(alloc, &result, sink);
+    Outcome {
+        status,
+        result: Some(result),
+    }
+}
+
+/// Writes the report or the error, and gives the status.
+fn write_answer<K: Sink>(alloc: Global, answer: &Result<Report, Error>, sink: &mut K) -> u8
+    ensures { Answered (K.state sink.old) (K.state sink.new) result (result_of answer.now) }
+{
+    match answer {
+        Ok(report) => write_text(sink, report_text(alloc, report), 0),
+        Err(error) => write_failure(alloc, error, sink),
+    }
+}
+
+/// Writes the error, unless it is want of memory, and gives the status.
+fn write_failure<K: Sink>(alloc: Global, error: &Error, sink: &mut K) -> u8
+    ensures { Answered (K.state sink.old) (K.state sink.new) result (Err (failure_of error.now)) }
+{
+    match error {
+        Error::OutOfMemory => 5,
+        _ => write_text(sink, error_text(alloc, error), 1),
+    }
+}
+
+/// Writes a text that could be made, and gives the status.
+fn write_text<K: Sink>(sink: &mut K, text: Result<Blob, OutOfMemory>, status: u8) -> u8
+    ensures { (due : List ℕ) → IfOk text (λ made. made ≡ due)
+        → Written (K.state sink.old) (K.state sink.new) due status result }
+{
+    match text {
+        Ok(text) => status_of(sink, text.as_slice(), status),
+        Err(OutOfMemory) => 5,
+    }
+}

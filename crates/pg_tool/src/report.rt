@@ -1,0 +1,142 @@
+//! The report of a session that ended.
+
+ghost use Rattle.std.specs.Prelude.{◌≡◌, ◌<◌, ◌^◌, ◌++◌, ◌∷◌, [], IfOk, IfErr, MatchResult, OnOk, map, string_bytes};
+ghost use Rattle.std.specs.List.{concat};
+ghost use Rattle.pg_spec.specs.Book.{wire};
+ghost use Rattle.pg_spec.specs.Frames.{terminate_frame};
+ghost use Rattle.pg_text.specs.Views.{booking_of};
+ghost use Rattle.pg_session.specs.Reports.{Reports, pair_view};
+ghost use Rattle.pg_tool.specs.Plays.{state_of};
+
+use crate::handle::Handle;
+use crate::play::Play;
+use pg_connect::Parameters;
+use pg_errors::Error;
+use pg_hub::Booking;
+use pg_text::{Answer, Pair, Report};
+use pg_types::{Blob, List, Text};
+use std::alloc::Global;
+
+impl Play {
+    /// The report, where `opening` is what startup sent.
+    pub(crate) fn into_report(self, alloc: Global, opening: Vec<u8>) -> Result<Report, Error>
+        ensures report { IfOk result (λ report. Reports opening.items (state_of self) report) }
+        ensures counted { self.streams.given < 2 ^ 64 }
+        ensures error { IfErr result (λ e. e ≡ Error.OutOfMemory) }
+    {
+        let Play {
+            hub,
+            streams,
+            handles,
+            unanswered: _,
+            trace,
+            asynchronous,
+        } = self;
+        let book = hub.into_book();
+        let parameters = match parameters_of(alloc, &streams.parameters) {
+            Ok(parameters) => parameters,
+            Err(error) => return Err(error),
+        };
+        let sent = match sent_bytes(opening, book.as_slice()) {
+            Ok(sent) => sent,
+            Err(error) => return Err(error),
+        };
+        match answers_of(alloc, handles) {
+            Ok(answers) => Ok(Report {
+                answers,
+                asynchronous: List::new(asynchronous),
+                parameters,
+                process_id: 0,
+                secret_key: 0,
+                book,
+                trace: List::new(trace),
+                sent,
+            }),
+            Err(error) => Err(error),
+        }
+    }
+}
+
+/// The answers of all handles.
+fn answers_of(alloc: Global, handles: Vec<Handle>) -> Result<List<List<Answer>>, Error>
+    ensures { MatchResult result
+        (λ answers. answers ≡ map (λ handle. handle.answers.items) handles.items)
+        (λ e. e ≡ Error.OutOfMemory) }
+{
+    let mut answers = Vec::new(alloc);
+    'handles: for handle in handles {
+        if answers.push(handle.into_answers()).is_err() {
+            return Err(Error::OutOfMemory);
+        }
+    }
+    Ok(List::new(answers))
+}
+
+/// The server's settings as last reported.
+fn parameters_of(alloc: Global, parameters: &Parameters) -> Result<List<Pair>, Error>
+    ensures { MatchResult result
+        (λ pairs. map pair_view pairs ≡ parameters.now)
+        (λ e. e ≡ Error.OutOfMemory) }
+{
+    let mut pairs = Vec::new(alloc);
+    'settings: for (name, value) in parameters.as_map() {
+        match add_pair(alloc, &mut pairs, name.as_str(), value.as_str()) {
+            Ok(()) => {}
+            Err(error) => return Err(error),
+        }
+    }
+    Ok(List::new(pairs))
+}
+
+/// Adds a setting behind the others.
+fn add_pair(alloc: Global, pairs: &mut Vec<Pair>, name: &str, value: &str) -> Result<(), Error>
+    ensures added { OnOk result (map pair_view pairs.new.items ≡ map pair_view pairs.old.items ++ (name.now, value.now) ∷ []) }
+    ensures error { IfErr result (λ e. e ≡ Error.OutOfMemory) }
+{
+    let Ok(name) = Text::from_str(alloc, name) else {
+        return Err(Error::OutOfMemory);
+    };
+    let Ok(value) = Text::from_str(alloc, value) else {
+        return Err(Error::OutOfMemory);
+    };
+    match pairs.push(Pair { name, value }) {
+        Ok(()) => Ok(()),
+        Err(_) => Err(Error::OutOfMemory),
+    }
+}
+
+/// Terminate (PostgreSQL documentation, "Message Formats").
+const TERMINATE: [u8; 5] = [b'X', 0, 0, 0, 4];
+
+/// What startup sent, the book's bytes in order, and Terminate.
+fn sent_bytes(opening: Vec<u8>, book: &[Booking]) -> Result<Blob, Error>
+    ensures { MatchResult result
+        (λ sent. sent ≡ opening.items ++ wire (map booking_of book.now) ++ terminate_frame)
+        (λ e. e ≡ Error.OutOfMemory) }
+{
+    let mut sent = opening;
+    'requests: for booking in book {
+        match add_parts(&mut sent, booking.parts.as_slice()) {
+            Ok(()) => {}
+            Err(error) => return Err(error),
+        }
+    }
+    match sent.extend_from_slice(&TERMINATE) {
+        Ok(()) => Ok(Blob::new(sent)),
+        Err(_) => Err(Error::OutOfMemory),
+    }
+}
+
+/// Adds the parts of a request, in order.
+fn add_parts(sent: &mut Vec<u8>, parts: &[Blob]) -> Result<(), Error>
+    ensures added { OnOk result (sent.new.items ≡ sent.old.items ++ concat parts.now) }
+    ensures error { IfErr result (λ e. e ≡ Error.OutOfMemory) }
+{
+    'parts: for part in parts {
+        match sent.extend_from_slice(part.as_slice()) {
+            Ok(()) => {}
+            Err(_) => return Err(Error::OutOfMemory),
+        }
+    }
+    Ok(())
+}

@@ -1,0 +1,105 @@
+//! A session: the startup, the turns, and the report.
+
+ghost use Rattle.std.specs.Prelude.{◌≡◌, ◌<◌, ◌^◌, ℕ, List, Err, IfErr, IfOk};
+ghost use Rattle.pg_spec.specs.Causes.{IsNotBuilt, HasCause};
+ghost use Rattle.pg_spec.specs.ConnectionStrings.{Means, only_user};
+ghost use Rattle.pg_spec.specs.Faults as faults;
+ghost use Rattle.pg_errors.specs.Views.{failure_of};
+ghost use Rattle.pg_session.specs.FailureCauses.{IsNotStalled};
+ghost use Rattle.pg_session.specs.Sessions.{HasPlayed};
+ghost use Rattle.pg_wire.specs.LinkCalls.{Continues};
+ghost use Rattle.pg_text.specs.Views.{report_of};
+ghost use Rattle.pg_tool.specs.SessionContract.{IsEndedWell, IsRun};
+ghost use Rattle.pg_tool.specs.Fails.{SessionFails};
+ghost use Rattle.pg_tool.specs.Asked.{call_of, ConfigIsNotBuilt};
+
+use crate::asked::{is_in_form, user_of};
+use crate::opening::open;
+use crate::play::Play;
+use pg_connect::Startup;
+use pg_errors::{Cause, Error};
+use pg_text::{Report, Scripts};
+use pg_wire::Link;
+use std::alloc::Global;
+
+/// Plays the scripts over a link, each on a handle of its own: starts up, makes the turns (below the
+/// number of scripts a handle's, else the connection's), then whole rounds, until the connection is shut
+/// down. `max_bytes` is the most bytes that the link may give.
+///
+/// Config(NotBuilt) comes before any byte exactly where the connection string isn't `user=` and one to 63
+/// lower-case ASCII letters, or the nonce isn't in form; later only where a message of the startup is
+/// neither AuthenticationOk nor ReadyForQuery. LimitReached comes where the link gave more than
+/// `max_bytes` bytes, Stalled where two rounds or polls moved nothing, or the link has nothing to wait for.
+pub fn run_session<L: Link>(
+    alloc: Global,
+    config: &str,
+    scripts: &Scripts,
+    turns: &[u32],
+    nonce: &[u8],
+    max_bytes: u64,
+    link: &mut L,
+) -> Result<Report, Error>
+    requires { max_bytes < 2 ^ 63 }
+    ensures ended_well { IfOk result (λ report. IsEndedWell
+        (call_of config.now nonce.now scripts.now turns.now max_bytes (L.view link.old) (L.view link.new)) (report_of report)) }
+    ensures has_run { IfOk result (λ report. IsRun
+        (call_of config.now nonce.now scripts.now turns.now max_bytes (L.view link.old) (L.view link.new)) (report_of report)) }
+    ensures played { IfOk result (λ report. (user : List ℕ) × Means config.now (only_user user)
+        × HasPlayed user nonce.now scripts.now turns.now (L.view link.old) (L.view link.new) report) }
+    ensures link { Continues (L.view link.old) (L.view link.new) }
+    ensures cause { IfErr result (λ e. IsNotStalled e → HasCause
+        (call_of config.now nonce.now scripts.now turns.now max_bytes (L.view link.old) (L.view link.new)) (failure_of e)) }
+    ensures refused { IsNotBuilt (call_of config.now nonce.now scripts.now turns.now max_bytes (L.view link.old) (L.view link.new)) →
+        (result ≡ Err (Error.Config Cause.NotBuilt)) × (L.view link.new ≡ L.view link.old) }
+    ensures not_built { result ≡ Err (Error.Config Cause.NotBuilt) →
+        HasCause (call_of config.now nonce.now scripts.now turns.now max_bytes (L.view link.old) (L.view link.new))
+        (faults.Config faults.NotBuilt) }
+    ensures config { IfErr result ConfigIsNotBuilt }
+{
+    let Some(user) = user_of(config) else {
+        return Err(Error::Config(Cause::NotBuilt));
+    };
+    if !is_in_form(nonce) {
+        return Err(Error::Config(Cause::NotBuilt));
+    }
+    play_as(alloc, user, scripts, turns, max_bytes, link)
+}
+
+/// The session of this user, whose nonce is in form.
+fn play_as<L: Link>(
+    alloc: Global,
+    user: &str,
+    scripts: &Scripts,
+    turns: &[u32],
+    max_bytes: u64,
+    link: &mut L,
+) -> Result<Report, Error>
+    requires { max_bytes < 2 ^ 63 }
+    ensures fails { (nonce : List ℕ) → IfErr result (SessionFails user.now nonce scripts.now max_bytes (L.view link.old) (L.view link.new)) }
+    ensures played { (nonce : List ℕ) → IfOk result (HasPlayed user.now nonce scripts.now turns.now (L.view link.old) (L.view link.new)) }
+    ensures link { Continues (L.view link.old) (L.view link.new) }
+    ensures not_built { (config nonce : List ℕ) → Means config (only_user user.now) →
+        result ≡ Err (Error.Config Cause.NotBuilt) →
+        HasCause (call_of config nonce scripts.now turns.now max_bytes (L.view link.old) (L.view link.new))
+        (faults.Config faults.NotBuilt) }
+    ensures config { IfErr result ConfigIsNotBuilt }
+{
+    let mut startup = match Startup::new(alloc, user, max_bytes) {
+        Ok(startup) => startup,
+        Err(error) => return Err(error),
+    };
+    match open(&mut startup, link) {
+        Ok(()) => {}
+        Err(error) => return Err(error),
+    }
+    let (opening, streams) = startup.into_streams(alloc);
+    let mut play = match Play::new(alloc, streams, scripts) {
+        Ok(play) => play,
+        Err(error) => return Err(error),
+    };
+    match play.run(alloc, link, scripts, turns) {
+        Ok(()) => {}
+        Err(error) => return Err(error),
+    }
+    play.into_report(alloc, opening)
+}
