@@ -46,6 +46,8 @@ def play(program, size):
         answers = sum(line.startswith(b'answer ') for line in report)
     if status != 0:
         sys.exit('the program ended with %d' % status)
+    if answers != size:
+        sys.exit('%d commands had %d answers' % (size, answers))
     return seconds, used.ru_maxrss / 1024, answers
 
 
