@@ -1,8 +1,9 @@
 use crate::{
     BackendMessage, FrameFault, FrontendMessage, Header, Message, PostgresCodec, StartupParams,
-    WireFault, query, startup_message, terminate,
+    WireFault, copy_data, query, startup_message, terminate,
 };
 use bytes::{Bytes, BytesMut};
+use pg_types::OutOfMemory;
 use std::ops::Range;
 use std::test::Fail;
 
@@ -77,6 +78,24 @@ fn notice_parts_a_reply(rt: HostRuntime) -> Result<(), Fail> {
     Ok(())
 }
 
+/// How many messages a batch holds once it is shared, None where there is no batch.
+fn shared_len(
+    message: Result<Option<BackendMessage>, WireFault>,
+) -> Result<Option<usize>, OutOfMemory> {
+    match message {
+        Ok(Some(BackendMessage::Normal { messages, .. })) => Ok(Some(messages.share()?.len())),
+        _other => Ok(None),
+    }
+}
+
+// The columns and the row stand in front of the notice.
+#[test]
+fn a_batch_is_shared(rt: HostRuntime) -> Result<(), Fail> {
+    let mut buf = BytesMut::copy_from_slice(rt.alloc(), REPLY)?;
+    assert_eq!(rt; shared_len(PostgresCodec::decode(&mut buf))?, Some(2));
+    Ok(())
+}
+
 fn name_len_and_type(message: Result<Option<Message>, WireFault>) -> (usize, u32) {
     match message {
         Ok(Some(Message::RowDescription(body))) => match body.fields().next() {
@@ -145,6 +164,10 @@ fn piece_of_a_copy_is_framed(rt: HostRuntime) -> Result<(), Fail> {
     PostgresCodec::encode(&piece, &mut out)?;
     let sync = FrontendMessage::Raw(Bytes::from_static(b"S\0\0\0\x04"));
     PostgresCodec::encode(&sync, &mut out)?;
-    assert_eq!(rt; out.as_slice(), b"d\0\0\0\x061\nS\0\0\0\x04".as_slice());
+    copy_data(b"2", &mut out)?;
+    assert_eq!(rt;
+        out.as_slice(),
+        b"d\0\0\0\x061\nS\0\0\0\x04d\0\0\0\x052".as_slice()
+    );
     Ok(())
 }
