@@ -1,0 +1,7 @@
+-- Types and values.
+pub mod AnyValues
+pub mod BuiltIns
+pub mod Laws
+pub mod Oids
+pub mod Values
+pub mod formers

@@ -1,14 +1,45 @@
-//! Plain values that contracts compare: texts, bytes and lists, each seen as a list.
+//! Types of the server, the values that stand for them, and plain values that contracts compare: texts, bytes and
+//! lists, each seen as a list.
 #![tactic(auto)]
 
 mod blob;
+mod built_ins;
+mod fault;
+mod format;
+mod from_sql;
+mod held;
+pub mod laws;
 mod list;
 mod memory;
+mod nullable;
+mod numbers_from_sql;
+mod numbers_to_sql;
+mod oid;
+mod params;
+mod pg_type;
 #[cfg(test)]
 mod tests;
 mod text;
+mod texts_from_sql;
+mod texts_to_sql;
+mod to_sql;
+#[cfg(test)]
+mod type_tests;
+mod value;
+mod value_from_sql;
+#[cfg(test)]
+mod value_tests;
+mod value_to_sql;
 
 pub use blob::Blob;
+pub use fault::{RustType, ValueFault, WrongType};
+pub use format::{Format, IsNull};
+pub use from_sql::{FromSql, FromSqlOwned};
 pub use list::List;
 pub use memory::OutOfMemory;
+pub use oid::Oid;
+pub use params::Params;
+pub use pg_type::{Field, Kind, PgType, Type};
 pub use text::Text;
+pub use to_sql::ToSql;
+pub use value::Value;

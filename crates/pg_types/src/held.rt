@@ -1,0 +1,54 @@
+//! A value on the heap.
+
+ghost use Rattle.std.specs.Prelude.{◌≡◌, IfOk};
+
+use crate::OutOfMemory;
+use std::alloc::Global;
+use std::marker::Model;
+
+/// A value on the heap, seen as the value itself, so that a type may hold another.
+#[derive(Debug, Drop)]
+pub(crate) struct Held<T> {
+    inner: Box<T>,
+}
+
+impl<T> Model for Held<T> {
+    ghost Value = { T };
+
+    ghost coded = { T.code };
+
+    ghost view = { λ b. b.inner.value };
+}
+
+impl<T> Held<T> {
+    pub(crate) fn get(&self) -> &T
+        ensures { result.now ≡ self.now }
+    {
+        &self.inner
+    }
+}
+
+impl<T: Drop> Held<T> {
+    pub(crate) fn new(alloc: Global, value: T) -> Result<Held<T>, OutOfMemory>
+        ensures { IfOk result (λ b. b ≡ value) }
+    {
+        match Box::new(alloc, value) {
+            Ok(inner) => Ok(Held { inner }),
+            Err(_) => Err(OutOfMemory),
+        }
+    }
+}
+
+impl<T: PartialEq> PartialEq for Held<T> {
+    ghost eq = { λ a b. T.eq a b };
+
+    ghost laws = { T.laws };
+
+    fn eq(&self, other: &Self) -> bool {
+        *self.get() == *other.get()
+    }
+}
+
+impl<T: Eq> Eq for Held<T> {
+    ghost laws = { T.Eq.laws };
+}
