@@ -40,6 +40,8 @@ pub data Cause : Type 0 where
   NoUser : Cause
   Nonce : Cause
   NoPassword : Cause
+  -- hosts, addresses and ports don't fit together
+  Hosts : Cause
   Scripts : Cause
   -- this version can't do it yet
   NotBuilt : Cause

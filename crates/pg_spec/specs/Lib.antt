@@ -7,6 +7,7 @@ pub mod Faults
 pub mod Messages
 pub mod Bodies
 pub mod Frames
+pub mod ClientFrames
 pub mod Sent
 pub mod Readings
 pub mod SimpleQuery
