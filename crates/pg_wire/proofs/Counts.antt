@@ -1,8 +1,8 @@
 -- How many whole messages stand in front.
-use Rattle.std.proofs.Common.{◌≡◌, ℕ, ◌+◌, ◌-◌, ◌≤◌, List, [], ◌∷◌, length, take, drop, None, refl, sym, ap, subst, ◌∙◌, arith}
+use Rattle.std.proofs.Common.{◌≡◌, ℕ, ◌+◌, ◌-◌, ◌≤◌, List, ◌∷◌, length, take, drop, None, sym, ap, subst, ◌∙◌, arith}
 use Rattle.std.proofs.Math.Seq.{take-length}
 use Rattle.std.proofs.lemmas.List.{length-drop, drop-drop}
-use Rattle.pg_spec.specs.RawMessages.{RawMessage, message_at, messages}
+use Rattle.pg_spec.specs.RawMessages.{message_at, messages}
 use Rattle.pg_wire.specs.Fronts.{IsWhole, message_of_bytes}
 use Rattle.pg_wire.proofs.Cuts.{messages_of_one, messages_of_none}
 

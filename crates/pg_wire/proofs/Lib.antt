@@ -13,3 +13,5 @@ pub mod Items
 pub mod Counts
 pub mod Cells
 pub mod Pairs
+pub mod Cuttings
+pub mod SaslNames

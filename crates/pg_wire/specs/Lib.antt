@@ -17,3 +17,4 @@ pub mod Giving
 pub mod Memory
 pub mod MemoryLinks
 pub mod MemoryStreams
+pub mod Cuttings

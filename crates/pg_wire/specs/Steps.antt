@@ -1,12 +1,14 @@
 -- The readers of bodies, one item at a time (PostgreSQL documentation, "Message Formats" and "Error
 -- and Notice Message Fields").
 use Rattle.std.specs.Prelude.{◌≡◌, ℕ, zero, suc, ◌≤◌, List, [], ◌∷◌, length, drop, slice_range, Option, Some, None, IfSome, option_map, Result, Ok, Err, if◌then◌else◌}
+use Rattle.std.specs.Int.{w32}
 use Rattle.std.specs.declared.ops.Range.{Range}
-use Rattle.std.specs.Str.{bytes_eq}
+use Rattle.std.specs.Str.{bytes_eq, is_utf8}
 use Rattle.pg_spec.specs.Faults as spec
 use Rattle.pg_spec.specs.Faults.{◌>>=◌}
-use Rattle.pg_spec.specs.DbErrors.{ErrorField, error_field_at}
-use Rattle.pg_spec.specs.Bodies.{Field, field_at, cell_at}
+use Rattle.pg_spec.specs.DbErrors.{ErrorField, error_field_at, error_fields}
+use Rattle.pg_spec.specs.Bytes.{number_at}
+use Rattle.pg_spec.specs.Bodies.{Field, or_layout, field_at, cell_at, exactly, name_at, mechanisms_of}
 use Rattle.pg_wire.specs.declared.fault.WireFault.{WireFault}
 use Rattle.pg_wire.specs.Faults.{wire_fault}
 
@@ -83,3 +85,36 @@ abbrev pub CellSteps : CellsLeft → CellsLeft → Result (Option (Option (Range
 CellSteps old new (Ok None) = (cell_step old ≡ Ok None) × (new ≡ old)
 CellSteps old new (Ok (Some range)) = ReadsCell old new range
 CellSteps old new (Err fault) = (cause : spec.WireFault) × (wire_fault fault ≡ Some cause) × (cell_step old ≡ Err cause) × (new ≡ old)
+
+-- the oid of a parameter's type
+abbrev pub oid_at : List ℕ → Result (ℕ × List ℕ) spec.WireFault
+oid_at bytes = or_layout (number_at w32 bytes)
+
+-- the next type of a ParameterDescription
+abbrev pub parameter_step : ItemsLeft → Step ℕ ItemsLeft
+parameter_step left = counted_step oid_at left.count left.bytes
+
+-- the next mechanism of an AuthenticationSASL, or the zero byte that ends them
+abbrev pub mechanism_step : List ℕ → Step (List ℕ) (List ℕ)
+mechanism_step bytes = elim (name_at bytes) [
+  | Some read ↦ if is_utf8 read.0 then Ok (Some read) else Err spec.NotUtf8
+  | None ↦ if bytes_eq bytes (0 ∷ []) then Ok None else Err spec.Layout
+]
+
+-- the items of a body whose first step is this
+abbrev pub items_by_step : {A : Type 0} → (List ℕ → Result (A × List ℕ) spec.WireFault) → Step A ItemsLeft → Result (List A) spec.WireFault
+items_by_step item (Ok (Some read)) = exactly read.1.count item read.1.bytes >>= λ others. Ok (read.0 ∷ others)
+items_by_step item (Ok None) = Ok []
+items_by_step item (Err cause) = Err cause
+
+-- the fields of an error whose first step is this; None where they break their layout
+abbrev pub fields_by_step : Step ErrorField (List ℕ) → Option (List ErrorField)
+fields_by_step (Ok (Some read)) = option_map (λ fields. read.0 ∷ fields) (error_fields read.1)
+fields_by_step (Ok None) = Some []
+fields_by_step (Err cause) = None
+
+-- the mechanisms of a body whose first step is this
+abbrev pub mechanisms_by_step : Step (List ℕ) (List ℕ) → Result (List (List ℕ)) spec.WireFault
+mechanisms_by_step (Ok (Some read)) = mechanisms_of read.1 >>= λ others. Ok (read.0 ∷ others)
+mechanisms_by_step (Ok None) = Ok []
+mechanisms_by_step (Err cause) = Err cause

@@ -171,3 +171,90 @@ fn piece_of_a_copy_is_framed(rt: HostRuntime) -> Result<(), Fail> {
     );
     Ok(())
 }
+
+// The first mechanism, and whether another follows.
+fn first_mechanism(message: Result<Option<Message>, WireFault>) -> Result<usize, WireFault> {
+    match message {
+        Ok(Some(Message::AuthenticationSasl(body))) => match body.mechanisms().next() {
+            Ok(Some(name)) => Ok(name.len()),
+            Ok(None) => Ok(0),
+            Err(fault) => Err(fault),
+        },
+        _other => Err(WireFault::UnknownTag),
+    }
+}
+
+// Two names as a server with channel binding sends them; none; a name that isn't UTF-8; a name that no
+// zero byte ends; and a byte behind the end.
+const MECHANISMS: [(&[u8], Result<usize, WireFault>); 5] = [
+    (
+        b"R\0\0\0\x2a\0\0\0\x0aSCRAM-SHA-256-PLUS\0SCRAM-SHA-256\0\0",
+        Ok(18),
+    ),
+    (b"R\0\0\0\x09\0\0\0\x0a\0", Ok(0)),
+    (b"R\0\0\0\x0b\0\0\0\x0a\xff\0\0", Err(WireFault::NotUtf8)),
+    (b"R\0\0\0\x0a\0\0\0\x0aab", Err(WireFault::Layout)),
+    (b"R\0\0\0\x0a\0\0\0\x0a\0a", Err(WireFault::Layout)),
+];
+
+#[test]
+fn mechanisms_are_read(rt: HostRuntime) {
+    for (bytes, want) in MECHANISMS {
+        let mut buf = Bytes::from_static(bytes);
+        assert_eq!(rt;
+            first_mechanism(Message::parse(&mut buf)),
+            want,
+            "at {bytes:?}"
+        );
+    }
+}
+
+fn first_parameter(message: Result<Option<Message>, WireFault>) -> Result<Option<u32>, WireFault> {
+    match message {
+        Ok(Some(Message::ParameterDescription(body))) => body.parameters().next(),
+        _other => Err(WireFault::UnknownTag),
+    }
+}
+
+// One text parameter; none; a byte too few; and a byte behind none.
+const PARAMETERS: [(&[u8], Result<Option<u32>, WireFault>); 4] = [
+    (b"t\0\0\0\x0a\0\x01\0\0\0\x19", Ok(Some(25))),
+    (b"t\0\0\0\x06\0\0", Ok(None)),
+    (b"t\0\0\0\x09\0\x01\0\0\0", Err(WireFault::Layout)),
+    (b"t\0\0\0\x07\0\0\0", Err(WireFault::Layout)),
+];
+
+#[test]
+fn parameters_are_read(rt: HostRuntime) {
+    for (bytes, want) in PARAMETERS {
+        let mut buf = Bytes::from_static(bytes);
+        assert_eq!(rt;
+            first_parameter(Message::parse(&mut buf)),
+            want,
+            "at {bytes:?}"
+        );
+    }
+}
+
+// What a broken message is refused for: an unknown tag, a row without a count, a parameter report without
+// a value, a notification with a byte behind its payload, and a header that doesn't count itself.
+const BROKEN: [(&[u8], WireFault); 5] = [
+    (b"z\0\0\0\x04", WireFault::UnknownTag),
+    (b"D\0\0\0\x05\0", WireFault::Layout),
+    (b"S\0\0\0\x06a\0", WireFault::Layout),
+    (b"A\0\0\0\x0c\0\0\0\x01a\0\0b", WireFault::Layout),
+    (b"Z\0\0\0\x03", WireFault::BadLength),
+];
+
+#[test]
+fn a_broken_message_is_refused_and_stays(rt: HostRuntime) {
+    for (bytes, want) in BROKEN {
+        let mut buf = Bytes::from_static(bytes);
+        let fault = match Message::parse(&mut buf) {
+            Err(fault) => Some(fault),
+            Ok(_) => None,
+        };
+        assert_eq!(rt; fault, Some(want), "at {bytes:?}");
+        assert_eq!(rt; buf.as_slice(), bytes);
+    }
+}
