@@ -1,0 +1,28 @@
+//! Oids and formats, one behind another.
+
+ghost use Rattle.std.specs.Prelude.{◌≡◌, ◌+◌, ◌*◌, ◌≤◌, ◌++◌, length, flat_map};
+ghost use Rattle.pg_frames.specs.Items.{oid_bytes, format_bytes};
+
+use bytes::BytesMut;
+
+/// Appends the oids, for which there is room.
+pub(crate) fn put_oids(oids: &[u32], out: &mut BytesMut)
+    requires { 4 * length oids.now ≤ out.old.spare }
+    ensures items { out.new.items ≡ out.old.items ++ oid_bytes oids.now }
+    ensures spare { out.new.spare + 4 * length oids.now ≡ out.old.spare }
+{
+    for oid in oids {
+        out.extend_reserved(&oid.to_be_bytes());
+    }
+}
+
+/// Appends the formats, for which there is room.
+pub(crate) fn put_formats(formats: &[i16], out: &mut BytesMut)
+    requires { 2 * length formats.now ≤ out.old.spare }
+    ensures items { out.new.items ≡ out.old.items ++ format_bytes formats.now }
+    ensures spare { out.new.spare + 2 * length formats.now ≡ out.old.spare }
+{
+    for format in formats {
+        out.extend_reserved(&format.to_be_bytes());
+    }
+}
