@@ -101,6 +101,7 @@ cause-there spec.Counter h = refl
 cause-there spec.NoUser h = refl
 cause-there spec.Nonce h = refl
 cause-there spec.NoPassword h = refl
+cause-there spec.Hosts h = refl
 cause-there spec.Scripts h = refl
 cause-there spec.NotBuilt h = refl
 cause-there spec.PreferDirect h = refl

@@ -53,6 +53,7 @@ cause_from spec.Counter = cause.Counter
 cause_from spec.NoUser = cause.NoUser
 cause_from spec.Nonce = cause.Nonce
 cause_from spec.NoPassword = cause.NoPassword
+cause_from spec.Hosts = cause.Hosts
 cause_from spec.Scripts = cause.Scripts
 cause_from spec.NotBuilt = cause.NotBuilt
 cause_from spec.PreferDirect = cause.PreferDirect

@@ -46,6 +46,7 @@ cause_of cause.Counter = spec.Counter
 cause_of cause.NoUser = spec.NoUser
 cause_of cause.Nonce = spec.Nonce
 cause_of cause.NoPassword = spec.NoPassword
+cause_of cause.Hosts = spec.Hosts
 cause_of cause.Scripts = spec.Scripts
 cause_of cause.NotBuilt = spec.NotBuilt
 cause_of cause.PreferDirect = spec.PreferDirect

@@ -38,6 +38,8 @@ pub enum Cause {
     NoUser,
     Nonce,
     NoPassword,
+    /// Hosts, addresses and ports don't fit together.
+    Hosts,
     /// The scripts of a session are out of their rules.
     Scripts,
     /// This version can't do it yet.
