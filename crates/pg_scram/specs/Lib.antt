@@ -1,0 +1,6 @@
+pub mod Faults
+pub mod Challenge
+pub mod Bindings
+pub mod Dialogue
+pub mod Verdict
+pub mod Spelling
