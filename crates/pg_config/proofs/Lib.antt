@@ -1,0 +1,10 @@
+mod AttemptLaws
+mod Cuts
+mod GroupLaws
+mod NumberLaws
+mod Places
+mod ReadAll
+mod Readings
+mod Runs
+mod Trying
+mod Wholes

@@ -1,0 +1,44 @@
+-- What a whole text says is what its form says.
+use Rattle.std.proofs.Common.{◌≡◌, ℕ, List, Option, Some, None, Result, Ok, Err, sym, subst, ap, ◌∙◌}
+use Rattle.std.specs.Str.{chars}
+use Rattle.pg_spec.specs.Faults.{Cause}
+use Rattle.pg_config.specs.declared.config.Config.{Config}
+use Rattle.pg_config.specs.declared.fault.Fault.{Fault}
+use Rattle.pg_config.specs.declared.fault.Fault.TheVariants as fault
+use Rattle.pg_config.specs.ConnectionStrings.{AnswersSaid, ConnectionStringSays, IsAnswered, behind_scheme, error_from}
+use Rattle.pg_config.specs.KeyValue.{KeyValuesSay}
+use Rattle.pg_config.specs.Outcomes.{HasFault, Tells}
+use Rattle.pg_config.specs.Parameters.{Says}
+use Rattle.pg_config.specs.Settings.{defaults}
+use Rattle.pg_config.specs.Urls.{UrlSays, opening, parameter, parameter_at, query}
+
+abbrev after_opening : List ℕ → Result Config Cause → Result Config Cause → Type 0
+after_opening text said opened = elim opened [ Err fault ↦ said ≡ Err fault | Ok s ↦ Says parameter_at parameter (query text) s said ]
+
+-- what stands before the parameters is known
+pub url_rest : (text : List ℕ) (start s : Config) (said : Result Config Cause) → opening text start ≡ Ok s → start ≡ defaults → UrlSays text said → Says parameter_at parameter (query text) s said
+url_rest text start s said opened is h = subst (after_opening text said) (sym (ap (opening text) is) ∙ opened) h
+
+abbrev by_scheme : List ℕ → Result Config Cause → Option (List ℕ) → Type 0
+by_scheme text said scheme = elim scheme [ Some rest ↦ UrlSays rest said | None ↦ KeyValuesSay (chars text) said ]
+
+pub url_text : (text rest : List ℕ) (said : Result Config Cause) → Some rest ≡ behind_scheme text → ConnectionStringSays text said → UrlSays rest said
+url_text text rest said is h = subst (by_scheme text said) (sym is) h
+
+pub key_value_text : (text : List ℕ) (said : Result Config Cause) → None ≡ behind_scheme text → ConnectionStringSays text said → KeyValuesSay (chars text) said
+key_value_text text said is h = subst (by_scheme text said) (sym is) h
+
+-- a fault as an error
+pub told_error : (Said : Result Config Cause → Type 0) (f : Fault) → Tells Said (Err f) → AnswersSaid Said (Err (error_from f))
+told_error Said fault.Syntax h = h
+told_error Said (fault.UnknownOption key) h = h
+told_error Said (fault.InvalidValue key) h = h
+told_error Said fault.NotUtf8 h = h
+told_error Said fault.OutOfMemory h = tt
+
+pub said_error : (said : Result Config Cause) (f : Fault) → HasFault said f → IsAnswered said (Err (error_from f))
+said_error said fault.Syntax h = h
+said_error said (fault.UnknownOption key) h = h
+said_error said (fault.InvalidValue key) h = h
+said_error said fault.NotUtf8 h = h
+said_error said fault.OutOfMemory h = tt

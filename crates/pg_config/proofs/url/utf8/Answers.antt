@@ -1,0 +1,14 @@
+use Rattle.std.proofs.Common.{◌≡◌, Bool, true, false, ℕ, List, refl}
+use Rattle.std.specs.Str.{IsUtf8, is_utf8}
+use Rattle.std.proofs.lemmas.Str.{IsUtf8-from_is_utf8, is_utf8-from_IsUtf8}
+use Rattle.pg_config.proofs.url.utf8.Goals as goal
+
+not_true : (b : Bool) → (b ≡ true → ⊥) → b ≡ false
+not_true true no_way = absurd (no_way refl)
+not_true false no_way = refl
+
+pub returns-in-Ok : goal.returns-in-Ok
+returns-in-Ok c = (c.in-Ok.ensures.cases.0, is_utf8-from_IsUtf8 _ c.in-Ok.ensures.cases.1)
+
+pub returns-in-Err : goal.returns-in-Err
+returns-in-Err c = (refl, not_true (is_utf8 c.args.bytes.now) (λ e. c.in-Err.ensures.cases.0 (IsUtf8-from_is_utf8 c.args.bytes.now e)))

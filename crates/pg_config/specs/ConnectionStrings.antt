@@ -1,0 +1,50 @@
+-- Connection strings, in both forms (PostgreSQL documentation, "Connection Strings").
+use Rattle.std.specs.Prelude.{◌≡◌, ℕ, List, drop, nat_eq, Option, Some, None, Result, Ok, Err, if◌then◌else◌, codes}
+use Rattle.std.specs.List.{starts_with}
+use Rattle.std.specs.Str.{chars}
+use Rattle.pg_spec.specs.Faults as spec
+use Rattle.pg_errors.specs.declared.error.Error.{Error}
+use Rattle.pg_errors.specs.declared.error.Error.TheVariants as error
+use Rattle.pg_errors.specs.declared.cause.Cause.TheVariants as cause
+use Rattle.pg_errors.specs.Views.{cause_of}
+use Rattle.pg_config.specs.declared.config.Config.{Config}
+use Rattle.pg_config.specs.declared.fault.Fault.{Fault}
+use Rattle.pg_config.specs.declared.fault.Fault.TheVariants as fault
+use Rattle.pg_config.specs.KeyValue.{KeyValuesSay}
+use Rattle.pg_config.specs.Urls.{UrlSays}
+
+-- what stands behind the scheme of a URL
+abbrev pub behind_scheme : List ℕ → Option (List ℕ)
+behind_scheme text =
+    if starts_with nat_eq text (codes "postgres://") then Some (drop 11 text)
+    else if starts_with nat_eq text (codes "postgresql://") then Some (drop 13 text)
+    else None
+
+-- the text says these settings, or has this first fault
+abbrev pub ConnectionStringSays : List ℕ → Result Config spec.Cause → Type 0
+ConnectionStringSays text said = elim (behind_scheme text) [
+  | Some rest ↦ UrlSays rest said
+  | None ↦ KeyValuesSay (chars text) said
+]
+
+-- the error of a fault
+abbrev pub error_from : Fault → Error
+error_from fault.Syntax = error.ConfigParse cause.Syntax
+error_from (fault.UnknownOption key) = error.ConfigParse (cause.UnknownOption key)
+error_from (fault.InvalidValue key) = error.ConfigParse (cause.InvalidValue key)
+error_from fault.NotUtf8 = error.ConfigParse cause.NotUtf8
+error_from fault.OutOfMemory = error.OutOfMemory
+
+-- what is answered is said; ConfigParse holds the fault, and want of memory may come at any time
+abbrev pub AnswersSaid : (Result Config spec.Cause → Type 0) → Result Config Error → Type 0
+AnswersSaid Says (Ok config) = Says (Ok config)
+AnswersSaid Says (Err (error.ConfigParse c)) = Says (Err (cause_of c))
+AnswersSaid Says (Err error.OutOfMemory) = Unit {0}
+AnswersSaid Says (Err other) = other ≡ error.OutOfMemory
+
+-- what is said is answered
+abbrev pub IsAnswered : Result Config spec.Cause → Result Config Error → Type 0
+IsAnswered said (Ok config) = said ≡ Ok config
+IsAnswered said (Err (error.ConfigParse c)) = said ≡ Err (cause_of c)
+IsAnswered said (Err error.OutOfMemory) = Unit {0}
+IsAnswered said (Err other) = other ≡ error.OutOfMemory

@@ -1,0 +1,80 @@
+-- The key-value form of connection strings, over characters (PostgreSQL documentation, "Keyword/Value
+-- Connection Strings").
+use Rattle.std.specs.Prelude.{◌==◌, ◌&&◌, ℕ, Bool, true, false, not, List, [], ◌∷◌, ◌++◌, length, drop, Result, if◌then◌else◌}
+use Rattle.std.specs.Char.{encode_utf8, is_whitespace}
+use Rattle.std.specs.Str.{byte, encode_utf8_all}
+use Rattle.pg_spec.specs.Faults.{Cause}
+use Rattle.pg_config.specs.declared.config.Config.{Config}
+use Rattle.pg_config.specs.Numbers.{begins_with}
+use Rattle.pg_config.specs.Options.{applies}
+use Rattle.pg_config.specs.Parameters.{Broken, Done, Front, Parameter, Says}
+use Rattle.pg_config.specs.Settings.{defaults}
+
+-- a character of a key
+abbrev pub is_key_character : ℕ → Bool
+is_key_character c = not (is_whitespace c) && not (c == byte "=")
+
+-- the longest front of such characters, and what stands behind it
+abbrev pub front_while : (ℕ → Bool) → List ℕ → List ℕ
+front_while p [] = []
+front_while p (c ∷ rest) = if p c then c ∷ front_while p rest else []
+
+abbrev pub behind_while : (ℕ → Bool) → List ℕ → List ℕ
+behind_while p [] = []
+behind_while p (c ∷ rest) = if p c then behind_while p rest else c ∷ rest
+
+-- white space, or a key
+abbrev pub is_in_run : (key : Bool) → ℕ → Bool
+is_in_run true c = is_key_character c
+is_in_run false c = is_whitespace c
+
+-- where a value ends: at a quote, or at white space
+abbrev pub ends_value : (quoted : Bool) → ℕ → Bool
+ends_value true c = c == byte "'"
+ends_value false c = is_whitespace c
+
+-- a value's bytes, and what stands behind it, from its end on
+pub record Value : Type 0 where
+  pub bytes : List ℕ
+  pub behind : List ℕ
+
+-- a character in front of a value
+abbrev pub in_value : ℕ → Value → Value
+in_value c value = record { bytes = encode_utf8 c ++ value.bytes; behind = value.behind }
+
+-- a value: a backslash takes the next character as it is, and is dropped where there is none
+abbrev pub value_at : (quoted escaped : Bool) → List ℕ → Value
+value_at quoted escaped [] = record { bytes = []; behind = [] }
+value_at quoted true (c ∷ rest) = in_value c (value_at quoted false rest)
+value_at quoted false (c ∷ rest) =
+    if ends_value quoted c then record { bytes = []; behind = c ∷ rest }
+    else if c == byte "\\" then value_at quoted true rest
+    else in_value c (value_at quoted false rest)
+
+-- the value that stands in front, behind its key
+abbrev pub valued : (key : List ℕ) → List ℕ → Front
+valued key text =
+    if begins_with (byte "'") text then
+    (let value = value_at true false (drop 1 text) in
+    if begins_with (byte "'") value.behind then Parameter key value.bytes (drop 1 value.behind) else Broken)
+    else
+    (let value = value_at false false text in elim value.bytes [ [] ↦ Broken | b ∷ more ↦ Parameter key value.bytes value.behind ])
+
+-- behind a key `=`, white space and a value; no key: the end
+abbrev pub keyed : (key : List ℕ) → List ℕ → Front
+keyed key text =
+    if length key == 0 then Done
+    else if begins_with (byte "=") text then valued (encode_utf8_all key) (behind_while is_whitespace (drop 1 text))
+    else Broken
+
+-- a key, white space, and what goes on so
+abbrev pub key_at : List ℕ → Front
+key_at text = keyed (front_while is_key_character text) (behind_while is_whitespace (behind_while is_key_character text))
+
+-- white space, and what stands behind it
+abbrev pub front_of : List ℕ → Front
+front_of text = key_at (behind_while is_whitespace text)
+
+-- the characters say these settings, or have this first fault
+abbrev pub KeyValuesSay : List ℕ → Result Config Cause → Type 0
+KeyValuesSay text said = Says front_of applies text defaults said
