@@ -4,7 +4,7 @@ use Rattle.std.specs.Prelude.{min, max}
 use Rattle.std.specs.List.{list_any}
 use Rattle.std.proofs.lemmas.List.{append-nil}
 use Rattle.pg_spec.specs.Batches.{is_nothing}
-use Rattle.pg_spec.specs.Links.{LinkView, Grew, Rose}
+use Rattle.pg_spec.specs.Links.{LinkView, Grew}
 use Rattle.pg_spec.specs.Messages.{message_of}
 use Rattle.pg_spec.specs.Parameters.{parameter_reports}
 use Rattle.pg_spec.specs.RawMessages.{RawMessage, messages, bytes_left, sync_of, async_of, is_aside}
@@ -16,17 +16,35 @@ use Rattle.pg_desk.specs.declared.event.Event.{Event}
 use Rattle.pg_connect.specs.declared.streams.Streams.{Streams}
 use Rattle.pg_connect.specs.Kept.{keep, keep_all}
 use Rattle.pg_connect.specs.Passed.{delivered_in, delivered_by, bytes_out_in, bytes_out_by, moves_in}
-use Rattle.pg_connect.specs.Passes.{Passes, waiting, delayed_in, CameOff, IsUnread, goodbye, moves, risen}
-use Rattle.pg_connect.proofs.Joining.{grew_same, goodbye_same, keeps_same}
+use Rattle.pg_connect.specs.Passes.{Passes, Untouched, waiting, delayed_in, CameOff, IsUnread, goodbye, moves, risen}
+use Rattle.pg_connect.proofs.Joining.{grew_same, goodbye_same, keeps_same, untouched_same}
 use Rattle.pg_connect.proofs.Sends.{or_false, or_true}
 use Rattle.pg_connect.proofs.Sorting.{batch_calm, calm_sync, calm_async, calm_reports, Sorted}
 
--- The same, but for what is read: nothing is sent.
+-- Nothing is sent.
+pub record SameSent (s t : Streams) : Type 0 where
+  pub unsent : t.unsent ≡ s.unsent
+  pub closing : t.closing ≡ s.closing
+  pub limit : t.max_bytes ≡ s.max_bytes
+  pub ended : t.ended ≡ s.ended
+
+-- The same, but for what is read: nothing is sent, and the link didn't give its end.
 pub record SameWay (s t : Streams) : Type 0 where
   pub unsent : t.unsent ≡ s.unsent
   pub closing : t.closing ≡ s.closing
   pub limit : t.max_bytes ≡ s.max_bytes
   pub ended : t.ended ≡ s.ended
+  pub at_end : t.at_end ≡ s.at_end
+
+sent_in : (s t : Streams) → SameWay s t → SameSent s t
+sent_in s t way = record { unsent = way.unsent; closing = way.closing; limit = way.limit; ended = way.ended }
+
+no_end : (s t : Streams) → SameWay s t → t.at_end ≡ (s.at_end || false)
+no_end s t way = way.at_end ∙ or_false s.at_end
+
+-- something moved
+stirred : {P : Type 0} (b : Bool) → b ≡ true → b ≡ false → P
+stirred b one other = let no : true ≡ false = sym one ∙ other in cc
 
 -- calls that send nothing
 pub reads : (s t : Streams) (before after : LinkView) (got : List ℕ) (read lost : List RawMessage) (over : Bool) (events : List Event) (handed : List RawMessage) →
@@ -36,10 +54,10 @@ pub reads : (s t : Streams) (before after : LinkView) (got : List ℕ) (read los
     waiting s.held ++ sync_of read ≡ delivered_by events ++ waiting t.held →
     delayed_in s ++ async_of read ≡ handed ++ delayed_in t →
     t.parameters ≡ keep_all s.parameters (parameter_reports read) →
-    SameWay s t → bytes_out_by events ≡ [] → t.given ≡ s.given + length got → t.delivered ≡ risen s.delivered (length (delivered_by events)) →
-    t.moved ≡ (s.moved || (moves got [] handed events || over)) → (over ≡ true → Rose before.ends after.ends) → Keeps before after →
-    Passes s t before after events handed
-reads s t before after got read lost over events handed all_read unread given taken off left delivered out kept same none count counted moved ended link = record {
+    SameSent s t → bytes_out_by events ≡ [] → t.given ≡ s.given + length got → t.delivered ≡ risen s.delivered (length (delivered_by events)) →
+    t.moved ≡ (s.moved || (moves got [] handed events || over)) → t.at_end ≡ (s.at_end || over) → (t.moved ≡ false → Untouched before after) →
+    Keeps before after → Passes s t before after events handed
+reads s t before after got read lost over events handed all_read unread given taken off left delivered out kept same none count counted moved at_end still link = record {
   got = got;
   sent = [];
   read = read;
@@ -63,7 +81,8 @@ reads s t before after got read lost over events handed all_read unread given ta
   limit = same.limit;
   flag = same.ended;
   moved = moved;
-  ended = ended;
+  at_end = at_end;
+  still = still;
   link = link;
 }
 
@@ -84,22 +103,22 @@ not_risen : (a b : ℕ) → b ≡ a → b ≡ risen a 0
 not_risen a b same = omega (arith, same)
 
 -- nothing was read or passed on
-pub reads_nothing : (s t : Streams) (before after : LinkView) → s.unread ≡ None → SameBytes before after → SameRead s t → SameWay s t → t.moved ≡ s.moved →
+pub reads_nothing : (s t : Streams) (before after : LinkView) → s.unread ≡ None → Untouched before after → SameRead s t → SameWay s t → t.moved ≡ s.moved →
     Keeps before after → Passes s t before after [] []
-reads_nothing s t before after read bytes same way moved link =
-    reads s t before after [] [] [] false [] [] read (unread_none t.unread same.unread) (grew_same before.given after.given bytes.given) bytes.taken
+reads_nothing s t before after read still same way moved link =
+    reads s t before after [] [] [] false [] [] read (unread_none t.unread same.unread) (grew_same before.given after.given still.bytes.given) still.bytes.taken
     (ap messages (append-nil s.buffer.items ∙ sym same.buffer)) (ap bytes_left (append-nil s.buffer.items ∙ sym same.buffer))
     (append-nil (waiting s.held) ∙ sym same.held) (append-nil (delayed_in s) ∙ sym same.delayed) same.parameters
-    way refl (omega (arith, same.given)) (not_risen s.delivered t.delivered same.delivered) (moved ∙ or_false s.moved) (λ is. absurd cc) link
+    (sent_in s t way) refl (omega (arith, same.given)) (not_risen s.delivered t.delivered same.delivered) (moved ∙ or_false s.moved) (no_end s t way) (λ none. still) link
 
 -- the link gave its end
-pub reads_end : (s t : Streams) (before after : LinkView) → s.unread ≡ None → SameBytes before after → SameRead s t → SameWay s t → t.moved ≡ true →
-    Rose before.ends after.ends → Keeps before after → Passes s t before after [] []
-reads_end s t before after read bytes same way moved rose link =
+pub reads_end : (s t : Streams) (before after : LinkView) → s.unread ≡ None → SameBytes before after → SameRead s t → SameSent s t → t.moved ≡ true →
+    t.at_end ≡ true → Keeps before after → Passes s t before after [] []
+reads_end s t before after read bytes same way moved at_end link =
     reads s t before after [] [] [] true [] [] read (unread_none t.unread same.unread) (grew_same before.given after.given bytes.given) bytes.taken
     (ap messages (append-nil s.buffer.items ∙ sym same.buffer)) (ap bytes_left (append-nil s.buffer.items ∙ sym same.buffer))
     (append-nil (waiting s.held) ∙ sym same.held) (append-nil (delayed_in s) ∙ sym same.delayed) same.parameters
-    way refl (omega (arith, same.given)) (not_risen s.delivered t.delivered same.delivered) (moved ∙ or_true s.moved) (λ is. rose) link
+    way refl (omega (arith, same.given)) (not_risen s.delivered t.delivered same.delivered) (moved ∙ or_true s.moved) (at_end ∙ or_true s.at_end) (λ none. stirred t.moved moved none) link
 
 -- a batch came off, and is held
 pub reads_batch : (s t : Streams) (l : LinkView) (batch : List RawMessage) (complete : Bool) → s.unread ≡ None → t.unread ≡ None →
@@ -112,7 +131,7 @@ reads_batch s t l batch complete read unread cut none held delayed parameters gi
     (ap (λ x. x ++ sync_of batch) none ∙ calm_sync batch calm ∙ sym held)
     (ap (λ x. delayed_in s ++ x) (calm_async batch calm) ∙ append-nil (delayed_in s) ∙ sym delayed)
     (parameters ∙ ap (keep_all s.parameters) (sym (calm_reports batch calm)))
-    way refl (omega (arith, given)) (not_risen s.delivered t.delivered delivered) (moved ∙ or_false s.moved) (λ is. absurd cc) (keeps_same l)
+    (sent_in s t way) refl (omega (arith, given)) (not_risen s.delivered t.delivered delivered) (moved ∙ or_false s.moved) (no_end s t way) (λ none. untouched_same l) (keeps_same l)
 
 -- a message aside came off, and is kept or handed out
 pub reads_aside : (s t : Streams) (l : LinkView) (raw : RawMessage) (async : List RawMessage) (reports : List (List ℕ × List ℕ)) → s.unread ≡ None → t.unread ≡ None →
@@ -125,7 +144,7 @@ reads_aside s t l raw async reports read unread cuts sorted held none delayed pa
     (ap (λ x. waiting s.held ++ x) sorted.sync ∙ append-nil (waiting s.held) ∙ sym held)
     (ap (λ x. x ++ async_of (raw ∷ [])) none ∙ sorted.async_is ∙ sym (append-nil async) ∙ ap (λ x. async ++ x) (sym (delayed ∙ none)))
     (parameters ∙ ap (keep_all s.parameters) (sym sorted.reports_are))
-    way refl (omega (arith, given)) (not_risen s.delivered t.delivered delivered) (moved ∙ ap (λ x. s.moved || x) (or_false (not (is_nothing async)) ∙ or_false (not (is_nothing async) || false))) (λ is. absurd cc) (keeps_same l)
+    (sent_in s t way) refl (omega (arith, given)) (not_risen s.delivered t.delivered delivered) (moved ∙ ap (λ x. s.moved || x) (or_false (not (is_nothing async)) ∙ or_false (not (is_nothing async) || false))) (no_end s t way) (λ none. untouched_same l) (keeps_same l)
 
 -- a message aside came off, and can't be read
 pub reads_lost : (s t : Streams) (l : LinkView) (raw : RawMessage) (message : Message) → s.unread ≡ None → t.unread ≡ Some message →
@@ -138,7 +157,7 @@ reads_lost s t l raw message read unread cuts aside means held delayed parameter
     (grew_same l.given l.given refl) refl
     (ap messages (append-nil s.buffer.items) ∙ cuts.messages) (ap bytes_left (append-nil s.buffer.items) ∙ cuts.left)
     (append-nil (waiting s.held) ∙ sym held) (append-nil (delayed_in s) ∙ sym delayed) parameters
-    way refl (omega (arith, given)) (not_risen s.delivered t.delivered delivered) (moved ∙ or_false s.moved) (λ is. absurd cc) (keeps_same l)
+    (sent_in s t way) refl (omega (arith, given)) (not_risen s.delivered t.delivered delivered) (moved ∙ or_false s.moved) (no_end s t way) (λ none. untouched_same l) (keeps_same l)
 
 -- the hub answered to the batch that is held
 pub delivers : (s t : Streams) (l : LinkView) (e : Event) → s.unread ≡ None → t.unread ≡ None → waiting s.held ≡ delivered_in e ++ waiting t.held → bytes_out_in e ≡ [] →
@@ -148,9 +167,9 @@ delivers s t l e read unread held none buffer delayed parameters given delivered
     reads s t l l [] [] [] false (e ∷ []) [] read (unread_none t.unread unread) (grew_same l.given l.given refl) refl
     (ap messages (append-nil s.buffer.items ∙ sym buffer)) (ap bytes_left (append-nil s.buffer.items ∙ sym buffer))
     (append-nil (waiting s.held) ∙ held ∙ ap (λ x. x ++ waiting t.held) (sym (append-nil (delivered_in e))))
-    (append-nil (delayed_in s) ∙ sym delayed) parameters way (ap (λ x. x ++ []) none) (omega (arith, given))
+    (append-nil (delayed_in s) ∙ sym delayed) parameters (sent_in s t way) (ap (λ x. x ++ []) none) (omega (arith, given))
     (delivered ∙ ap (λ x. risen s.delivered (length x)) (sym (append-nil (delivered_in e))))
-    (moved ∙ ap (λ x. s.moved || x) (or_false (moves_in e) ∙ or_false (moves_in e || false))) (λ is. absurd cc) (keeps_same l)
+    (moved ∙ ap (λ x. s.moved || x) (or_false (moves_in e) ∙ or_false (moves_in e || false))) (no_end s t way) (λ none. untouched_same l) (keeps_same l)
 
 -- the link gave a piece
 pub reads_piece : (s t : Streams) (before after : LinkView) (piece : List ℕ) → s.unread ≡ None → t.unread ≡ None → Grew before.given after.given piece → after.taken ≡ before.taken →
@@ -158,8 +177,8 @@ pub reads_piece : (s t : Streams) (before after : LinkView) (piece : List ℕ) �
     t.given ≡ s.given + length piece → t.delivered ≡ s.delivered → SameWay s t → is_nothing piece ≡ false → t.moved ≡ true → Keeps before after → Passes s t before after [] []
 reads_piece s t before after piece read unread given taken buffer held delayed parameters count delivered way some moved link =
     reads s t before after piece [] [] false [] [] read (unread_none t.unread unread) given taken (ap messages (sym buffer)) (ap bytes_left (sym buffer))
-    (append-nil (waiting s.held) ∙ sym held) (append-nil (delayed_in s) ∙ sym delayed) parameters way refl count (not_risen s.delivered t.delivered delivered)
-    (moved ∙ or_true s.moved ∙ ap (λ x. s.moved || (((not x || false) || (false || false)) || false)) (sym some)) (λ is. absurd cc) link
+    (append-nil (waiting s.held) ∙ sym held) (append-nil (delayed_in s) ∙ sym delayed) parameters (sent_in s t way) refl count (not_risen s.delivered t.delivered delivered)
+    (moved ∙ or_true s.moved ∙ ap (λ x. s.moved || (((not x || false) || (false || false)) || false)) (sym some)) (no_end s t way) (λ none. stirred t.moved moved none) link
 
 -- a notice that was delayed is handed out
 pub reads_delayed : (s t : Streams) (l : LinkView) (raw : RawMessage) → s.unread ≡ None → t.unread ≡ None → t.buffer.items ≡ s.buffer.items → waiting t.held ≡ waiting s.held →
@@ -168,5 +187,5 @@ pub reads_delayed : (s t : Streams) (l : LinkView) (raw : RawMessage) → s.unre
 reads_delayed s t l raw read unread buffer held delayed parameters given delivered way moved =
     reads s t l l [] [] [] false [] (raw ∷ []) read (unread_none t.unread unread) (grew_same l.given l.given refl) refl
     (ap messages (append-nil s.buffer.items ∙ sym buffer)) (ap bytes_left (append-nil s.buffer.items ∙ sym buffer))
-    (append-nil (waiting s.held) ∙ sym held) (append-nil (delayed_in s) ∙ delayed) parameters way refl (omega (arith, given)) (not_risen s.delivered t.delivered delivered)
-    (moved ∙ or_true s.moved) (λ is. absurd cc) (keeps_same l)
+    (append-nil (waiting s.held) ∙ sym held) (append-nil (delayed_in s) ∙ delayed) parameters (sent_in s t way) refl (omega (arith, given)) (not_risen s.delivered t.delivered delivered)
+    (moved ∙ or_true s.moved) (no_end s t way) (λ none. untouched_same l) (keeps_same l)

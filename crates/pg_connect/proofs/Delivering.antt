@@ -24,7 +24,7 @@ delivered_taken s held t l batch complete n read was none count is =
     subst (λ (x : Streams). Passes s x l l (Deliver batch complete answer.Taken ∷ []) []) (sym is)
     (delivers s (record s { held = held; delivered = risen s.delivered n; moved = true }) l (Deliver batch complete answer.Taken) read read
     (was ∙ sym (append-nil batch) ∙ ap (λ x. batch ++ waiting x) (sym none)) refl refl refl refl refl (ap (risen s.delivered) count)
-    (record { unsent = refl; closing = refl; limit = refl; ended = refl }) (or_true s.moved))
+    (record { unsent = refl; closing = refl; limit = refl; ended = refl; at_end = refl }) (or_true s.moved))
 
 -- the batch came back, and is held again
 pub delivered_back : (s : Streams) (held : Option Held) (t : Streams) (l : LinkView) (e : Event) (back : List RawMessage) → s.unread ≡ None →
@@ -34,7 +34,7 @@ delivered_back s held t l e back read none no_part still was holds is =
     subst (λ (x : Streams). Passes s x l l (e ∷ []) []) (sym is)
     (delivers s (record s { held = t.held }) l e read read (was ∙ sym holds ∙ ap (λ x. x ++ waiting t.held) (sym none)) no_part refl refl refl refl
     (same_count s.delivered (length (delivered_in e)) (ap length none))
-    (record { unsent = refl; closing = refl; limit = refl; ended = refl }) (or_false s.moved ∙ ap (λ x. s.moved || x) (sym still)))
+    (record { unsent = refl; closing = refl; limit = refl; ended = refl; at_end = refl }) (or_false s.moved ∙ ap (λ x. s.moved || x) (sym still)))
   where
     same_count : (a n : ℕ) → n ≡ 0 → a ≡ risen a n
     same_count a n none = omega (arith, none)

@@ -26,7 +26,7 @@ use Rattle.pg_connect.specs.declared.streams.Streams.{Streams}
 use Rattle.pg_connect.specs.Faults.{of_desk}
 use Rattle.pg_connect.specs.Kept.{keep, keep_all}
 use Rattle.pg_connect.specs.Passed.{AllEngineCalls, delivered_in, delivered_by, bytes_out_in, bytes_out_by, moves_in}
-use Rattle.pg_connect.specs.Passes.{Passes, Goes, waiting, delayed_in, IsUnread, goodbye, moves, risen}
+use Rattle.pg_connect.specs.Passes.{Passes, Goes, Untouched, waiting, delayed_in, IsUnread, goodbye, moves, risen}
 use Rattle.pg_connect.specs.Ends.{WasBlocked, last_is, is_closed_out, OfferEnds, PartsEnds}
 
 -- ---- lists
@@ -66,6 +66,19 @@ keeps_then a b c k m = record {
   plan = m.plan ∙ k.plan;
   steady = λ x. m.steady (k.steady x);
 }
+
+pub untouched_same : (l : LinkView) → Untouched l l
+untouched_same l = record { bytes = record { given = refl; taken = refl; due = refl }; promised = refl }
+
+pub untouched_then : (a b c : LinkView) → Untouched a b → Untouched b c → Untouched a c
+untouched_then a b c h k = record {
+  bytes = record { given = k.bytes.given ∙ h.bytes.given; taken = k.bytes.taken ∙ h.bytes.taken; due = k.bytes.due ∙ h.bytes.due };
+  promised = k.promised ∙ h.promised;
+}
+
+-- a link that was promised still is
+pub promised_still : (a b : LinkView) → Untouched a b → IsTrue a.promised → IsTrue b.promised
+promised_still a b h is = h.promised ∙ is
 
 pub grew_none : (o : Option (List ℕ)) → Grew o o []
 grew_none None = refl
@@ -180,9 +193,14 @@ moved_then : (a b c m o n p q : Bool) → b ≡ (a || (m || o)) → c ≡ (b || 
 moved_then a b c m o n p q first then both =
     then ∙ ap (λ (x : Bool). x || (n || p)) first ∙ or_moved a m o n p ∙ ap (λ (x : Bool). a || (x || (o || p))) (sym both)
 
-ended_then : (o p : Bool) (a b c : ℕ) → a ≤ b → b ≤ c → (o ≡ true → Rose a b) → (p ≡ true → Rose b c) → (o || p) ≡ true → Rose a c
-ended_then true p a b c up more first then is = rose_before a b c (first refl) more
-ended_then false p a b c up more first then is = rose_later a b c up (then is)
+ended_then : (a b c o p : Bool) → b ≡ (a || o) → c ≡ (b || p) → c ≡ (a || (o || p))
+ended_then true b c o p first then = then ∙ ap (λ (x : Bool). x || p) first
+ended_then false b c o p first then = then ∙ ap (λ (x : Bool). x || p) first
+
+-- what had moved before a call has moved behind it
+pub unmoved_before : (a b m : Bool) → b ≡ (a || m) → b ≡ false → a ≡ false
+unmoved_before true b m is none = let no : true ≡ false = sym is ∙ none in cc
+unmoved_before false b m is none = refl
 
 pub risen_then : (a b c x y z : ℕ) → b ≡ risen a x → c ≡ risen b y → z ≡ x + y → c ≡ risen a z
 risen_then a b c x y z first then both = omega arith
@@ -224,7 +242,8 @@ passes-joined a b c l m n es fs hs js p q = record {
   flag = q.flag ∙ p.flag;
   moved = moved_then a.moved b.moved c.moved (moves p.got p.sent hs es) p.over (moves q.got q.sent js fs) q.over _ p.moved q.moved
       (moves-append p.got q.got p.sent q.sent hs js es fs);
-  ended = ended_then p.over q.over l.ends m.ends n.ends p.link.counts.ends q.link.counts.ends p.ended q.ended;
+  at_end = ended_then a.at_end b.at_end c.at_end p.over q.over p.at_end q.at_end;
+  still = λ none. untouched_then l m n (p.still (unmoved_before b.moved c.moved _ q.moved none)) (q.still none);
   link = keeps_then l m n p.link q.link;
 }
 
@@ -264,11 +283,12 @@ last_of p [] e = refl
 last_of p (x ∷ []) e = refl
 last_of p (x ∷ y ∷ es) e = last_of p (y ∷ es) e
 
-pub blocked_later : (a b c : LinkView) → Keeps a b → WasBlocked b c → WasBlocked a c
-blocked_later a b c keeps was = record {
+pub blocked_later : (moved : Bool) (a b c : LinkView) → Keeps a b → (moved ≡ false → Untouched a b) → WasBlocked moved b c → WasBlocked moved a c
+blocked_later moved a b c keeps still was = record {
   rose = rose_later a.blocked b.blocked c.blocked keeps.counts.blocked was.rose;
   quiet = rose_later a.quiet b.quiet c.quiet keeps.counts.quiet was.quiet;
   not_steady = λ steady. was.not_steady (keeps.steady steady);
+  lulls = λ none promised. rose_later a.lulls b.lulls c.lulls keeps.counts.lulls (was.lulls none (promised_still a b (still none) promised));
 }
 
 pub parts_refused : (s : Streams) (a b c : LinkView) (e : ConnectionFault) (events : List Event) → Keeps a b → OfferEnds s b c (Err e) → PartsEnds s a c (Err e) events

@@ -19,3 +19,5 @@ pub mod Delivering
 pub mod Rounds
 pub mod Turned
 pub mod Standing
+pub mod Within
+pub mod Calm

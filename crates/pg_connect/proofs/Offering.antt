@@ -1,25 +1,28 @@
 -- The startup frame, taken piece by piece.
-use Rattle.std.proofs.Common.{◌≡◌, ℕ, ◌≤◌, Bool, true, List, [], ◌∷◌, ◌++◌, take, drop, length, ◌⊎◌, inl, inr, append_assoc, take-append-drop, refl, sym, ◌∙◌, ap, subst}
+use Rattle.std.proofs.Common.{◌≡◌, ℕ, ◌≤◌, Bool, true, List, [], ◌∷◌, ◌++◌, take, drop, length, ◌⊎◌, inl, inr, arith, length-append, length-drop, append_assoc, take-append-drop, refl, sym, ◌∙◌, ap, subst}
 use Rattle.pg_spec.specs.Links.{LinkView, Grew}
-use Rattle.pg_wire.specs.LinkCalls.{Keeps, SameBytes, Takes}
+use Rattle.pg_wire.specs.LinkCalls.{Keeps, Takes}
+use Rattle.pg_connect.specs.Passes.{Untouched}
 use Rattle.pg_connect.specs.declared.startup.Startup.{Startup}
 use Rattle.pg_connect.specs.StartupPolls.{Sends}
-use Rattle.pg_connect.proofs.Joining.{keeps_same, keeps_then, grew_same, grew_then}
+use Rattle.pg_connect.proofs.Joining.{keeps_same, keeps_then, grew_same, grew_then, untouched_same, untouched_then}
 
 -- a call of the link that took nothing
-pub sends-none : (s : Startup) (a b : LinkView) → SameBytes a b → Keeps a b → Sends s s a b
-sends-none s a b bytes keeps = record {
+pub sends-none : (s : Startup) (a b : LinkView) → Untouched a b → Keeps a b → Sends s s a b
+sends-none s a b same keeps = record {
   sent = [];
-  taken = grew_same a.taken b.taken bytes.taken;
-  given = bytes.given;
+  taken = grew_same a.taken b.taken same.bytes.taken;
+  given = same.bytes.given;
   out = refl;
   same = refl;
   link = keeps;
   flushes = λ h. inl h;
+  still = λ none. (none, same);
+  stirs = λ moved. inl moved;
 }
 
 pub sends-nothing : (s : Startup) (a : LinkView) → Sends s s a a
-sends-nothing s a = sends-none s a a (record { given = refl; taken = refl; due = refl }) (keeps_same a)
+sends-nothing s a = sends-none s a a (untouched_same a) (keeps_same a)
 
 -- one call that took a piece
 pub sends-piece : (s : Startup) (a b : LinkView) (n : ℕ) → Takes a b s.unsent n → Keeps a b → Sends s (record s { unsent = drop n s.unsent; moved = true }) a b
@@ -31,6 +34,8 @@ sends-piece s a b n takes keeps = record {
   same = refl;
   link = keeps;
   flushes = λ h. inl h;
+  still = λ none. absurd cc;
+  stirs = λ moved. inr (omega (arith, takes.some, takes.fits, length-drop n s.unsent));
 }
 
 by_flag : (s t u : Startup) → u.flushed ≡ true → (u.flushed ≡ true → (t.flushed ≡ true) ⊎ (u.unsent ≡ [])) → (t.flushed ≡ true → (s.flushed ≡ true) ⊎ (t.unsent ≡ [])) →
@@ -44,6 +49,9 @@ rest-none : (xs ys : List ℕ) → xs ++ ys ≡ [] → ys ≡ []
 rest-none [] ys e = e
 rest-none (x ∷ xs) ys e = absurd cc
 
+shorter : (sent old new : List ℕ) → old ≡ sent ++ new → length new ≤ length old
+shorter sent old new is = let e = ap (λ (l : List ℕ). length l) is in omega (arith, e, length-append sent new)
+
 -- two calls, one after the other
 pub sends-then : (s t u : Startup) (a b c : LinkView) → Sends s t a b → Sends t u b c → Sends s u a c
 sends-then s t u a b c first then = record {
@@ -54,4 +62,15 @@ sends-then s t u a b c first then = record {
   same = then.same ∙ ap (λ (x : Startup). record x { unsent = u.unsent; flushed = u.flushed; moved = u.moved }) first.same;
   link = keeps_then a b c first.link then.link;
   flushes = λ h. by_flag s t u h then.flushes first.flushes (λ empty. rest-none then.sent u.unsent (sym then.out ∙ empty));
+  still = λ none.
+      let later = then.still none in
+      let before = first.still later.0 in
+      (before.0, untouched_then a b c before.1 later.1);
+  stirs = λ moved. elim (then.stirs moved) [
+    | inl mid ↦ elim (first.stirs mid) [
+      | inl old ↦ inl old
+      | inr less ↦ inr (omega (arith, less, shorter then.sent t.unsent u.unsent then.out))
+    ]
+    | inr less ↦ inr (omega (arith, less, shorter first.sent s.unsent t.unsent first.out))
+  ];
 }

@@ -1,8 +1,7 @@
 -- Where a startup stands behind each step of a poll.
-use Rattle.std.proofs.Common.{◌≡◌, ◌≢◌, ℕ, ◌+◌, ◌<◌, ◌≤◌, Bool, true, false, List, [], ◌∷◌, ◌++◌, length, Option, Some, None, Result, Ok, Err, append-nil, append_assoc, length-append, arith, refl, sym, ◌∙◌, ap, subst}
-use Rattle.pg_spec.specs.Links.{LinkView, Grew, Rose}
+use Rattle.std.proofs.Common.{◌≡◌, ◌≢◌, ℕ, ◌+◌, ◌<◌, ◌≤◌, false, List, [], ◌∷◌, ◌++◌, length, Ok, Err, append-nil, append_assoc, length-append, arith, sym, ◌∙◌, ap, subst}
+use Rattle.pg_spec.specs.Links.{LinkView, Grew}
 use Rattle.pg_spec.specs.RawMessages.{RawMessage, messages, bytes_left, has_bad_header}
-use Rattle.pg_spec.specs.Startup.{Done}
 use Rattle.pg_spec.proofs.MessageLaws.{messages-append, bytes_left-append}
 use Rattle.pg_wire.specs.LinkCalls.{Keeps}
 use Rattle.pg_wire.specs.declared.fault.WireFault.TheVariants as wire
@@ -10,9 +9,8 @@ use Rattle.pg_errors.specs.declared.cause.Cause.TheVariants as cause
 use Rattle.pg_errors.specs.declared.error.Error.{Error}
 use Rattle.pg_errors.specs.declared.error.Error.TheVariants as error
 use Rattle.pg_connect.specs.declared.startup.Startup.{Startup}
-use Rattle.pg_connect.specs.declared.startup.Phase.{Phase}
 use Rattle.pg_connect.specs.declared.startup.Heard.TheVariants as heard
-use Rattle.pg_connect.specs.Startups.{phase_of, Leads, Ends, MeetsMore, MeetsRefused, HeardAll, HearsAll, Came, Opening, Opened, Failed, FailsBy}
+use Rattle.pg_connect.specs.Startups.{phase_of, Leads, MeetsMore, MeetsRefused, HeardAll, HearsAll, Came, IsWithinStart, Opening, Opened, Failed, FailsBy}
 use Rattle.pg_connect.specs.StartupPolls.{Sends, OfferEnds, Reads, PieceEnds}
 use Rattle.pg_connect.proofs.Joining.{keeps_then, grew_then, rose_later}
 
@@ -99,8 +97,8 @@ opening-done name nonce begin a s t o same sent within h =
 
 -- it failed there
 pub opening-failed : (name nonce : List ℕ) (begin a : LinkView) (s t : Startup) (e : Error) → (o : Opening name nonce begin a s) →
-    t.opening.items ≡ s.opening.items → FailsBy name nonce begin a o.got t e → Failed name nonce begin a t e
-opening-failed name nonce begin a s t e o same fails = record {
+    t.opening.items ≡ s.opening.items → FailsBy name nonce begin a o.got t e → IsWithinStart e (length o.got) t.max_bytes → Failed name nonce begin a t e
+opening-failed name nonce begin a s t e o same fails within = record {
   got = o.got;
   sent = o.sent;
   given = o.given;
@@ -109,6 +107,7 @@ opening-failed name nonce begin a s t e o same fails = record {
   frame = o.frame ∙ ap (λ (l : List ℕ). Ok l) (sym same);
   link = o.link;
   fails = fails;
+  within = within;
 }
 
 meets_more : (name nonce : List ℕ) (read ms all : List RawMessage) → all ≡ read ++ ms → MeetsMore name nonce read ms → MeetsMore name nonce [] all

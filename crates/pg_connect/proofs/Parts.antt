@@ -11,7 +11,7 @@ use Rattle.pg_desk.specs.declared.event.Event.TheVariants.{NextOut}
 use Rattle.pg_connect.specs.declared.streams.Streams.{Streams}
 use Rattle.pg_connect.specs.Passed.{bytes_out_in, moves_in}
 use Rattle.pg_connect.specs.Passes.{Passes, Goes}
-use Rattle.pg_connect.proofs.Joining.{passes-joined, goes-then, keeps_same}
+use Rattle.pg_connect.proofs.Joining.{passes-joined, goes-then, keeps_same, untouched_same}
 use Rattle.pg_connect.proofs.Sends.{passes_part, passes_nothing}
 
 -- nothing is said of the events
@@ -32,7 +32,7 @@ answered becomes joins h i k a b c l m n given answer F so_far offered read even
     goes-then becomes joins h i k a b c l m n [] [] (NextOut answer ∷ []) Anything F so_far (tt, tt)
     (subst (λ (r : Result Out DeskFault). becomes i (NextOut r ∷ []) k) is event)
     (passes-joined b c c m n n [] (NextOut answer ∷ []) [] [] offered
-    (passes_nothing c n n (NextOut answer ∷ []) read (record { given = refl; taken = refl; due = refl }) (keeps_same n) refl (ap (λ x. x ++ []) none) (ap (λ (b : Bool). b || false) still)))
+    (passes_nothing c n n (NextOut answer ∷ []) read (untouched_same n) (keeps_same n) refl (ap (λ x. x ++ []) none) (ap (λ (b : Bool). b || false) still)))
     (λ es was. ends es)
 
 -- a part came out

@@ -12,10 +12,10 @@ use Rattle.pg_connect.specs.declared.ends.Step.TheVariants as step
 use Rattle.pg_connect.specs.declared.ends.ReadEnd.{ReadEnd}
 use Rattle.pg_connect.specs.declared.ends.ReadEnd.TheVariants as ending
 use Rattle.pg_connect.specs.declared.streams.Streams.{Streams}
-use Rattle.pg_connect.specs.Passes.{Passes, PassesOn, Goes, Hands}
+use Rattle.pg_connect.specs.Passes.{Passes, PassesOn, Goes, Hands, Untouched}
 use Rattle.pg_connect.specs.Ends.{last_is}
 use Rattle.pg_connect.specs.Reads.{HandedOff, OffEnds, DeliverEnds, PassEnds, AllEnds, PieceEnds, ReadEnds, HandedIn, HandedAll, AllDecoded, WasDry, EndsInside, RefusesFirst}
-use Rattle.pg_connect.proofs.Joining.{calls-then, passes-joined, rose_later}
+use Rattle.pg_connect.proofs.Joining.{calls-then, passes-joined, promised_still, rose_later, unmoved_before}
 use Rattle.pg_connect.proofs.Parts.{Joins}
 
 -- ---- joining
@@ -224,12 +224,19 @@ pub idle_goes : {H : Type 0} (becomes : H → List Event → H → Type 0) (h i 
     Hands becomes h i s t l m (HandedAll (Ok x)) (AllEnds t (Ok x)) → Goes becomes h i s t l m [] (AllEnds t (Ok step.Nothing))
 idle_goes becomes h i s t l m x is hands = no_hands becomes h i s t l m (AllEnds t (Ok step.Nothing)) (settled becomes h i s t l m step.Nothing x is hands)
 
-pub dry_later : (a b c : LinkView) → Keeps a b → WasDry b c → WasDry a c
-dry_later a b c keeps was = record {
+pub dry_later : (moved : Bool) (a b c : LinkView) → Keeps a b → (moved ≡ false → Untouched a b) → WasDry moved b c → WasDry moved a c
+dry_later moved a b c keeps still was = record {
   rose = rose_later a.dry b.dry c.dry keeps.counts.dry was.rose;
   quiet = rose_later a.quiet b.quiet c.quiet keeps.counts.quiet was.quiet;
   nothing_due = λ steady. was.nothing_due (keeps.steady steady);
+  empty = λ steady. was.empty (keeps.steady steady);
+  lulls = λ none promised. rose_later a.lulls b.lulls c.lulls keeps.counts.lulls (was.lulls none (promised_still a b (still none) promised));
 }
+
+-- where nothing moved up to the end of later calls, the link is untouched behind the earlier ones
+pub untouched_first : (a b c : Streams) (l m n : LinkView) (es fs : List Event) (hs js : List RawMessage) →
+    Passes a b l m es hs → Passes b c m n fs js → c.moved ≡ false → Untouched l m
+untouched_first a b c l m n es fs hs js p q none = p.still (unmoved_before b.moved c.moved _ q.moved none)
 
 -- how the step ended doesn't depend on the events before
 pub ends_behind : (t : Streams) (a b : LinkView) (r : Result ReadEnd ConnectionFault) (es fs : List Event) → ReadEnds t a b r fs → ReadEnds t a b r (es ++ fs)

@@ -1,10 +1,10 @@
 -- A read step and then the write and flush steps, as one turn.
-use Rattle.std.proofs.Common.{◌≡◌, ℕ, ◌≤◌, Bool, true, false, ◌||◌, List, [], ◌∷◌, ◌++◌, Option, None, Result, Ok, Err, refl, sym, ap, subst, ◌∙◌, arith, inl, inr, ◌⊎◌}
-use Rattle.std.specs.Prelude.{IfSome}
+use Rattle.std.proofs.Common.{◌≡◌, ℕ, ◌≤◌, Bool, true, false, not, ◌||◌, List, [], ◌∷◌, ◌++◌, Option, None, Result, Ok, Err, refl, sym, ap, subst, ◌∙◌, arith, inl, inr, ◌⊎◌}
+use Rattle.std.specs.Prelude.{IfSome, OnOk}
 use Rattle.std.proofs.lemmas.List.{append-nil}
 use Rattle.pg_spec.specs.Links.{LinkView, Plan, Rose, due_by}
 use Rattle.pg_spec.specs.RawMessages.{RawMessage}
-use Rattle.pg_wire.specs.LinkCalls.{Keeps, SameBytes}
+use Rattle.pg_wire.specs.LinkCalls.{Keeps}
 use Rattle.pg_desk.specs.declared.event.Event.{Event}
 use Rattle.pg_errors.specs.declared.async_message.AsyncMessage.{AsyncMessage}
 use Rattle.pg_connect.specs.declared.fault.ConnectionFault.{ConnectionFault}
@@ -20,34 +20,40 @@ use Rattle.pg_connect.specs.declared.ends.TurnEnd.TheVariants as turn
 use Rattle.pg_connect.specs.declared.ends.WriteEnd.{WriteEnd}
 use Rattle.pg_connect.specs.declared.ends.WriteEnd.TheVariants as writes
 use Rattle.pg_connect.specs.declared.streams.Streams.{Streams}
-use Rattle.pg_connect.specs.Passes.{Passes, Goes, Hands, OnlyReads, OnlySends}
+use Rattle.pg_connect.specs.Passes.{Passes, Goes, Hands, OnlyReads, OnlySends, Untouched}
 use Rattle.pg_connect.specs.Ends.{WasBlocked, last_is, has_no_more, Closes, Written, WriteEnds}
 use Rattle.pg_connect.specs.Reads.{ReadEnds, NothingDue, WasDry, AllDecoded, IsCleared, EndsInside, Carries, HandedBy, is_full}
-use Rattle.pg_connect.specs.Polls.{FlushEnds, SendEnds, SendWaits, Sends, StopsWriting, TurnEnds, Turns, HandedTurn, Waits, ReadDry, BeganToClose, NothingDueBefore, some_is}
+use Rattle.pg_connect.specs.Polls.{ClosesThen, FlushEnds, SendEnds, SendWaits, Sends, StopsWriting, TurnEnds, TurnFails, ClosesBy, Turns, HandedTurn, Waits, ReadDry, BeganToClose, NothingDueBefore, some_is}
 use Rattle.pg_connect.proofs.Clearing.{still_cleared}
-use Rattle.pg_connect.proofs.Joining.{calls-then, passes-joined, goes-also, rose_later, rose_before, blocked_later}
+use Rattle.pg_connect.proofs.Joining.{calls-then, passes-joined, goes-also, rose_later, rose_before, blocked_later, unmoved_before}
 use Rattle.pg_connect.proofs.Sends.{passes_nothing}
 use Rattle.pg_connect.proofs.Parts.{Joins}
-use Rattle.pg_connect.proofs.Passing.{last_behind, decoded_same}
+use Rattle.pg_connect.proofs.Passing.{last_behind, decoded_same, untouched_first}
 
 -- ---- sending
 
+on_any : {A E : Type 0} (r : Result A E) (P : Type 0) → P → OnOk r P
+on_any (Ok x) P p = p
+on_any (Err e) P p = tt
+
 -- a write step that took all, and a flush step behind it
 pub flushed : {H : Type 0} (becomes : H → List Event → H → Type 0) (h i : H) (s t : Streams) (l m n : LinkView) (may : Bool) (w : WriteEnd) (r : Result SendEnd ConnectionFault) →
-    t.unread ≡ None → w ≡ writes.AllTaken → Goes becomes h i s t l m [] (Written s t l m may (Ok w)) → SameBytes m n → Keeps m n →
-    ((es : List Event) → Keeps l m → WriteEnds t l m (Ok writes.AllTaken) es → SendEnds t l n r es) → Goes becomes h i s t l n [] (Sends s t l n may r)
+    t.unread ≡ None → w ≡ writes.AllTaken → Goes becomes h i s t l m [] (Written s t l m may (Ok w)) → Untouched m n → Keeps m n →
+    ((es : List Event) → Keeps l m → (t.moved ≡ false → Untouched l m) → WriteEnds t l m (Ok writes.AllTaken) es → SendEnds t l n r es) →
+    Goes becomes h i s t l n [] (Sends s t l n may r)
 flushed becomes h i s t l m n may w r read all goes same keeps ends =
     goes-also becomes h i s t t l m n [] [] (Written s t l m may (Ok w)) (Sends s t l n may r) goes (passes_nothing t m n [] read same keeps refl refl refl)
     (λ es was. record {
-      end = ends es goes.passes.link (subst (λ (x : WriteEnd). WriteEnds t l m (Ok x) es) all was.end);
+      end = ends es goes.passes.link goes.passes.still (subst (λ (x : WriteEnd). WriteEnds t l m (Ok x) es) all was.end);
       closes = was.closes;
+      must = on_any r (ClosesThen t l n may es) (λ allowed none. inl (was.must (ap Ok all) allowed none));
     })
 
 pub flush_blocked : (t : Streams) (l m n : LinkView) (closing : Bool) (f : FlushEnd) (es : List Event) → f ≡ flushing.Blocked → FlushEnds closing m n (Ok f) → Keeps l m →
-    SendEnds t l n (Ok sending.Waits) es
-flush_blocked t l m n closing f es is ends keeps =
-    let was : WasBlocked m n = subst (λ (x : FlushEnd). FlushEnds closing m n (Ok x)) is ends in
-    let blocked : WasBlocked l n = blocked_later l m n keeps was in
+    (t.moved ≡ false → Untouched l m) → SendEnds t l n (Ok sending.Waits) es
+flush_blocked t l m n closing f es is ends keeps still =
+    let was : WasBlocked false m n = subst (λ (x : FlushEnd). FlushEnds closing m n (Ok x)) is ends in
+    let blocked : WasBlocked t.moved l n = blocked_later t.moved l m n keeps still (record { rose = was.rose; quiet = was.quiet; not_steady = was.not_steady; lulls = λ none. was.lulls refl }) in
     record { writing = inl blocked; closing = λ x. blocked }
 
 not_both : (b : Bool) → b ≡ true → b ≡ false → ⊥
@@ -94,21 +100,24 @@ due_before l m n taken given plan is =
     (subst (λ (g : Option (List ℕ)). due n.plan g m.taken) (sym given)
     (subst (λ (p : Option Plan). due p m.given m.taken) (sym plan) is))
 
-written_later : (t : Streams) (l m n : LinkView) (es fs : List Event) → Keeps l m → StopsWriting t m n fs → StopsWriting t l n (es ++ fs)
-written_later t l m n es fs keeps was = elim was [
-  | inl blocked ↦ inl (blocked_later l m n keeps blocked)
+written_later : (t : Streams) (l m n : LinkView) (es fs : List Event) → Keeps l m → (t.moved ≡ false → Untouched l m) → StopsWriting t m n fs →
+    StopsWriting t l n (es ++ fs)
+written_later t l m n es fs keeps still was = elim was [
+  | inl blocked ↦ inl (blocked_later t.moved l m n keeps still blocked)
   | inr none ↦ inr (none.0, last_behind _ es fs none.1)
 ]
 
 -- what the read step says of the link, at the end of the turn
 dry_turn : (s mid t : Streams) (l m n : LinkView) (fs : List Event) → Passes mid t m n fs [] → OnlyReads s mid l m → OnlySends mid t m n →
-    WasDry l m × AllDecoded mid × IsCleared mid → ReadDry t l n
+    WasDry mid.moved l m × AllDecoded mid × IsCleared mid → ReadDry t l n
 dry_turn s mid t l m n fs more reads sends (dry, decoded, cleared) = record {
   rose = rose_before l.dry m.dry n.dry dry.rose more.link.counts.dry;
   quiet = rose_before l.quiet m.quiet n.quiet dry.quiet more.link.counts.quiet;
   decoded = decoded_same mid t sends.buffer decoded;
   cleared = still_cleared mid t m n fs [] more sends decoded.none_whole cleared;
   nothing_due = λ steady. due_before l m n reads.taken sends.given more.link.plan (dry.nothing_due steady);
+  empty = λ none steady. (more.still none).bytes.due ∙ dry.empty steady;
+  lulls = λ none promised. rose_before l.lulls m.lulls n.lulls (dry.lulls (unmoved_before mid.moved t.moved _ more.moved none) promised) more.link.counts.lulls;
 }
 
 -- an active connection that may not close goes on so
@@ -123,6 +132,25 @@ stays_open s mid t fs active same closes = pick t.closing (λ x. never (closes x
     pick true fails = absurd (fails refl)
     pick false fails = refl
 
+not_full : (b : Bool) → b ≡ true → not b ≡ true → ⊥
+not_full true full none = let no : false ≡ true = none in cc
+not_full false full none = let no : false ≡ true = full in cc
+
+last_there : (p q : Event → Bool) (es fs : List Event) → last_is q fs ≡ true → last_is p (es ++ fs) ≡ true → last_is p fs ≡ true
+last_there p q es [] some is = absurd (let no : false ≡ true = some in cc)
+last_there p q [] (f ∷ fs) some is = is
+last_there p q (e ∷ []) (f ∷ fs) some is = is
+last_there p q (e ∷ e2 ∷ es) (f ∷ fs) some is = last_there p q (e2 ∷ es) (f ∷ fs) some is
+
+-- where it may close and nothing more will come, it does so, unless the link takes no more
+must_close : (t : Streams) (l m n : LinkView) (es fs : List Event) → Keeps l m → (t.moved ≡ false → Untouched l m) → StopsWriting t m n fs →
+    ClosesThen t m n true fs → last_is has_no_more (es ++ fs) ≡ true → (t.closing ≡ true) ⊎ WasBlocked t.moved l n
+must_close t l m n es fs keeps still (inl blocked) must none = inr (blocked_later t.moved l m n keeps still blocked)
+must_close t l m n es fs keeps still (inr all) must none = elim (must refl (last_there has_no_more _ es fs all.1 none)) [
+  | inl closing ↦ inl closing
+  | inr blocked ↦ inr (blocked_later t.moved l m n keeps still blocked)
+]
+
 -- where it begins to close, reading ended dry
 closes_dry : (s mid t : Streams) (l n : LinkView) (es fs : List Event) → mid.closing ≡ s.closing → ReadDry t l n → Closes mid t true fs → BeganToClose s t l n (es ++ fs)
 closes_dry s mid t l n es fs same dry closes x = elim (closes x) [
@@ -130,22 +158,32 @@ closes_dry s mid t l n es fs same dry closes x = elim (closes x) [
   | inr may ↦ inr (dry, last_behind _ es fs may.1)
 ]
 
-send_error : (s t : Streams) (l m n : LinkView) (e : ConnectionFault) (es fs : List Event) → Keeps l m → SendEnds t m n (Err e) fs → TurnEnds s t l n (Err e) (es ++ fs)
+send_error : (s t : Streams) (l m n : LinkView) (e : ConnectionFault) (es fs : List Event) → Keeps l m → SendEnds t m n (Err e) fs → TurnFails s t l n e (es ++ fs)
 send_error s t l m n fault.Link es fs keeps is = rose_later l.faults m.faults n.faults keeps.counts.faults is
 send_error s t l m n fault.Closed es fs keeps is = inr (last_behind _ es fs is)
 send_error s t l m n fault.OutOfMemory es fs keeps is = tt
 send_error s t l m n _ es fs keeps is = absurd is
 
+-- where it closes, it did so before, or began by what the hub said last
+closes_by : (s mid t : Streams) (may : Bool) (es fs : List Event) → mid.closing ≡ s.closing → Closes mid t may fs → ClosesBy s t (es ++ fs)
+closes_by s mid t may es fs same closes x = elim (closes x) [
+  | inl closing ↦ inl (sym same ∙ closing)
+  | inr began ↦ inr (last_behind _ es fs began.1)
+]
+
+read_fails : (s t : Streams) (l n : LinkView) (e : ConnectionFault) (es : List Event) → s.closing ≡ false → t.closing ≡ s.closing → ReadEnds t l n (Err e) es → TurnFails s t l n e es
+read_fails s t l n fault.Link es active same is = is
+read_fails s t l n fault.Closed es active same is = inl (record { rose = is.0; buffer = is.1; active = active; stays = same ∙ active })
+read_fails s t l n fault.Ended es active same is = is
+read_fails s t l n fault.BadLength es active same is = is
+read_fails s t l n fault.Layout es active same is = is
+read_fails s t l n (fault.Unreadable c) es active same is = is
+read_fails s t l n (fault.Unasked e) es active same is = (is.0, is.1, same ∙ active)
+read_fails s t l n (fault.LimitReached given limit) es active same is = is
+read_fails s t l n fault.OutOfMemory es active same is = tt
+
 pub read_error : (s t : Streams) (l n : LinkView) (e : ConnectionFault) (es : List Event) → s.closing ≡ false → t.closing ≡ s.closing → ReadEnds t l n (Err e) es → TurnEnds s t l n (Err e) es
-read_error s t l n fault.Link es active same is = is
-read_error s t l n fault.Closed es active same is = inl (record { rose = is.0; buffer = is.1; active = active; stays = same ∙ active })
-read_error s t l n fault.Ended es active same is = is
-read_error s t l n fault.BadLength es active same is = is
-read_error s t l n fault.Layout es active same is = is
-read_error s t l n (fault.Unreadable c) es active same is = is
-read_error s t l n (fault.Unasked e) es active same is = (is.0, is.1, same ∙ active)
-read_error s t l n (fault.LimitReached given limit) es active same is = is
-read_error s t l n fault.OutOfMemory es active same is = tt
+read_error s t l n e es active same is = (λ x. inl (sym same ∙ x), read_fails s t l n e es active same is)
 
 -- both steps, with what each says of its events
 goes-all : {H : Type 0} (becomes : H → List Event → H → Type 0) → Joins becomes → (h i k : H) (a b c : Streams) (l m n : LinkView)
@@ -179,7 +217,7 @@ turned_handed becomes joins h i k a b c l m n message active reads first more = 
       (λ es fs e f. record {
         active = active;
         stays = stays_open a b c fs active reads.closing f.closes;
-        writing = written_later c l m n es fs first.goes.passes.link f.end.writing;
+        writing = written_later c l m n es fs first.goes.passes.link (untouched_first a b c l m n _ _ _ _ first.goes.passes more.passes) f.end.writing;
       });
 }
 
@@ -192,9 +230,10 @@ turned_full becomes joins h i k a b c l m n active reads first more = record {
   goes = goes-all becomes joins h i k a b c l m n first.handed (ReadEnds b l m (Ok ending.Full)) (Sends b c m n false (Ok sending.Waits)) (TurnEnds a c l n (Ok turn.Waits)) first.goes more
       (λ es fs e f. record {
         reading = inr (inl (some_of_last is_full es fs e));
-        writing = written_later c l m n es fs first.goes.passes.link f.end.writing;
+        writing = written_later c l m n es fs first.goes.passes.link (untouched_first a b c l m n _ _ _ _ first.goes.passes more.passes) f.end.writing;
         closing = λ x. absurd (not_both c.closing x (stays_open a b c fs active reads.closing f.closes));
         began = λ x. absurd (not_both c.closing x (stays_open a b c fs active reads.closing f.closes));
+        must = λ allowed none. absurd (not_full (some_is is_full (es ++ fs)) (some_of_last is_full es fs e) allowed);
         still = λ x. absurd (not_both a.closing x active);
       });
 }
@@ -210,9 +249,10 @@ turned_dry becomes joins h i k a b c l m n active reads sends first more = recor
       let dry = dry_turn a b c l m n more.events more.passes reads sends e in
       record {
         reading = inr (inr dry);
-        writing = written_later c l m n es fs first.goes.passes.link f.end.writing;
-        closing = λ x. blocked_later l m n first.goes.passes.link (f.end.closing x);
+        writing = written_later c l m n es fs first.goes.passes.link (untouched_first a b c l m n _ _ _ _ first.goes.passes more.passes) f.end.writing;
+        closing = λ x. blocked_later c.moved l m n first.goes.passes.link (untouched_first a b c l m n _ _ _ _ first.goes.passes more.passes) (f.end.closing x);
         began = closes_dry a b c l n es fs reads.closing dry f.closes;
+        must = λ allowed none. must_close c l m n es fs first.goes.passes.link (untouched_first a b c l m n _ _ _ _ first.goes.passes more.passes) f.end.writing f.must none;
         still = λ x. absurd (not_both a.closing x active);
       });
 }
@@ -240,12 +280,12 @@ never_over becomes i k a b c l m n active reads more =
 
 pub turned_error : {H : Type 0} (becomes : H → List Event → H → Type 0) → Joins becomes → (h i k : H) (a b c : Streams) (l m n : LinkView) (may : Bool)
     (W : List RawMessage → Type 0) (E : List Event → Type 0) (e : ConnectionFault) →
-    Hands becomes h i a b l m W E → Goes becomes i k b c m n [] (Sends b c m n may (Err e)) → Turns becomes h k a c l n (Err e)
-turned_error becomes joins h i k a b c l m n may W E e first more = record {
+    OnlyReads a b l m → Hands becomes h i a b l m W E → Goes becomes i k b c m n [] (Sends b c m n may (Err e)) → Turns becomes h k a c l n (Err e)
+turned_error becomes joins h i k a b c l m n may W E e reads first more = record {
   handed = first.handed;
   which = tt;
   goes = goes-all becomes joins h i k a b c l m n first.handed E (Sends b c m n may (Err e)) (TurnEnds a c l n (Err e)) first.goes more
-      (λ es fs x f. send_error a c l m n e es fs first.goes.passes.link f.end);
+      (λ es fs x f. (closes_by a b c may es fs reads.closing f.closes, send_error a c l m n e es fs first.goes.passes.link f.end));
 }
 
 -- a turn that reads nothing
@@ -258,28 +298,29 @@ turned_closing becomes h i s t l m x r none goes ends = record {
   goes = record { events = goes.events; calls = goes.calls; became = goes.became; passes = goes.passes; ended = ends goes.events goes.ended };
 }
 
-pub closing_waits : (s t : Streams) (l m : LinkView) (es : List Event) → s.closing ≡ true → OnlySends s t l m → Sends s t l m false (Ok sending.Waits) es → TurnEnds s t l m (Ok turn.Waits) es
-closing_waits s t l m es closing only was = record {
+pub closing_waits : (s t : Streams) (l m : LinkView) (es : List Event) → s.closing ≡ true → t.closing ≡ true → OnlySends s t l m → Sends s t l m false (Ok sending.Waits) es → TurnEnds s t l m (Ok turn.Waits) es
+closing_waits s t l m es closing stays only was = record {
   reading = inl closing;
   writing = was.end.writing;
   closing = was.end.closing;
   began = λ x. inl closing;
+  must = λ allowed none. inl stays;
   still = λ x. only;
 }
 
 pub closing_over : (s t : Streams) (l m : LinkView) (es : List Event) → s.closing ≡ true → OnlySends s t l m → Sends s t l m false (Ok sending.Over) es → TurnEnds s t l m (Ok turn.Over) es
 closing_over s t l m es closing only was = record { closing = was.end.0; sent = was.end.1; began = λ x. inl closing; still = λ x. only }
 
-closing_failed : (s t : Streams) (l m : LinkView) (e : ConnectionFault) (es : List Event) → SendEnds t l m (Err e) es → TurnEnds s t l m (Err e) es
+closing_failed : (s t : Streams) (l m : LinkView) (e : ConnectionFault) (es : List Event) → SendEnds t l m (Err e) es → TurnFails s t l m e es
 closing_failed s t l m fault.Link es is = is
 closing_failed s t l m fault.Closed es is = inr is
 closing_failed s t l m fault.OutOfMemory es is = tt
 closing_failed s t l m _ es is = absurd is
 
 pub closing_error : {H : Type 0} (becomes : H → List Event → H → Type 0) (h i : H) (s t : Streams) (l m : LinkView) (e : ConnectionFault) →
-    Goes becomes h i s t l m [] (Sends s t l m false (Err e)) → Turns becomes h i s t l m (Err e)
-closing_error becomes h i s t l m e goes = record {
+    s.closing ≡ true → Goes becomes h i s t l m [] (Sends s t l m false (Err e)) → Turns becomes h i s t l m (Err e)
+closing_error becomes h i s t l m e closing goes = record {
   handed = [];
   which = tt;
-  goes = record { events = goes.events; calls = goes.calls; became = goes.became; passes = goes.passes; ended = closing_failed s t l m e goes.events goes.ended.end };
+  goes = record { events = goes.events; calls = goes.calls; became = goes.became; passes = goes.passes; ended = (λ x. inl closing, closing_failed s t l m e goes.events goes.ended.end) };
 }

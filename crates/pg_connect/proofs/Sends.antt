@@ -7,13 +7,13 @@ use Rattle.pg_spec.specs.Batches.{is_nothing}
 use Rattle.pg_spec.specs.Frames.{terminate_frame}
 use Rattle.pg_spec.specs.RawMessages.{messages, bytes_left}
 use Rattle.pg_spec.specs.Links.{LinkView, Grew}
-use Rattle.pg_wire.specs.LinkCalls.{Keeps, Takes, SameBytes}
+use Rattle.pg_wire.specs.LinkCalls.{Keeps, Takes}
 use Rattle.pg_wire.specs.declared.message.Message.{Message}
 use Rattle.pg_desk.specs.declared.event.Event.{Event}
 use Rattle.pg_connect.specs.declared.streams.Streams.{Streams}
 use Rattle.pg_connect.specs.Passed.{delivered_by, bytes_out_by, moves_in}
-use Rattle.pg_connect.specs.Passes.{Passes, waiting, delayed_in, IsUnread, goodbye, moves}
-use Rattle.pg_connect.proofs.Joining.{grew_same, goodbye_same, keeps_same}
+use Rattle.pg_connect.specs.Passes.{Passes, Untouched, waiting, delayed_in, IsUnread, goodbye, moves}
+use Rattle.pg_connect.proofs.Joining.{grew_same, goodbye_same, keeps_same, untouched_same}
 
 pub or_false : (b : Bool) → b ≡ (b || false)
 or_false true = refl
@@ -28,9 +28,9 @@ pub sends : (s : Streams) (unsent : List ℕ) (closing moved : Bool) (before aft
     s.unread ≡ None → after.given ≡ before.given → Grew before.taken after.taken sent → delivered_by events ≡ [] →
     (s.unsent ++ bytes_out_by events) ++ goodbye s.closing closing ≡ sent ++ unsent →
     (IsTrue s.closing → IsTrue closing) → (IsTrue s.closing → bytes_out_by events ≡ []) →
-    moved ≡ (s.moved || (moves [] sent [] events || false)) → Keeps before after →
+    moved ≡ (s.moved || (moves [] sent [] events || false)) → (moved ≡ false → Untouched before after) → Keeps before after →
     Passes s (record s { unsent = unsent; closing = closing; moved = moved }) before after events []
-sends s unsent closing moved before after sent events read given taken none out still nothing moves link = record {
+sends s unsent closing moved before after sent events read given taken none out still nothing moves untouched link = record {
   got = [];
   sent = sent;
   read = [];
@@ -53,7 +53,8 @@ sends s unsent closing moved before after sent events read given taken none out 
   limit = refl;
   flag = refl;
   moved = moves;
-  ended = λ is. absurd cc;
+  at_end = or_false s.at_end;
+  still = untouched;
   link = link;
 }
 
@@ -71,15 +72,15 @@ pub passes_took : (s : Streams) (before after : LinkView) (n : ℕ) → s.unread
 passes_took s before after n read takes link =
     sends s (drop n s.unsent) s.closing true before after (take n s.unsent) [] read takes.given takes.taken refl
     (out_of_nothing s.unsent s.closing ∙ sym (take-append-drop n s.unsent)) (λ x. x) (λ x. refl)
-    (or_true s.moved ∙ ap (λ (x : Bool). s.moved || (((false || x) || (false || false)) || false)) (sym (some_taken n s.unsent takes.some takes.fits))) link
+    (or_true s.moved ∙ ap (λ (x : Bool). s.moved || (((false || x) || (false || false)) || false)) (sym (some_taken n s.unsent takes.some takes.fits))) (λ none. absurd cc) link
 
 -- nothing passed
-pub passes_nothing : (s : Streams) (before after : LinkView) (events : List Event) → s.unread ≡ None → SameBytes before after → Keeps before after →
+pub passes_nothing : (s : Streams) (before after : LinkView) (events : List Event) → s.unread ≡ None → Untouched before after → Keeps before after →
     delivered_by events ≡ [] → bytes_out_by events ≡ [] → list_any moves_in events ≡ false → Passes s s before after events []
 passes_nothing s before after events read same link none no_part still =
-    sends s s.unsent s.closing s.moved before after [] events read same.given (grew_same before.taken after.taken same.taken) none
+    sends s s.unsent s.closing s.moved before after [] events read same.bytes.given (grew_same before.taken after.taken same.bytes.taken) none
     (ap (λ x. (s.unsent ++ x) ++ goodbye s.closing s.closing) no_part ∙ out_of_nothing s.unsent s.closing) (λ x. x) (λ x. no_part)
-    (or_false s.moved ∙ ap (λ (x : Bool). s.moved || (((false || false) || (false || x)) || false)) (sym still)) link
+    (or_false s.moved ∙ ap (λ (x : Bool). s.moved || (((false || false) || (false || x)) || false)) (sym still)) (λ none. same) link
 
 -- the same, of the slice that was offered
 pub passes_took_of : (s t : Streams) (before after : LinkView) (n : ℕ) (offered : List ℕ) → s.unread ≡ None → offered ≡ s.unsent → Takes before after offered n → Keeps before after →
@@ -96,7 +97,7 @@ passes_part s l part events read sent active none out came =
     (ap (λ x. (s.unsent ++ bytes_out_by events) ++ x) (goodbye_same s.closing) ∙ append-nil (s.unsent ++ bytes_out_by events)
     ∙ ap (λ x. x ++ bytes_out_by events) sent ∙ out)
     (λ x. x) (λ x. let no : false ≡ true = sym active ∙ x in cc)
-    (or_true s.moved ∙ ap (λ (x : Bool). s.moved || (((false || false) || (false || x)) || false)) (sym came)) (keeps_same l)
+    (or_true s.moved ∙ ap (λ (x : Bool). s.moved || (((false || false) || (false || x)) || false)) (sym came)) (λ none. absurd cc) (keeps_same l)
 
 -- Terminate is queued, where nothing is unsent
 pub passes_goodbye : (s : Streams) (l : LinkView) → s.unread ≡ None → s.unsent ≡ [] → s.closing ≡ false →
@@ -104,4 +105,4 @@ pub passes_goodbye : (s : Streams) (l : LinkView) → s.unread ≡ None → s.un
 passes_goodbye s l read sent active =
     sends s terminate_frame true s.moved l l [] [] read refl (grew_same l.taken l.taken refl) refl
     (ap (λ x. (x ++ []) ++ goodbye s.closing true) sent ∙ ap (λ x. goodbye x true) active)
-    (λ x. refl) (λ x. refl) (or_false s.moved) (keeps_same l)
+    (λ x. refl) (λ x. refl) (or_false s.moved) (λ none. untouched_same l) (keeps_same l)

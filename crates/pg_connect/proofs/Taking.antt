@@ -4,7 +4,7 @@ use Rattle.std.specs.declared.alloc.Global.{Global}
 use Rattle.bytes.specs.declared.unique.BytesMut.{BytesMut}
 use Rattle.pg_spec.specs.Batches.{is_nothing}
 use Rattle.pg_spec.specs.Bytes.{◌>>=◌}
-use Rattle.pg_spec.specs.Links.{LinkView, Rose}
+use Rattle.pg_spec.specs.Links.{LinkView}
 use Rattle.pg_spec.specs.Report as said
 use Rattle.pg_wire.specs.LinkCalls.{Keeps, Gives, SameBytes}
 use Rattle.pg_errors.specs.declared.async_message.AsyncMessage.TheVariants.{Notice}
@@ -20,7 +20,7 @@ use Rattle.pg_connect.specs.declared.ends.Off.{Off}
 use Rattle.pg_connect.specs.declared.ends.Off.TheVariants as off
 use Rattle.pg_connect.specs.declared.streams.Streams.{Streams}
 use Rattle.pg_connect.specs.Kept.{keep}
-use Rattle.pg_connect.specs.Passes.{Passes, PassesOn, notice_of, delayed_in}
+use Rattle.pg_connect.specs.Passes.{Passes, PassesOn, Untouched, notice_of, delayed_in}
 use Rattle.pg_connect.specs.Reads.{TakesAside, HandedOff, Carries, FirstReads}
 use Rattle.pg_connect.proofs.Joining.{keeps_same}
 use Rattle.pg_connect.proofs.Sends.{or_false, or_true, some_taken}
@@ -38,7 +38,7 @@ aside_taken s mid t l message (Ok (off.Handed handed)) read none cut same takes 
       is = record { raw = cut.raw; alone = refl; means = sorted.1 };
       passes = subst (λ (x : Streams). Passes s x l l [] (cut.raw ∷ [])) (sym is)
           (reads_aside s (record s { buffer = mid.buffer; moved = true }) l cut.raw (cut.raw ∷ []) [] read read cut.cuts sorted.0 refl none refl refl refl refl
-          (record { unsent = refl; closing = refl; limit = refl; ended = refl }) (or_true s.moved));
+          (record { unsent = refl; closing = refl; limit = refl; ended = refl; at_end = refl }) (or_true s.moved));
     }
 aside_taken s mid t l message (Ok off.Kept) read none cut same takes =
     let kept = kept_aside mid t message cut.raw cut.aside cut.means takes in
@@ -49,7 +49,7 @@ aside_taken s mid t l message (Ok off.Kept) read none cut same takes =
       is = refl;
       passes = subst (λ (x : Streams). Passes s x l l [] []) (sym is)
           (reads_aside s (record s { buffer = mid.buffer; parameters = keep s.parameters kept.report }) l cut.raw [] (kept.report ∷ []) read read cut.cuts kept.sorted refl none refl refl refl refl
-          (record { unsent = refl; closing = refl; limit = refl; ended = refl }) (or_false s.moved));
+          (record { unsent = refl; closing = refl; limit = refl; ended = refl; at_end = refl }) (or_false s.moved));
     }
 aside_taken s mid t l message (Ok off.Held) read none cut same takes = absurd takes
 aside_taken s mid t l message (Ok off.Nothing) read none cut same takes = absurd takes
@@ -60,7 +60,7 @@ aside_taken s mid t l message (Err e) read none cut same takes =
       is = refl;
       passes = subst (λ (x : Streams). Passes s x l l [] []) (sym is)
           (reads_lost s (record s { buffer = mid.buffer; unread = Some message }) l cut.raw message read refl cut.cuts cut.aside cut.means refl refl refl refl refl
-          (record { unsent = refl; closing = refl; limit = refl; ended = refl }) refl);
+          (record { unsent = refl; closing = refl; limit = refl; ended = refl; at_end = refl }) refl);
     }
 
 -- a refusal leaves the bytes
@@ -81,23 +81,23 @@ pub piece_taken : (s t : Streams) (l m : LinkView) (out : List ℕ) (n : ℕ) �
 piece_taken s t l m out n read gives keeps buffer same =
     subst (λ (x : Streams). Passes s x l m [] []) (sym same)
     (reads_piece s (record s { buffer = t.buffer; given = s.given + length (take n out); moved = true }) l m (take n out) read read gives.given gives.taken buffer
-    refl refl refl refl refl (record { unsent = refl; closing = refl; limit = refl; ended = refl }) (not_true (is_nothing (take n out)) (some_taken n out gives.some gives.fits)) refl keeps)
+    refl refl refl refl refl (record { unsent = refl; closing = refl; limit = refl; ended = refl; at_end = refl }) (not_true (is_nothing (take n out)) (some_taken n out gives.some gives.fits)) refl keeps)
 
 -- nothing was read: the bytes are as before, wherever they stand
-pub piece_none : (s : Streams) (b : BytesMut Global) (l m : LinkView) → s.unread ≡ None → b.items ≡ s.buffer.items → SameBytes l m → Keeps l m →
+pub piece_none : (s : Streams) (b : BytesMut Global) (l m : LinkView) → s.unread ≡ None → b.items ≡ s.buffer.items → Untouched l m → Keeps l m →
     Passes s (record s { buffer = b }) l m [] []
 piece_none s b l m read same bytes keeps =
     reads_nothing s (record s { buffer = b }) l m read bytes
     (record { buffer = same; unread = read; held = refl; delayed = refl; parameters = refl; given = refl; delivered = refl })
-    (record { unsent = refl; closing = refl; limit = refl; ended = refl }) refl keeps
+    (record { unsent = refl; closing = refl; limit = refl; ended = refl; at_end = refl }) refl keeps
 
 -- the link gave its end
-pub piece_end : (s : Streams) (b : BytesMut Global) (l m : LinkView) → s.unread ≡ None → b.items ≡ s.buffer.items → SameBytes l m → Rose l.ends m.ends → Keeps l m →
-    Passes s (record s { buffer = b; moved = true }) l m [] []
-piece_end s b l m read same bytes rose keeps =
-    reads_end s (record s { buffer = b; moved = true }) l m read bytes
+pub piece_end : (s : Streams) (b : BytesMut Global) (l m : LinkView) → s.unread ≡ None → b.items ≡ s.buffer.items → SameBytes l m → Keeps l m →
+    Passes s (record s { buffer = b; moved = true; at_end = true }) l m [] []
+piece_end s b l m read same bytes keeps =
+    reads_end s (record s { buffer = b; moved = true; at_end = true }) l m read bytes
     (record { buffer = same; unread = read; held = refl; delayed = refl; parameters = refl; given = refl; delivered = refl })
-    (record { unsent = refl; closing = refl; limit = refl; ended = refl }) refl rose keeps
+    (record { unsent = refl; closing = refl; limit = refl; ended = refl }) refl refl keeps
 
 -- a notice that was delayed is handed out
 pub delayed_taken : (s t : Streams) (l : LinkView) (e : DbError) → s.unread ≡ None → FirstReads s e → t.delayed.items ≡ drop 1 s.delayed.items →
@@ -110,5 +110,5 @@ delayed_taken s t l e read first left same =
       passes = subst (λ (x : Streams). Passes s x l l [] (notice_of first.notice ∷ [])) (sym same)
           (reads_delayed s (record s { delayed = t.delayed; moved = true }) l (notice_of first.notice) read read refl refl
           (ap (map notice_of) first.first ∙ ap (λ x. notice_of first.notice ∷ map notice_of x) (sym rest)) refl refl refl
-          (record { unsent = refl; closing = refl; limit = refl; ended = refl }) refl);
+          (record { unsent = refl; closing = refl; limit = refl; ended = refl; at_end = refl }) refl);
     }

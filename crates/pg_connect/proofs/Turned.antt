@@ -14,24 +14,29 @@ use Rattle.pg_connect.specs.Faults.{error_of}
 use Rattle.pg_connect.specs.Polls.{Turns}
 use Rattle.pg_connect.specs.Answers.{is_over, fresh, left_open, Turned, Failed}
 
-both_false : (a b : Bool) → (a || b) ≡ false → a ≡ false
-both_false true b e = absurd cc
-both_false false b e = refl
+first_false : (a b : Bool) → (a || b) ≡ false → a ≡ false
+first_false true b e = absurd cc
+first_false false b e = refl
+
+last_false : (a b : Bool) → (a || b) ≡ false → b ≡ false
+last_false true b e = absurd cc
+last_false false b e = e
 
 -- the turn left it open
 was_left : {H : Type 0} (becomes : H → List Event → H → Type 0) (a b : H) (s began t : Streams) (l m : LinkView) (r : Result TurnEnd ConnectionFault) → is_over s ≡ false →
     began ≡ fresh s → Turns becomes a b began t l m r → t ≡ left_open t
 was_left becomes a b s began t l m r active is turns =
-    ap (λ (x : Bool). record t { ended = x }) (turns.goes.passes.flag ∙ ap (λ (x : Streams). x.ended) is ∙ both_false s.ended (is_some s.unread) active)
+    ap (λ (x : Bool). record t { ended = x }) (turns.goes.passes.flag ∙ ap (λ (x : Streams). x.ended) is ∙ first_false s.ended s.at_end (first_false (s.ended || s.at_end) (is_some s.unread) active))
 
 -- it goes on
 pub turned_on : {H : Type 0} (becomes : H → List Event → H → Type 0) (a b : H) (s began t : Streams) (l m : LinkView) (x y : TurnEnd) → is_over s ≡ false → began ≡ fresh s → y ≡ x →
-    t.unread ≡ None → Turns becomes a b began t l m (Ok y) → Turned becomes a b s t l m x false
-turned_on becomes a b s began t l m x y active is at read turns =
+    t.unread ≡ None → t.at_end ≡ began.at_end → Turns becomes a b began t l m (Ok y) → Turned becomes a b s t l m x false
+turned_on becomes a b s began t l m x y active is at read more turns =
     let same = was_left becomes a b s began t l m (Ok y) active is turns in
     record {
       was_open = active;
-      stands = ap (λ (u : Streams). u.ended || is_some u.unread) same ∙ ap (λ (o : Option Message). false || is_some o) read;
+      stands = ap (λ (u : Streams). (u.ended || u.at_end) || is_some u.unread) same ∙ ap (λ (o : Option Message). (false || t.at_end) || is_some o) read
+          ∙ ap (λ (b : Bool). b || false) (more ∙ ap (λ (u : Streams). u.at_end) is ∙ last_false s.ended s.at_end (first_false (s.ended || s.at_end) (is_some s.unread) active));
       turns = subst (λ (z : TurnEnd). Turns becomes a b (fresh s) (left_open t) l m (Ok z)) at
           (subst (λ (u : Streams). Turns becomes a b u (left_open t) l m (Ok y)) is (subst (λ (u : Streams). Turns becomes a b began u l m (Ok y)) same turns));
     }
@@ -43,7 +48,7 @@ turned_over becomes a b s began t u l m x y active is at ended turns =
     let same = was_left becomes a b s began t l m (Ok y) active is turns in
     record {
       was_open = active;
-      stands = ap (λ (v : Streams). v.ended || is_some v.unread) ended;
+      stands = ap (λ (v : Streams). (v.ended || v.at_end) || is_some v.unread) ended;
       turns = subst (λ (v : Streams). Turns becomes a b (fresh s) v l m (Ok x)) (sym (ap left_open ended))
           (subst (λ (z : TurnEnd). Turns becomes a b (fresh s) (left_open t) l m (Ok z)) at
           (subst (λ (v : Streams). Turns becomes a b v (left_open t) l m (Ok y)) is (subst (λ (v : Streams). Turns becomes a b began v l m (Ok y)) same turns)));

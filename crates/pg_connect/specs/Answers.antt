@@ -1,5 +1,5 @@
 -- What a poll of the connection answers.
-use Rattle.std.specs.Prelude.{◌≡◌, ◌⊎◌, ◌||◌, Bool, true, false, List, [], ◌∷◌, Option, Some, None, is_some, Result, Ok, Err}
+use Rattle.std.specs.Prelude.{◌≡◌, ◌≤◌, ◌⊎◌, ◌||◌, Bool, true, false, List, [], ◌∷◌, Option, Some, None, is_some, Result, Ok, Err}
 use Rattle.futures.specs.declared.task.Poll.{Poll}
 use Rattle.futures.specs.declared.task.Poll.TheVariants.{Ready, Pending}
 use Rattle.pg_spec.specs.Links.{LinkView}
@@ -8,7 +8,7 @@ use Rattle.pg_desk.specs.declared.event.Event.{Event}
 use Rattle.pg_desk.specs.declared.event.Event.TheVariants.{Fail}
 use Rattle.pg_errors.specs.declared.async_message.AsyncMessage.{AsyncMessage}
 use Rattle.pg_errors.specs.declared.error.Error.{Error}
-use Rattle.pg_errors.specs.declared.error.Error.TheVariants.{Closed}
+use Rattle.pg_errors.specs.declared.error.Error.TheVariants.{Closed, LimitReached}
 use Rattle.pg_connect.specs.declared.fault.ConnectionFault.{ConnectionFault}
 use Rattle.pg_connect.specs.declared.ends.TurnEnd.{TurnEnd}
 use Rattle.pg_connect.specs.declared.ends.TurnEnd.TheVariants.{Handed, Waits, Over}
@@ -16,9 +16,9 @@ use Rattle.pg_connect.specs.declared.streams.Streams.{Streams}
 use Rattle.pg_connect.specs.Faults.{error_of}
 use Rattle.pg_connect.specs.Polls.{Turns}
 
--- it answered its end or an error, or left a message unread
+-- it answered its end or an error, the link gave its end, or a message was left unread
 abbrev pub is_over : Streams → Bool
-is_over s = s.ended || is_some s.unread
+is_over s = (s.ended || s.at_end) || is_some s.unread
 
 -- the state in which a poll begins: nothing has moved yet
 abbrev pub fresh : Streams → Streams
@@ -60,3 +60,8 @@ PollAnswers becomes a b old new before after (Ready None) = Turned becomes a b o
 PollAnswers becomes a b old new before after (Ready (Some (Ok message))) = Turned becomes a b old new before after (Handed message) false
 PollAnswers becomes a b old new before after (Ready (Some (Err e))) =
     (is_over new ≡ true) × (StaysClosed a b old new before after e ⊎ Failed becomes a b old new before after e)
+
+-- No more than the limit was given, unless the answer is that more were.
+abbrev pub IsWithinPoll : Streams → Poll (Option (Result AsyncMessage Error)) → Type 0
+IsWithinPoll s (Ready (Some (Err (LimitReached given limit)))) = Unit {0}
+IsWithinPoll s other = s.given ≤ s.max_bytes

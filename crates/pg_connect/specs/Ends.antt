@@ -13,11 +13,13 @@ use Rattle.pg_connect.specs.declared.ends.WriteEnd.{WriteEnd}
 use Rattle.pg_connect.specs.declared.ends.WriteEnd.TheVariants as writes
 use Rattle.pg_connect.specs.declared.streams.Streams.{Streams}
 
--- a write, a flush or a shutdown wasn't ready; a steady link always is
-pub record WasBlocked (before after : LinkView) : Type 0 where
+-- A write, a flush or a shutdown wasn't ready; a steady link always is. Where nothing moved, that is a lull of a
+-- link that was promised to be ready.
+pub record WasBlocked (moved : Bool) (before after : LinkView) : Type 0 where
   pub rose : Rose before.blocked after.blocked
   pub quiet : Rose before.quiet after.quiet
   pub not_steady : IsTrue before.steady → ⊥
+  pub lulls : moved ≡ false → IsTrue before.promised → Rose before.lulls after.lulls
 
 -- the last of the events passes the test
 abbrev pub last_is : (Event → Bool) → List Event → Bool
@@ -45,15 +47,15 @@ is_closed_out _ = false
 -- how the bytes that are unsent were offered
 abbrev pub OfferEnds : Streams → LinkView → LinkView → Result Bool ConnectionFault → Type 0
 OfferEnds new before after (Ok true) = new.unsent ≡ []
-OfferEnds new before after (Ok false) = WasBlocked before after
+OfferEnds new before after (Ok false) = WasBlocked new.moved before after
 OfferEnds new before after (Err fault.Link) = Rose before.faults after.faults
 OfferEnds new before after (Err fault.OutOfMemory) = Unit {0}
 OfferEnds new before after (Err _) = ⊥
 
 -- how the parts were sent
 abbrev pub PartsEnds : Streams → LinkView → LinkView → Result PartsEnd ConnectionFault → List Event → Type 0
-PartsEnds new before after (Ok parts.Blocked) events = WasBlocked before after
-PartsEnds new before after (Ok parts.Waits) events = (new.unsent ≡ []) × (last_is has_none events ≡ true)
+PartsEnds new before after (Ok parts.Blocked) events = WasBlocked new.moved before after
+PartsEnds new before after (Ok parts.Waits) events = (new.unsent ≡ []) × (last_is has_none events ≡ true) × (last_is has_no_more events ≡ false)
 PartsEnds new before after (Ok parts.NoMore) events = (new.unsent ≡ []) × (last_is has_no_more events ≡ true)
 PartsEnds new before after (Err fault.Link) events = Rose before.faults after.faults
 PartsEnds new before after (Err fault.Closed) events = last_is is_closed_out events ≡ true
@@ -62,7 +64,7 @@ PartsEnds new before after (Err _) events = ⊥
 
 -- how a write step ended: all that went out was taken, or the link wasn't ready
 abbrev pub WriteEnds : Streams → LinkView → LinkView → Result WriteEnd ConnectionFault → List Event → Type 0
-WriteEnds new before after (Ok writes.Blocked) events = WasBlocked before after
+WriteEnds new before after (Ok writes.Blocked) events = WasBlocked new.moved before after
 WriteEnds new before after (Ok writes.AllTaken) events =
     (new.unsent ≡ []) × (new.closing ≡ false → last_is has_none events ≡ true)
 WriteEnds new before after (Err fault.Link) events = Rose before.faults after.faults
@@ -75,7 +77,13 @@ abbrev pub Closes : Streams → Streams → Bool → List Event → Type 0
 Closes old new may_close events =
     new.closing ≡ true → (old.closing ≡ true) ⊎ ((may_close ≡ true) × (last_is has_no_more events ≡ true))
 
+-- And where it may close and all was taken, it does so where nothing more will come.
+abbrev pub MustClose : Streams → Bool → Result WriteEnd ConnectionFault → List Event → Type 0
+MustClose new may_close result events =
+    result ≡ Ok writes.AllTaken → may_close ≡ true → last_is has_no_more events ≡ true → new.closing ≡ true
+
 -- how a write step ended, and where it began to close
 pub record Written (old new : Streams) (before after : LinkView) (may_close : Bool) (result : Result WriteEnd ConnectionFault) (events : List Event) : Type 0 where
   pub end : WriteEnds new before after result events
   pub closes : Closes old new may_close events
+  pub must : MustClose new may_close result events

@@ -9,3 +9,4 @@ pub mod Reads
 pub mod Polls
 pub mod Answers
 pub mod Histories
+pub mod Calm

@@ -1,5 +1,5 @@
 -- What passed from a connection to the hub and back in a list of events.
-use Rattle.std.specs.Prelude.{ℕ, Bool, true, false, List, [], ◌∷◌, ◌++◌, Ok}
+use Rattle.std.specs.Prelude.{ℕ, ◌<◌, Bool, true, false, List, [], ◌∷◌, ◌++◌, length, Ok}
 use Rattle.pg_spec.specs.RawMessages.{RawMessage}
 use Rattle.pg_desk.specs.declared.event.Out.TheVariants.{Part}
 use Rattle.pg_desk.specs.declared.event.Deliver.TheVariants.{Taken}
@@ -32,10 +32,10 @@ moves_in (NextOut (Ok (Part part))) = true
 moves_in (Deliver batch complete Taken) = true
 moves_in _ = false
 
--- a call that hands a part out or takes a batch in
+-- a call that hands a part out or takes a batch in, which is never empty
 abbrev pub IsEngineCall : Event → Type 0
 IsEngineCall (NextOut answer) = Unit {0}
-IsEngineCall (Deliver batch complete answer) = Unit {0}
+IsEngineCall (Deliver batch complete answer) = 0 < length batch
 IsEngineCall _ = ⊥
 
 -- no other calls

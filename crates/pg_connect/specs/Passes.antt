@@ -4,13 +4,13 @@ use Rattle.std.specs.List.{list_any}
 use Rattle.std.specs.Str.{byte}
 use Rattle.pg_spec.specs.Batches.{is_nothing}
 use Rattle.pg_spec.specs.Frames.{terminate_frame}
-use Rattle.pg_spec.specs.Links.{LinkView, Grew, Rose}
+use Rattle.pg_spec.specs.Links.{LinkView, Grew}
 use Rattle.pg_spec.specs.Messages.{message_of}
 use Rattle.pg_spec.specs.Parameters.{parameter_reports}
 use Rattle.pg_spec.specs.RawMessages.{RawMessage, messages, bytes_left, is_aside, sync_of, async_of}
 use Rattle.pg_wire.specs.declared.body.ErrorResponseBody.{ErrorResponseBody}
 use Rattle.pg_wire.specs.declared.message.Message.{Message}
-use Rattle.pg_wire.specs.LinkCalls.{Keeps}
+use Rattle.pg_wire.specs.LinkCalls.{Keeps, SameBytes}
 use Rattle.pg_wire.specs.Messages.{message_view}
 use Rattle.pg_desk.specs.declared.event.Event.{Event}
 use Rattle.pg_connect.specs.declared.streams.Held.{Held}
@@ -57,6 +57,11 @@ moves got sent handed events = (not (is_nothing got) || not (is_nothing sent)) |
 abbrev pub risen : ℕ → ℕ → ℕ
 risen count n = max count (min (count + n) (2 ^ 64 - 1))
 
+-- The link gave and took nothing, may give what it might before, and is promised as before.
+pub record Untouched (before after : LinkView) : Type 0 where
+  pub bytes : SameBytes before after
+  pub promised : after.promised ≡ before.promised
+
 -- In these calls the link gave and took bytes, messages were read, the hub took messages and handed out
 -- parts by these events, and these messages were handed out.
 pub record Passes (old new : Streams) (before after : LinkView) (events : List Event) (handed : List RawMessage) : Type 0 where
@@ -89,7 +94,8 @@ pub record Passes (old new : Streams) (before after : LinkView) (events : List E
   pub limit : new.max_bytes ≡ old.max_bytes
   pub flag : new.ended ≡ old.ended
   pub moved : new.moved ≡ (old.moved || (moves got sent handed events || over))
-  pub ended : over ≡ true → Rose before.ends after.ends
+  pub at_end : new.at_end ≡ (old.at_end || over)
+  pub still : new.moved ≡ false → Untouched before after
   pub link : Keeps before after
 
 -- the same, and what was handed out is so
@@ -120,6 +126,7 @@ pub record OnlySends (old new : Streams) (before after : LinkView) : Type 0 wher
   pub count : new.given ≡ old.given
   pub buffer : new.buffer.items ≡ old.buffer.items
   pub unread : new.unread ≡ old.unread
+  pub at_end : new.at_end ≡ old.at_end
 
 -- Nothing was sent in these calls.
 pub record OnlyReads (old new : Streams) (before after : LinkView) : Type 0 where

@@ -1,5 +1,5 @@
 -- How a turn of the connection ends, and why.
-use Rattle.std.specs.Prelude.{◌≡◌, ◌<◌, ◌⊎◌, Bool, true, false, IsTrue, ◌||◌, List, [], ◌∷◌, length, IfSome, Result, Ok, Err}
+use Rattle.std.specs.Prelude.{◌≡◌, ◌<◌, ◌⊎◌, Bool, true, false, not, IsTrue, ◌||◌, List, [], ◌∷◌, length, Some, IfSome, OnOk, Result, Ok, Err}
 use Rattle.pg_spec.specs.Links.{LinkView, Rose, due_by}
 use Rattle.pg_spec.specs.RawMessages.{RawMessage, has_bad_header}
 use Rattle.pg_desk.specs.declared.event.Event.{Event}
@@ -18,7 +18,7 @@ use Rattle.pg_connect.specs.Reads.{AllDecoded, BreaksLayout, Carries, EndsInside
 
 -- how a flush step ended; `closing`: Terminate is queued
 abbrev pub FlushEnds : Bool → LinkView → LinkView → Result FlushEnd ConnectionFault → Type 0
-FlushEnds closing before after (Ok flush.Blocked) = WasBlocked before after
+FlushEnds closing before after (Ok flush.Blocked) = WasBlocked false before after
 FlushEnds closing before after (Ok flush.Flushed) = closing ≡ false
 FlushEnds closing before after (Ok flush.ShutDown) = closing ≡ true
 FlushEnds closing before after (Err fault.Link) = Rose before.faults after.faults
@@ -26,12 +26,12 @@ FlushEnds closing before after (Err _) = ⊥
 
 -- Why no more was written: the link wasn't ready, or it took all that went out and the hub has no part.
 abbrev pub StopsWriting : Streams → LinkView → LinkView → List Event → Type 0
-StopsWriting new before after events = WasBlocked before after ⊎ ((new.unsent ≡ []) × (last_is has_none events ≡ true))
+StopsWriting new before after events = WasBlocked new.moved before after ⊎ ((new.unsent ≡ []) × (last_is has_none events ≡ true))
 
 -- Why sending has to wait.
 pub record SendWaits (new : Streams) (before after : LinkView) (events : List Event) : Type 0 where
   pub writing : StopsWriting new before after events
-  pub closing : new.closing ≡ true → WasBlocked before after
+  pub closing : new.closing ≡ true → WasBlocked new.moved before after
 
 -- how the write step and the flush step ended
 abbrev pub SendEnds : Streams → LinkView → LinkView → Result SendEnd ConnectionFault → List Event → Type 0
@@ -42,10 +42,16 @@ SendEnds new before after (Err fault.Closed) events = last_is is_closed_out even
 SendEnds new before after (Err fault.OutOfMemory) events = Unit {0}
 SendEnds new before after (Err _) events = ⊥
 
+-- Where it may close and nothing more will come, it is closing, unless the link wasn't ready.
+abbrev pub ClosesThen : Streams → LinkView → LinkView → Bool → List Event → Type 0
+ClosesThen new before after may_close events =
+    may_close ≡ true → last_is has_no_more events ≡ true → (new.closing ≡ true) ⊎ WasBlocked new.moved before after
+
 -- the same, and where the connection began to close
 pub record Sends (old new : Streams) (before after : LinkView) (may_close : Bool) (result : Result SendEnd ConnectionFault) (events : List Event) : Type 0 where
   pub end : SendEnds new before after result events
   pub closes : Closes old new may_close events
+  pub must : OnOk result (ClosesThen new before after may_close events)
 
 -- some event passes the test
 abbrev pub some_is : (Event → Bool) → List Event → Bool
@@ -63,6 +69,9 @@ pub record ReadDry (new : Streams) (before after : LinkView) : Type 0 where
   pub decoded : AllDecoded new
   pub cleared : IsCleared new
   pub nothing_due : IsTrue before.steady → NothingDueBefore before after
+  -- where nothing moved
+  pub empty : new.moved ≡ false → IsTrue before.steady → after.due ≡ Some []
+  pub lulls : new.moved ≡ false → IsTrue before.promised → Rose before.lulls after.lulls
 
 -- A connection that is closing was so before, or reading ended dry in this call and the hub's last answer
 -- was that nothing more will come.
@@ -74,8 +83,9 @@ BeganToClose old new before after events =
 pub record Waits (old new : Streams) (before after : LinkView) (events : List Event) : Type 0 where
   pub reading : (old.closing ≡ true) ⊎ ((some_is is_full events ≡ true) ⊎ ReadDry new before after)
   pub writing : StopsWriting new before after events
-  pub closing : new.closing ≡ true → WasBlocked before after
+  pub closing : new.closing ≡ true → WasBlocked new.moved before after
   pub began : BeganToClose old new before after events
+  pub must : ClosesThen new before after (not (some_is is_full events)) events
   pub still : old.closing ≡ true → OnlySends old new before after
 
 -- A turn that hands a message out reads no further, and the connection doesn't begin to close.
@@ -104,20 +114,28 @@ HandedTurn (Ok (turn.Handed message)) handed = Carries handed message
 HandedTurn (Ok _) handed = handed ≡ []
 HandedTurn (Err e) handed = Unit {0}
 
+-- A connection that is closing was so before, or the hub's last answer was that nothing more will come.
+abbrev pub ClosesBy : Streams → Streams → List Event → Type 0
+ClosesBy old new events = new.closing ≡ true → (old.closing ≡ true) ⊎ (last_is has_no_more events ≡ true)
+
+-- why a turn failed
+abbrev pub TurnFails : Streams → Streams → LinkView → LinkView → ConnectionFault → List Event → Type 0
+TurnFails old new before after fault.Link events = Rose before.faults after.faults
+TurnFails old new before after fault.Closed events = EndsWhole old new before after ⊎ (last_is is_closed_out events ≡ true)
+TurnFails old new before after fault.Ended events = EndsInside new before after
+TurnFails old new before after fault.BadLength events = has_bad_header new.buffer.items ≡ true
+TurnFails old new before after fault.Layout events = BreaksLayout new
+TurnFails old new before after (fault.Unreadable c) events = LeavesUnread new c ⊎ LeavesDelayed new c
+TurnFails old new before after (fault.Unasked e) events = (last_is has_no_request events ≡ true) × IsUnasked (waiting new.held) (fault.Unasked e) × (new.closing ≡ false)
+TurnFails old new before after (fault.LimitReached given limit) events = (given ≡ new.given) × (limit ≡ new.max_bytes) × (limit < given)
+TurnFails old new before after fault.OutOfMemory events = Unit {0}
+
 -- how a turn ended
 abbrev pub TurnEnds : Streams → Streams → LinkView → LinkView → Result TurnEnd ConnectionFault → List Event → Type 0
 TurnEnds old new before after (Ok (turn.Handed message)) events = HandsOut old new before after events
 TurnEnds old new before after (Ok turn.Waits) events = Waits old new before after events
 TurnEnds old new before after (Ok turn.Over) events = IsOver old new before after events
-TurnEnds old new before after (Err fault.Link) events = Rose before.faults after.faults
-TurnEnds old new before after (Err fault.Closed) events = EndsWhole old new before after ⊎ (last_is is_closed_out events ≡ true)
-TurnEnds old new before after (Err fault.Ended) events = EndsInside new before after
-TurnEnds old new before after (Err fault.BadLength) events = has_bad_header new.buffer.items ≡ true
-TurnEnds old new before after (Err fault.Layout) events = BreaksLayout new
-TurnEnds old new before after (Err (fault.Unreadable c)) events = LeavesUnread new c ⊎ LeavesDelayed new c
-TurnEnds old new before after (Err (fault.Unasked e)) events = (last_is has_no_request events ≡ true) × IsUnasked (waiting new.held) (fault.Unasked e) × (new.closing ≡ false)
-TurnEnds old new before after (Err (fault.LimitReached given limit)) events = (given ≡ new.given) × (limit ≡ new.max_bytes) × (limit < given)
-TurnEnds old new before after (Err fault.OutOfMemory) events = Unit {0}
+TurnEnds old new before after (Err e) events = ClosesBy old new events × TurnFails old new before after e events
 
 -- What a turn did to the hub, the link and what stands between them, and how it ended.
 pub record Turns {H : Type 0} (becomes : H → List Event → H → Type 0) (a b : H) (old new : Streams) (before after : LinkView) (result : Result TurnEnd ConnectionFault) : Type 0 where

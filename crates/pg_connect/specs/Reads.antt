@@ -223,22 +223,30 @@ LateEnds new (Err e) = RefusesFirst new e
 abbrev pub NothingDue : LinkView → Type 0
 NothingDue link = IfSome link.plan (λ plan. IfSome link.given (λ given. IfSome link.taken (λ taken. due_by plan given taken ≡ [])))
 
--- a read wasn't ready; a steady link had nothing due then
-pub record WasDry (before after : LinkView) : Type 0 where
+-- A read wasn't ready; a steady link had nothing due then. Where nothing moved, that is a lull of a link that was
+-- promised to be ready.
+pub record WasDry (moved : Bool) (before after : LinkView) : Type 0 where
   pub rose : Rose before.dry after.dry
   pub quiet : Rose before.quiet after.quiet
   pub nothing_due : IsTrue before.steady → NothingDue after
+  pub empty : IsTrue before.steady → after.due ≡ Some []
+  pub lulls : moved ≡ false → IsTrue before.promised → Rose before.lulls after.lulls
 
 -- how a piece was read
 abbrev pub PieceEnds : Streams → Streams → LinkView → LinkView → Result Bool ConnectionFault → Type 0
 PieceEnds old new before after (Ok true) = (old.given < new.given) × (new.given ≤ new.max_bytes)
-PieceEnds old new before after (Ok false) = WasDry before after × (new.buffer.items ≡ old.buffer.items) × (new.given ≡ old.given)
+PieceEnds old new before after (Ok false) = WasDry new.moved before after × (new.buffer.items ≡ old.buffer.items) × (new.given ≡ old.given)
 PieceEnds old new before after (Err fault.Link) = Rose before.faults after.faults
 PieceEnds old new before after (Err fault.Closed) = Rose before.ends after.ends × (new.buffer.items ≡ [])
 PieceEnds old new before after (Err fault.Ended) = Rose before.ends after.ends × (0 < length new.buffer.items) × (new.buffer.items ≡ old.buffer.items)
 PieceEnds old new before after (Err (fault.LimitReached given most)) = (given ≡ new.given) × (most ≡ new.max_bytes) × (most < given)
 PieceEnds old new before after (Err fault.OutOfMemory) = Unit {0}
 PieceEnds old new before after (Err _) = ⊥
+
+-- No more than the limit was given, unless the answer is that more were.
+abbrev pub IsWithin : {A : Type 0} → Streams → Result A ConnectionFault → Type 0
+IsWithin s (Err (fault.LimitReached given limit)) = Unit {0}
+IsWithin s other = s.given ≤ s.max_bytes
 
 -- what is handed out by a read step
 abbrev pub HandedBy : Result ReadEnd ConnectionFault → List RawMessage → Type 0
@@ -256,7 +264,7 @@ pub record EndsInside (s : Streams) (before after : LinkView) : Type 0 where
 abbrev pub ReadEnds : Streams → LinkView → LinkView → Result ReadEnd ConnectionFault → List Event → Type 0
 ReadEnds new before after (Ok (reads.Handed message)) events = Unit {0}
 ReadEnds new before after (Ok reads.Full) events = last_is is_full events ≡ true
-ReadEnds new before after (Ok reads.Dry) events = WasDry before after × AllDecoded new × IsCleared new
+ReadEnds new before after (Ok reads.Dry) events = WasDry new.moved before after × AllDecoded new × IsCleared new
 ReadEnds new before after (Err fault.Link) events = Rose before.faults after.faults
 ReadEnds new before after (Err fault.Closed) events = Rose before.ends after.ends × (new.buffer.items ≡ [])
 ReadEnds new before after (Err fault.Ended) events = EndsInside new before after

@@ -1,5 +1,5 @@
 -- Where a startup stands, and what its polls answer (PostgreSQL documentation, "Start-up").
-use Rattle.std.specs.Prelude.{◌≡◌, ◌≢◌, ℕ, zero, suc, ◌+◌, ◌<◌, ◌≤◌, Bool, true, false, List, [], ◌∷◌, ◌++◌, length, Option, Some, None, Result, Ok, Err, IsTrue, IsFalse}
+use Rattle.std.specs.Prelude.{◌≡◌, ◌≢◌, ℕ, zero, suc, ◌<◌, ◌≤◌, true, false, List, [], ◌∷◌, ◌++◌, length, Option, Some, None, Result, Ok, Err}
 use Rattle.std.specs.List.{list_all}
 use Rattle.pg_spec.specs.Causes.{is_built, is_built_message}
 use Rattle.pg_spec.specs.ConnectionStrings.{only_user}
@@ -11,7 +11,6 @@ use Rattle.pg_spec.specs.Settings.{startup_parameters}
 use Rattle.pg_spec.specs.Startup as startups
 use Rattle.pg_wire.specs.Faults.{frame_fault}
 use Rattle.pg_wire.specs.LinkCalls.{Keeps}
-use Rattle.pg_wire.specs.declared.fault.FrameFault.{FrameFault}
 use Rattle.pg_wire.specs.declared.fault.WireFault.{WireFault}
 use Rattle.pg_wire.specs.declared.fault.WireFault.TheVariants as wire
 use Rattle.pg_errors.specs.declared.cause.Cause.TheVariants as cause
@@ -140,6 +139,11 @@ pub record HeardAll (name nonce : List ℕ) (read : List RawMessage) (old new : 
   pub header : has_bad_header new ≡ false
   pub leads : Leads name nonce (read ++ messages old) (phase_of at)
 
+-- where it waits for more, no whole message is left
+abbrev pub LeavesNone : List ℕ → Heard → Type 0
+LeavesNone left heard.More = messages left ≡ []
+LeavesNone left heard.Done = Unit {0}
+
 -- The same of all that is buffered; a header below 4 behind the messages ends it too.
 abbrev pub HearsAll : (name nonce : List ℕ) (read : List RawMessage) (old new : List ℕ) → Phase → Result Heard Error → Type 0
 HearsAll name nonce read old new at (Ok heard.More) = HeardAll name nonce read old new at
@@ -190,6 +194,11 @@ FailsBy name nonce begin now got s (error.LimitReached given limit) = (given ≡
 FailsBy name nonce begin now got s error.OutOfMemory = Unit {0}
 FailsBy name nonce begin now got s _ = ⊥
 
+-- no more than the limit was given, unless the error is that more were
+abbrev pub IsWithinStart : Error → (given limit : ℕ) → Type 0
+IsWithinStart (error.LimitReached counted most) given limit = Unit {0}
+IsWithinStart _ given limit = given ≤ limit
+
 -- It failed: what the link gave and took, and why.
 pub record Failed (name nonce : List ℕ) (begin now : LinkView) (s : Startup) (e : Error) : Type 0 where
   pub got : List ℕ
@@ -200,3 +209,4 @@ pub record Failed (name nonce : List ℕ) (begin now : LinkView) (s : Startup) (
   pub frame : frame_of name ≡ Ok s.opening.items
   pub link : Keeps begin now
   pub fails : FailsBy name nonce begin now got s e
+  pub within : IsWithinStart e (length got) s.max_bytes

@@ -142,6 +142,7 @@ impl Streams {
         ensures given { self.new.given ≡ self.old.given }
         ensures limit { self.new.max_bytes ≡ self.old.max_bytes }
         ensures closing { self.new.closing ≡ self.old.closing }
+        ensures at_end { self.new.at_end ≡ self.old.at_end }
     {
         match self.first_notice(alloc) {
             None => Ok(None),

@@ -3,7 +3,7 @@
 ghost use Rattle.std.specs.Prelude.{◌≡◌, ◌^◌, ◌<◌, ◌≤◌, false, option_map, slice_get};
 ghost use Rattle.pg_connect.specs.Kept.{value_of};
 ghost use Rattle.pg_wire.specs.LinkCalls.{Keeps, WaitAnswers};
-ghost use Rattle.pg_connect.specs.Answers.{PollAnswers};
+ghost use Rattle.pg_connect.specs.Answers.{PollAnswers, IsWithinPoll};
 
 use crate::Streams;
 use futures::task::Poll;
@@ -33,6 +33,7 @@ impl<L: Link> Connection<L> {
         ensures answer { PollAnswers E.becomes hub.old hub.new self.old.streams self.new.streams (L.view self.old.link) (L.view self.new.link) result }
         ensures limit { self.new.streams.max_bytes ≡ self.old.streams.max_bytes }
         ensures given { self.new.streams.ended ≡ false → self.new.streams.given ≤ self.new.streams.max_bytes }
+        ensures limit_kept { self.old.streams.ended ≡ false → IsWithinPoll self.new.streams result }
     {
         self.streams.poll_message(alloc, &mut self.link, hub)
     }

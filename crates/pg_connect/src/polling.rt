@@ -1,7 +1,8 @@
 //! One poll of the connection.
 
 ghost use Rattle.std.specs.Prelude.{◌≡◌, ◌^◌, ◌<◌, ◌≤◌, true, false, [], ◌∷◌};
-ghost use Rattle.pg_connect.specs.Answers.{PollAnswers, is_over};
+ghost use Rattle.pg_connect.specs.Calm.{StaysCalm};
+ghost use Rattle.pg_connect.specs.Answers.{PollAnswers, IsWithinPoll, is_over};
 ghost use Rattle.pg_desk.specs.declared.event.Event.TheVariants.{Fail};
 
 use crate::{Streams, TurnEnd};
@@ -12,11 +13,11 @@ use pg_wire::Link;
 use std::alloc::Global;
 
 impl Streams {
-    /// It answered its end or an error.
+    /// It answered its end or an error, the link gave its end, or a message was left unread.
     fn is_over(&self) -> bool
         ensures { result ≡ is_over self.now }
     {
-        self.ended || self.unread.is_some()
+        self.ended || self.at_end || self.unread.is_some()
     }
 
     /// Nothing has moved yet.
@@ -35,6 +36,7 @@ impl Streams {
 
     /// Reads, writes and flushes. Its end (`None`) or an error is answered once, and Closed from then on;
     /// an error makes the hub fail. The errors are those of `ConnectionFault`.
+    #[tactic(auto, using(crate::proofs::Calm::calm_then, crate::proofs::Calm::calm_call, crate::proofs::Calm::calm_more, crate::proofs::Calm::calm_same))]
     pub fn poll_message<L: Link, E: Engine>(
         &mut self,
         alloc: Global,
@@ -46,6 +48,8 @@ impl Streams {
         ensures answer { PollAnswers E.becomes hub.old hub.new self.old self.new (L.view link.old) (L.view link.new) result }
         ensures limit { self.new.max_bytes ≡ self.old.max_bytes }
         ensures given { self.new.ended ≡ false → self.new.given ≤ self.new.max_bytes }
+        ensures limit_kept { self.old.ended ≡ false → IsWithinPoll self.new result }
+        ensures calm { StaysCalm (L.view link.old) (L.view link.new) }
     {
         let over = self.is_over();
         self.begin();

@@ -3,8 +3,9 @@
 ghost use Rattle.std.specs.Prelude.{◌≡◌, ◌^◌, ◌<◌, ◌≤◌, ◌++◌, ◌+◌, [], true, None, Some, length, OnOk};
 ghost use Rattle.pg_spec.specs.Batches.{is_batch};
 ghost use Rattle.pg_spec.specs.Links.{LinkView};
+ghost use Rattle.pg_connect.specs.Calm.{StaysCalm};
 ghost use Rattle.pg_connect.specs.Passes.{Passes, PassesOn, Goes, Hands, OnlyReads, risen, waiting};
-ghost use Rattle.pg_connect.specs.Reads.{IsUnasked, HandedOff, OffEnds, DeliverEnds, HandedIn, PassEnds, HandedAll, AllEnds, PieceEnds, HandedBy, ReadEnds};
+ghost use Rattle.pg_connect.specs.Reads.{IsUnasked, HandedOff, OffEnds, DeliverEnds, HandedIn, PassEnds, IsWithin, HandedAll, AllEnds, PieceEnds, HandedBy, ReadEnds};
 
 use crate::asides::unasked;
 use crate::{ConnectionFault, Held, Off, ReadEnd, Step, Streams};
@@ -36,6 +37,7 @@ impl Streams {
         ensures delayed { self.new.delayed.items ≡ [] }
         ensures unread { OnOk result (self.new.unread ≡ None) }
         ensures closing { self.new.closing ≡ self.old.closing }
+        ensures at_end { self.new.at_end ≡ self.old.at_end }
     {
         match PostgresCodec::decode(&mut self.buffer) {
             Ok(None) => Ok(Off::Nothing),
@@ -77,6 +79,7 @@ impl Streams {
         ensures delayed { self.new.delayed.items ≡ self.old.delayed.items }
         ensures unread { self.new.unread ≡ None }
         ensures closing { self.new.closing ≡ self.old.closing }
+        ensures at_end { self.new.at_end ≡ self.old.at_end }
     {
         let held = match self.held.take() {
             None => return Ok(true),
@@ -118,6 +121,7 @@ impl Streams {
         ensures delayed { self.new.delayed.items ≡ [] }
         ensures unread { OnOk result (self.new.unread ≡ None) }
         ensures closing { self.new.closing ≡ self.old.closing }
+        ensures at_end { self.new.at_end ≡ self.old.at_end }
     {
         match self.take_off(alloc) {
             Ok(Off::Held) => match self.deliver_held(alloc, hub) {
@@ -145,6 +149,7 @@ impl Streams {
         ensures delayed { self.new.delayed.items ≡ [] }
         ensures unread { OnOk result (self.new.unread ≡ None) }
         ensures closing { self.new.closing ≡ self.old.closing }
+        ensures at_end { self.new.at_end ≡ self.old.at_end }
     {
         'front: loop {
             match self.pass_on(alloc, hub) {
@@ -168,6 +173,7 @@ impl Streams {
     }
 
     /// Reads a piece of the link into the buffer. `false`: the link isn't ready.
+    #[tactic(auto, using(crate::proofs::Calm::calm_then, crate::proofs::Calm::calm_call, crate::proofs::Calm::calm_more, crate::proofs::Calm::calm_same))]
     pub(crate) fn read_piece<L: Link>(&mut self, link: &mut L) -> Result<bool, ConnectionFault>
         requires limit { self.old.max_bytes < 2 ^ 63 }
         requires given { self.old.given ≤ self.old.max_bytes }
@@ -178,6 +184,9 @@ impl Streams {
         ensures held { self.new.held ≡ self.old.held }
         ensures delayed { self.new.delayed.items ≡ self.old.delayed.items }
         ensures unread { self.new.unread ≡ None }
+        ensures within { IsWithin self.new result }
+        ensures at_end { OnOk result (self.new.at_end ≡ self.old.at_end) }
+        ensures calm { StaysCalm (L.view link.old) (L.view link.new) }
     {
         match self.buffer.reserve(PIECE) {
             Ok(()) => {}
@@ -198,6 +207,7 @@ impl Streams {
             LinkRead::NotReady => Ok(false),
             LinkRead::End => {
                 self.moved = true;
+                self.at_end = true;
                 if self.buffer.is_empty() {
                     Err(ConnectionFault::Closed)
                 } else {
@@ -209,6 +219,7 @@ impl Streams {
     }
 
     /// Reads piece after piece, with all that came passed on before the next read.
+    #[tactic(auto, using(crate::proofs::Calm::calm_then, crate::proofs::Calm::calm_call, crate::proofs::Calm::calm_more, crate::proofs::Calm::calm_same))]
     pub(crate) fn read_link<L: Link, E: Engine>(
         &mut self,
         alloc: Global,
@@ -224,7 +235,9 @@ impl Streams {
             (ReadEnds self.new (L.view link.old) (L.view link.new) result) }
         ensures only { OnlyReads self.old self.new (L.view link.old) (L.view link.new) }
         ensures unread { OnOk result (self.new.unread ≡ None) }
-        ensures within { OnOk result (self.new.given ≤ self.new.max_bytes) }
+        ensures within { IsWithin self.new result }
+        ensures at_end { OnOk result (self.new.at_end ≡ self.old.at_end) }
+        ensures calm { StaysCalm (L.view link.old) (L.view link.new) }
     {
         'pieces: loop {
             match self.pass_all(alloc, hub) {
@@ -242,6 +255,7 @@ impl Streams {
     }
 
     /// The read step: what is delayed and held first, then the link.
+    #[tactic(auto, using(crate::proofs::Calm::calm_then, crate::proofs::Calm::calm_call, crate::proofs::Calm::calm_more, crate::proofs::Calm::calm_same))]
     pub(crate) fn read_step<L: Link, E: Engine>(
         &mut self,
         alloc: Global,
@@ -255,7 +269,9 @@ impl Streams {
             (ReadEnds self.new (L.view link.old) (L.view link.new) result) }
         ensures only { OnlyReads self.old self.new (L.view link.old) (L.view link.new) }
         ensures unread { OnOk result (self.new.unread ≡ None) }
-        ensures within { OnOk result (self.new.given ≤ self.new.max_bytes) }
+        ensures within { IsWithin self.new result }
+        ensures at_end { OnOk result (self.new.at_end ≡ self.old.at_end) }
+        ensures calm { StaysCalm (L.view link.old) (L.view link.new) }
     {
         match self.hand_delayed(alloc) {
             Ok(None) => {}

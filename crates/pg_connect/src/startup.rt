@@ -1,16 +1,17 @@
 //! The startup dialogue: the startup frame is sent, and the server's messages are read up to its first
 //! ReadyForQuery. So far the messages AuthenticationOk and ReadyForQuery are known.
 
-ghost use Rattle.std.specs.Prelude.{◌≡◌, ◌≤◌, ◌<◌, ◌^◌, ◌++◌, ◌∷◌, [], ℕ, List, Ok, Err, length, true, MatchResult, OnOk};
+ghost use Rattle.std.specs.Prelude.{◌≡◌, ◌≤◌, ◌<◌, ◌^◌, ◌++◌, ◌∷◌, [], ℕ, List, Ok, Err, length, true, false, IfErr, IfOk, MatchResult, OnOk};
 ghost use Rattle.std.specs.Prelude.{Bool, drop, ◌+◌};
-ghost use Rattle.pg_connect.specs.StartupPolls.{Sends, OfferEnds, Reads, PieceEnds, StartupAnswers, SameStart, IsFresh};
+ghost use Rattle.pg_connect.specs.Calm.{StaysCalm};
+ghost use Rattle.pg_connect.specs.StartupPolls.{GoesOn, IsNearer, Listens, Sends, SentEnds, OfferEnds, Reads, PieceEnds, StartupAnswers, SameStart, IsFresh};
 ghost use Rattle.pg_spec.specs.Batches.{is_batch};
-ghost use Rattle.pg_spec.specs.Links.{LinkView, Rose};
+ghost use Rattle.pg_spec.specs.Links.{LinkView};
 ghost use Rattle.futures.specs.Poll.{OnPending};
 ghost use Rattle.pg_spec.specs.Messages.{message_of};
 ghost use Rattle.pg_spec.specs.RawMessages.{RawMessage};
 ghost use Rattle.pg_wire.specs.Messages.{message_view};
-ghost use Rattle.pg_connect.specs.Startups.{Made, Leads, Hears, HearsAll, refusal_of, stop_of, Judges, IsKnown, IsLast, WasLast, Opening, Opened, Failed, phase_of};
+ghost use Rattle.pg_connect.specs.Startups.{Made, Leads, LeavesNone, Hears, HearsAll, refusal_of, stop_of, Judges, IsKnown, IsLast, WasLast, IsWithinStart, Opening, Opened, Failed, phase_of};
 
 use crate::{Parameters, Streams};
 use bytes::{Bytes, BytesMut};
@@ -171,6 +172,7 @@ impl Startup {
     fn hear_all(&mut self) -> Result<Heard, Error>
         ensures heard { (name nonce : List ℕ) (read : List RawMessage) → Leads name nonce read (phase_of self.old.phase) →
             HearsAll name nonce read self.old.buffer.items self.new.buffer.items self.new.phase result }
+        ensures none { IfOk result (LeavesNone self.new.buffer.items) }
         ensures same { self.new ≡ record self.old { phase = self.new.phase; buffer = self.new.buffer } }
     {
         'batches: loop {
@@ -203,9 +205,11 @@ impl Startup {
     }
 
     /// Offers what is unsent until nothing is left (`true`), or until the link isn't ready (`false`).
+    #[tactic(auto, using(crate::proofs::Calm::calm_then, crate::proofs::Calm::calm_call, crate::proofs::Calm::calm_more, crate::proofs::Calm::calm_same))]
     fn offer<L: Link>(&mut self, link: &mut L) -> Result<bool, Error>
         ensures sends { Sends self.old self.new (L.view link.old) (L.view link.new) }
         ensures end { OfferEnds self.new (L.view link.old) (L.view link.new) result }
+        ensures calm { StaysCalm (L.view link.old) (L.view link.new) }
     {
         while !self.unsent.is_empty() {
             match link.write(self.unsent.as_slice()) {
@@ -219,9 +223,11 @@ impl Startup {
     }
 
     /// Passes the frame on once it was taken whole. `false`: the link isn't ready.
+    #[tactic(auto, using(crate::proofs::Calm::calm_then, crate::proofs::Calm::calm_call, crate::proofs::Calm::calm_more, crate::proofs::Calm::calm_same))]
     fn send<L: Link>(&mut self, link: &mut L) -> Result<bool, Error>
         ensures sends { Sends self.old self.new (L.view link.old) (L.view link.new) }
-        ensures end { OfferEnds self.new (L.view link.old) (L.view link.new) result }
+        ensures end { SentEnds self.new (L.view link.old) (L.view link.new) result }
+        ensures calm { StaysCalm (L.view link.old) (L.view link.new) }
     {
         if self.flushed && self.unsent.is_empty() {
             return Ok(true);
@@ -254,11 +260,14 @@ impl Startup {
     }
 
     /// Reads a piece of the link into the buffer. `false`: the link isn't ready.
+    #[tactic(auto, using(crate::proofs::Calm::calm_then, crate::proofs::Calm::calm_call, crate::proofs::Calm::calm_more, crate::proofs::Calm::calm_same))]
     fn read_piece<L: Link>(&mut self, link: &mut L) -> Result<bool, Error>
         requires limit { self.old.max_bytes < 2 ^ 63 }
         requires given { self.old.given ≤ self.old.max_bytes }
         ensures reads { Reads self.old self.new (L.view link.old) (L.view link.new) }
         ensures end { PieceEnds self.old self.new (L.view link.old) (L.view link.new) result }
+        ensures within { IfErr result (λ e. IsWithinStart e self.new.given self.new.max_bytes) }
+        ensures calm { StaysCalm (L.view link.old) (L.view link.new) }
     {
         if self.buffer.reserve(PIECE).is_err() {
             return Err(Error::OutOfMemory);
@@ -288,15 +297,20 @@ impl Startup {
     }
 
     /// Hears what comes until the startup answers or the link isn't ready.
+    #[tactic(auto, using(crate::proofs::Calm::calm_then, crate::proofs::Calm::calm_call, crate::proofs::Calm::calm_more, crate::proofs::Calm::calm_same))]
     fn listen<L: Link>(&mut self, link: &mut L) -> Poll<Result<(), Error>>
         requires limit { self.old.max_bytes < 2 ^ 63 }
         requires given { self.old.given ≤ self.old.max_bytes }
         requires sent { self.old.unsent ≡ [] }
+        requires flushed { self.old.flushed ≡ true }
         ensures answer { (name nonce : List ℕ) (begin : LinkView) → Opening name nonce begin (L.view link.old) self.old →
             StartupAnswers name nonce begin (L.view link.new) self.new result }
-        ensures pending { OnPending result (Rose (L.view link.old).quiet (L.view link.new).quiet) }
+        ensures pending { OnPending result (GoesOn self.new (L.view link.old) (L.view link.new)) }
+        ensures moved { OnPending result (self.new.moved ≡ false → self.old.moved ≡ false) }
+        ensures listens { OnPending result (Listens self.old self.new) }
         ensures within { OnPending result (self.new.given ≤ self.new.max_bytes) }
         ensures same { SameStart self.old self.new }
+        ensures calm { StaysCalm (L.view link.old) (L.view link.new) }
     {
         'pieces: loop {
             match self.hear_all() {
@@ -313,15 +327,18 @@ impl Startup {
     }
 
     /// Sends the startup frame, passes it on, and reads up to the server's first ReadyForQuery. Pending
-    /// comes only where a call of the link wasn't ready.
+    /// comes only where a call of the link wasn't ready. A poll in which something moved leaves less to do.
+    #[tactic(auto, using(crate::proofs::Calm::calm_then, crate::proofs::Calm::calm_call, crate::proofs::Calm::calm_more, crate::proofs::Calm::calm_same))]
     pub fn poll<L: Link>(&mut self, link: &mut L) -> Poll<Result<(), Error>>
         requires limit { self.old.max_bytes < 2 ^ 63 }
         requires given { self.old.given ≤ self.old.max_bytes }
         ensures answer { (name nonce : List ℕ) (begin : LinkView) → Opening name nonce begin (L.view link.old) self.old →
             StartupAnswers name nonce begin (L.view link.new) self.new result }
-        ensures pending { OnPending result (Rose (L.view link.old).quiet (L.view link.new).quiet) }
+        ensures pending { OnPending result (GoesOn self.new (L.view link.old) (L.view link.new)) }
+        ensures nearer { OnPending result (IsNearer self.old self.new) }
         ensures within { OnPending result (self.new.given ≤ self.new.max_bytes) }
         ensures same { SameStart self.old self.new }
+        ensures calm { StaysCalm (L.view link.old) (L.view link.new) }
     {
         self.moved = false;
         match self.send(link) {
@@ -358,6 +375,7 @@ impl Startup {
             unsent: Bytes::new(),
             closing: false,
             ended: false,
+            at_end: false,
             moved: false,
             delivered: 0,
         };

@@ -39,6 +39,8 @@ pub struct Streams {
     pub closing: bool,
     /// It answered its end or an error.
     pub ended: bool,
+    /// The link gave its end.
+    pub at_end: bool,
     /// Something moved in the last poll.
     pub moved: bool,
     /// How many messages were delivered or discarded since the startup.

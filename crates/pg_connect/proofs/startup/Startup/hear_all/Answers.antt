@@ -62,6 +62,10 @@ returns-in-Ok-Done-clause-heard c name nonce read leads =
           ∙ ap (λ (s : Startup). h.0 ++ messages s.buffer.items) (sym c.in-Ok-Done.ensures.same)) h.2,
     )
 
+pub returns-in-Ok-None-clause-none : goal.returns-in-Ok-None-clause-none
+returns-in-Ok-None-clause-none c =
+    let t = rw c.in-Ok-None.field-0-is at c.in-Ok-None.ensures in ap messages t.same ∙ t.none
+
 pub returns-in-Ok-None-clause-heard : goal.returns-in-Ok-None-clause-heard
 returns-in-Ok-None-clause-heard c name nonce read leads =
     let t = rw c.in-Ok-None.field-0-is at c.in-Ok-None.ensures in

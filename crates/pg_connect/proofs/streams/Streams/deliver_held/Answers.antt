@@ -7,7 +7,7 @@ use Rattle.pg_desk.specs.declared.event.Event.TheVariants.{Deliver}
 use Rattle.pg_connect.specs.declared.streams.Streams.{Streams}
 use Rattle.pg_connect.specs.Passes.{Passes, waiting, risen}
 use Rattle.pg_connect.specs.Reads.{IsUnasked}
-use Rattle.pg_connect.proofs.Joining.{keeps_same}
+use Rattle.pg_connect.proofs.Joining.{keeps_same, untouched_same}
 use Rattle.pg_connect.proofs.Sends.{or_false, or_true}
 use Rattle.pg_connect.proofs.Arriving.{reads_nothing, delivers}
 use Rattle.pg_connect.proofs.Delivering.{delivered_taken, delivered_back, unasked_back}
@@ -18,9 +18,9 @@ returns-in-None-clause-goes g c = λ l. record {
   events = [];
   calls = tt;
   became = g.met.E.Desk.stays c.args.hub.now;
-  passes = reads_nothing c.args.self.now _ l l c.requires (record { given = refl; taken = refl; due = refl })
+  passes = reads_nothing c.args.self.now _ l l c.requires (untouched_same l)
       (record { buffer = refl; unread = c.requires; held = ap waiting (c.take.ensures.after ∙ c.in-None.ensures.value); delayed = refl; parameters = refl; given = refl; delivered = refl })
-      (record { unsent = refl; closing = refl; limit = refl; ended = refl }) refl (keeps_same l);
+      (record { unsent = refl; closing = refl; limit = refl; ended = refl; at_end = refl }) refl (keeps_same l);
   ended = c.take.ensures.after;
 }
 
@@ -30,7 +30,7 @@ returns-in-Taken-clause-goes g c =
     let e : Event = Deliver batch c.in-Some.held.complete answer.Taken in
     λ l. record {
       events = e ∷ [];
-      calls = (tt, tt);
+      calls = (c.in-Some.held.some, tt);
       became = c.in-Taken.ensures.event;
       passes = delivered_taken c.args.self.now c.take.new.self c.count.new.self l batch c.in-Some.held.complete c.len-messages.result c.requires
           (ap waiting (sym c.in-Some.ensures.value)) c.take.ensures.after c.len-messages.ensures c.count.ensures;
@@ -42,7 +42,7 @@ returns-in-Full-clause-goes g c =
     let e : Event = Deliver c.in-Some.held.batch c.in-Some.held.complete (answer.Full c.in-Full.batch) in
     λ l. record {
       events = e ∷ [];
-      calls = (tt, tt);
+      calls = (c.in-Some.held.some, tt);
       became = c.in-Full.ensures.event;
       passes = delivered_back c.args.self.now c.take.new.self c.hold.new.self l e c.in-Full.batch c.requires refl refl refl
           (ap waiting (sym c.in-Some.ensures.value) ∙ sym c.in-Full.ensures.back) c.hold.ensures.held c.hold.ensures.same;
@@ -55,7 +55,7 @@ returns-in-NoRequest-clause-goes g c =
     let t = c.hold-in-NoRequest.new.self in
     λ l. record {
       events = e ∷ [];
-      calls = (tt, tt);
+      calls = (c.in-Some.held.some, tt);
       became = c.in-NoRequest.ensures.event;
       passes = delivered_back c.args.self.now c.take.new.self t l e c.in-NoRequest.batch c.requires refl refl refl
           (ap waiting (sym c.in-Some.ensures.value) ∙ sym c.in-NoRequest.ensures.back) c.hold-in-NoRequest.ensures.held c.hold-in-NoRequest.ensures.same;
@@ -67,7 +67,7 @@ returns-in-OutOfMemory-clause-goes g c =
     let e : Event = Deliver c.in-Some.held.batch c.in-Some.held.complete (answer.OutOfMemory c.in-OutOfMemory.batch) in
     λ l. record {
       events = e ∷ [];
-      calls = (tt, tt);
+      calls = (c.in-Some.held.some, tt);
       became = c.in-OutOfMemory.ensures.event;
       passes = delivered_back c.args.self.now c.take.new.self c.hold-in-OutOfMemory.new.self l e c.in-OutOfMemory.batch c.requires refl refl refl
           (ap waiting (sym c.in-Some.ensures.value) ∙ sym c.in-OutOfMemory.ensures.back) c.hold-in-OutOfMemory.ensures.held c.hold-in-OutOfMemory.ensures.same;

@@ -2,7 +2,7 @@ use Rattle.std.proofs.Common.{[], refl, subst, Some, Result, Ok, Err}
 use Rattle.pg_errors.specs.declared.db_error.DbError.{DbError}
 use Rattle.pg_connect.specs.declared.fault.ConnectionFault.{ConnectionFault}
 use Rattle.pg_connect.specs.Reads.{ReadsFirst}
-use Rattle.pg_connect.proofs.Joining.{keeps_same}
+use Rattle.pg_connect.proofs.Joining.{keeps_same, untouched_same}
 use Rattle.pg_connect.proofs.Taking.{delayed_taken, piece_none}
 use Rattle.pg_connect.proofs.streams.Streams.hand_delayed.Goals as goal
 
@@ -10,14 +10,14 @@ pub returns-in-None-clause-passes : goal.returns-in-None-clause-passes
 returns-in-None-clause-passes c = λ l. record {
   handed = [];
   is = refl;
-  passes = piece_none c.args.self.now c.args.self.now.buffer l l c.requires refl (record { given = refl; taken = refl; due = refl }) (keeps_same l);
+  passes = piece_none c.args.self.now c.args.self.now.buffer l l c.requires refl (untouched_same l) (keeps_same l);
 }
 
 pub returns-in-Some-Err-clause-passes : goal.returns-in-Some-Err-clause-passes
 returns-in-Some-Err-clause-passes c = λ l. record {
   handed = [];
   is = refl;
-  passes = piece_none c.args.self.now c.args.self.now.buffer l l c.requires refl (record { given = refl; taken = refl; due = refl }) (keeps_same l);
+  passes = piece_none c.args.self.now c.args.self.now.buffer l l c.requires refl (untouched_same l) (keeps_same l);
 }
 
 pub returns-in-Some-Ok-clause-passes : goal.returns-in-Some-Ok-clause-passes

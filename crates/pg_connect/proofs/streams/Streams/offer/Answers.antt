@@ -1,15 +1,17 @@
 use Rattle.std.proofs.Common.{[], refl, ap, ◌∙◌}
 use Rattle.pg_connect.specs.declared.streams.Streams.{Streams}
-use Rattle.pg_connect.proofs.Joining.{passes-joined, keeps_same}
+use Rattle.pg_connect.proofs.Calm.{calm_more, calm_same}
+use Rattle.pg_connect.proofs.Joining.{passes-joined, keeps_same, untouched_same}
 use Rattle.pg_connect.proofs.Sends.{passes_took_of, passes_nothing}
 use Rattle.pg_connect.proofs.streams.Streams.offer.Goals as goal
 
 pub loop-link-init : goal.loop-link-init
 loop-link-init g c = record {
-  passes = passes_nothing c.args.self.now (g.L.Link.view c.args.link.now) (g.L.Link.view c.args.link.now) [] c.requires (record { given = refl; taken = refl; due = refl }) (keeps_same _) refl refl refl;
-  only = record { given = refl; count = refl; buffer = refl; unread = refl };
+  passes = passes_nothing c.args.self.now (g.L.Link.view c.args.link.now) (g.L.Link.view c.args.link.now) [] c.requires (untouched_same _) (keeps_same _) refl refl refl;
+  only = record { given = refl; count = refl; buffer = refl; unread = refl; at_end = refl };
   closing = refl;
   unread = c.requires;
+  calm = calm_same _;
 }
 
 pub loop-link-preserved : goal.loop-link-preserved
@@ -27,7 +29,9 @@ loop-link-preserved g c =
         count = ap (λ (x : Streams). x.given) c.took.ensures ∙ was.only.count;
         buffer = ap (λ (x : Streams). x.buffer.items) c.took.ensures ∙ was.only.buffer;
         unread = ap (λ (x : Streams). x.unread) c.took.ensures ∙ was.only.unread;
+        at_end = ap (λ (x : Streams). x.at_end) c.took.ensures ∙ was.only.at_end;
       };
       closing = ap (λ (x : Streams). x.closing) c.took.ensures ∙ was.closing;
       unread = ap (λ (x : Streams). x.unread) c.took.ensures ∙ was.unread;
+      calm = calm_more _ _ _ _ was.calm c.in-Took.ensures.keeps c.in-Took.ensures.promise;
     }

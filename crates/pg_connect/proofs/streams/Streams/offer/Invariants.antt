@@ -1,4 +1,5 @@
 use Rattle.std.proofs.Common.{◌≡◌, [], None, length}
+use Rattle.pg_connect.specs.Calm.{StaysCalm}
 use Rattle.pg_connect.specs.Passes.{Passes, OnlySends}
 use Rattle.pg_connect.proofs.streams.Streams.offer.Given as goal
 
@@ -8,6 +9,7 @@ invariant-loop-link g l = record {
   only : OnlySends l.initial.self l.self (g.L.Link.view l.initial.link) (g.L.Link.view l.link);
   closing : l.self.closing ≡ l.initial.self.closing;
   unread : l.self.unread ≡ None;
+  calm : StaysCalm (g.L.Link.view l.initial.link) (g.L.Link.view l.link);
 }
 
 abbrev pub decreases-loop-link : goal.decreases-loop-link

@@ -1,6 +1,6 @@
 use Rattle.std.proofs.Common.{[], refl, ◌∙◌, None, Ok, Err, Some}
 use Rattle.pg_connect.specs.Reads.{PassEnds, AllEnds, HandedIn, HandedAll}
-use Rattle.pg_connect.proofs.Joining.{keeps_same}
+use Rattle.pg_connect.proofs.Joining.{keeps_same, untouched_same}
 use Rattle.pg_connect.proofs.Arriving.{reads_nothing}
 use Rattle.pg_connect.proofs.Parts.{Anything}
 use Rattle.pg_connect.proofs.Passing.{goes-both, goes-quietly, hands-both, went_on, stopped, any_link, handed_same, pass_stopped, pass_refused}
@@ -9,13 +9,14 @@ use Rattle.pg_connect.proofs.streams.Streams.pass_all.Goals as goal
 pub front-init : goal.front-init
 front-init g c = record {
   goes = λ v. goes-quietly _ _ (g.met.E.Desk.stays c.args.hub.now) c.args.self.now c.args.self.now v v [] Anything
-      (reads_nothing c.args.self.now c.args.self.now v v c.requires.unread (record { given = refl; taken = refl; due = refl })
+      (reads_nothing c.args.self.now c.args.self.now v v c.requires.unread (untouched_same v)
       (record { buffer = refl; unread = c.requires.unread; held = refl; delayed = refl; parameters = refl; given = refl; delivered = refl })
-      (record { unsent = refl; closing = refl; limit = refl; ended = refl }) refl (keeps_same v)) tt;
+      (record { unsent = refl; closing = refl; limit = refl; ended = refl; at_end = refl }) refl (keeps_same v)) tt;
   held = c.requires.held;
   delayed = c.requires.delayed;
   unread = c.requires.unread;
   closing = refl;
+  at_end = refl;
 }
 
 pub front-smaller : goal.front-smaller
@@ -35,6 +36,7 @@ front-preserved g c =
       delayed = w.ensures.delayed;
       unread = w.ensures.unread;
       closing = w.ensures.closing ∙ c.front.invariant.closing;
+      at_end = w.ensures.at_end ∙ c.front.invariant.at_end;
     }
 
 pub returns-in-Ok-Some-clause-goes : goal.returns-in-Ok-Some-clause-goes

@@ -11,6 +11,7 @@ invariant-front g l = record {
   delayed : l.self.delayed.items ≡ [];
   unread : l.self.unread ≡ None;
   closing : l.self.closing ≡ l.initial.self.closing;
+  at_end : l.self.at_end ≡ l.initial.self.at_end;
 }
 
 abbrev pub decreases-front : goal.decreases-front

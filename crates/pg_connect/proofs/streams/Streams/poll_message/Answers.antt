@@ -9,13 +9,13 @@ pub returns-in-Ok-Handed-clause-answer : goal.returns-in-Ok-Handed-clause-answer
 returns-in-Ok-Handed-clause-answer g c =
     let w = c.in-Ok-Handed in
     turned_on _ _ _ c.args.self.now c.begin.new.self c.turn.new.self (g.L.Link.view c.args.link.now) (g.L.Link.view c.turn.new.link) (turn.Handed w.message) w.field-0
-    (sym c.is_over-over.ensures ∙ c.if-over.false) c.begin.ensures w.field-0-is w.ensures.unread w.ensures.turns
+    (sym c.is_over-over.ensures ∙ c.if-over.false) c.begin.ensures w.field-0-is w.ensures.unread w.ensures.at_end w.ensures.turns
 
 pub returns-in-Ok-Waits-clause-answer : goal.returns-in-Ok-Waits-clause-answer
 returns-in-Ok-Waits-clause-answer g c =
     let w = c.in-Ok-Waits in
     turned_on _ _ _ c.args.self.now c.begin.new.self c.turn.new.self (g.L.Link.view c.args.link.now) (g.L.Link.view c.turn.new.link) turn.Waits w.field-0
-    (sym c.is_over-over.ensures ∙ c.if-over.false) c.begin.ensures w.field-0-is w.ensures.unread w.ensures.turns
+    (sym c.is_over-over.ensures ∙ c.if-over.false) c.begin.ensures w.field-0-is w.ensures.unread w.ensures.at_end w.ensures.turns
 
 pub returns-in-Ok-Over-clause-answer : goal.returns-in-Ok-Over-clause-answer
 returns-in-Ok-Over-clause-answer g c =
@@ -26,7 +26,7 @@ returns-in-Ok-Over-clause-answer g c =
 pub returns-in-Err-clause-answer : goal.returns-in-Err-clause-answer
 returns-in-Err-clause-answer g c =
     let w = c.in-Err in (
-      ap (λ (x : Streams). x.ended || is_some x.unread) c.end-in-Err.ensures,
+      ap (λ (x : Streams). (x.ended || x.at_end) || is_some x.unread) c.end-in-Err.ensures,
       inr (turned_failed _ _ _ _ c.args.self.now c.begin.new.self c.turn.new.self c.end-in-Err.new.self (g.L.Link.view c.args.link.now) (g.L.Link.view c.turn.new.link) w.fault c.into_error.result
           c.fail.result (sym c.is_over-over.ensures ∙ c.if-over.false) c.begin.ensures c.end-in-Err.ensures c.into_error.ensures w.ensures.turns c.fail.ensures.event),
     )

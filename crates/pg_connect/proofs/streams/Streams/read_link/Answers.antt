@@ -1,12 +1,15 @@
-use Rattle.std.proofs.Common.{[], ◌∷◌, refl, subst, ◌∙◌, arith, Bool, true, false, Ok, Err}
+use Rattle.std.proofs.Common.{[], refl, subst, ◌∙◌, arith, Bool, true, false, Ok, Err}
 use Rattle.pg_connect.specs.declared.ends.Step.TheVariants as step
+use Rattle.pg_connect.specs.declared.ends.ReadEnd.{ReadEnd}
 use Rattle.pg_connect.specs.declared.ends.ReadEnd.TheVariants as ending
 use Rattle.pg_connect.specs.Reads.{AllEnds, PieceEnds, HandedAll, HandedBy, ReadEnds}
-use Rattle.pg_connect.proofs.Joining.{keeps_same, goes-also}
+use Rattle.pg_connect.proofs.Calm.{calm_same, calm_then}
+use Rattle.pg_connect.proofs.Joining.{keeps_same, goes-also, untouched_same}
 use Rattle.pg_connect.proofs.Clearing.{cleared_by}
 use Rattle.pg_connect.proofs.Taking.{piece_none}
 use Rattle.pg_connect.proofs.Parts.{Anything}
-use Rattle.pg_connect.proofs.Passing.{goes-both, goes-quietly, hands-both, idle, idle_goes, any_link, given_same, last_behind, all_refused, piece_refused, settled, dry_later, decoded_same}
+use Rattle.pg_connect.proofs.Passing.{goes-both, goes-quietly, hands-both, idle, idle_goes, any_link, given_same, last_behind, all_refused, piece_refused, settled, dry_later, decoded_same, untouched_first}
+use Rattle.pg_connect.proofs.Within.{within-any}
 use Rattle.pg_connect.proofs.streams.Streams.read_link.Goals as goal
 
 pub pieces-init : goal.pieces-init
@@ -14,13 +17,15 @@ pieces-init g c =
     let v = g.L.Link.view c.args.link.now in
     record {
       goes = goes-quietly _ _ (g.met.E.Desk.stays c.args.hub.now) c.args.self.now c.args.self.now v v [] Anything
-          (piece_none c.args.self.now c.args.self.now.buffer v v c.requires.unread refl (record { given = refl; taken = refl; due = refl }) (keeps_same v)) tt;
+          (piece_none c.args.self.now c.args.self.now.buffer v v c.requires.unread refl (untouched_same v) (keeps_same v)) tt;
       only = record { taken = refl; closing = refl };
+      at_end = refl;
       held = c.requires.held;
       delayed = c.requires.delayed;
       unread = c.requires.unread;
       limit = refl;
       given = c.requires.given;
+      calm = calm_same v;
     }
 
 pub read_piece-requires-clause-limit : goal.read_piece-requires-clause-limit
@@ -94,11 +99,13 @@ pieces-preserved g c =
         taken = c.in-Ok-true.ensures.only.taken ∙ c.pieces.invariant.only.taken;
         closing = c.in-Ok-true.ensures.only.closing ∙ all.ensures.closing ∙ c.pieces.invariant.only.closing;
       };
+      at_end = c.in-Ok-true.ensures.at_end ∙ all.ensures.at_end ∙ c.pieces.invariant.at_end;
       held = c.in-Ok-true.ensures.held ∙ i.held;
       delayed = c.in-Ok-true.ensures.delayed ∙ all.ensures.delayed;
       unread = c.in-Ok-true.ensures.unread;
       limit = c.in-Ok-true.ensures.passes.limit ∙ i.limit ∙ c.pieces.invariant.limit;
       given = end.1;
+      calm = calm_then a v w c.pieces.invariant.calm c.in-Ok-true.ensures.calm;
     }
 
 pub returns-in-Ok-false-clause-goes : goal.returns-in-Ok-false-clause-goes
@@ -119,7 +126,8 @@ returns-in-Ok-false-clause-goes g c =
       is = refl;
       goes = goes-also _ _ _ c.args.self.now t u a v w [] [] Anything _ so_far c.in-Ok-false.ensures.passes
           (λ es was. (
-            dry_later a v w c.pieces.invariant.goes.passes.link end.0,
+            dry_later u.moved a v w c.pieces.invariant.goes.passes.link
+                (untouched_first c.args.self.now t u a v w so_far.events [] [] [] so_far.passes c.in-Ok-false.ensures.passes) end.0,
             decoded_same t u end.1 i.decoded,
             cleared_by u (c.in-Ok-false.ensures.held ∙ i.held) (c.in-Ok-false.ensures.delayed ∙ all.ensures.delayed) c.in-Ok-false.ensures.unread,
           ));
@@ -163,3 +171,10 @@ returns-in-Ok-false-clause-within g c =
     let i = idle _ _ _ c.pieces.self t c.in-Ok-Nothing.field-0 c.in-Ok-Nothing.field-0-is (c.in-Ok-Nothing.ensures.goes any_link) in
     let end : PieceEnds t u v w (Ok false) = subst (λ (b : Bool). PieceEnds t u v w (Ok b)) c.in-Ok-false.field-0-test c.in-Ok-false.ensures.end in
     omega (arith, end.2, i.given, i.limit, c.in-Ok-false.ensures.passes.limit, c.pieces.invariant.given)
+
+pub returns-in-Err-clause-within : goal.returns-in-Err-clause-within
+returns-in-Err-clause-within g c =
+    let t = c.pass_all.new.self in
+    let hands = c.in-Err.ensures.goes any_link in
+    within-any {A = ReadEnd} t (Err c.in-Err.e)
+    (omega (arith, hands.goes.passes.limit, given_same c.pieces.self t hands.goes.events hands.handed hands.goes.passes, c.pieces.invariant.given))

@@ -1,4 +1,5 @@
 use Rattle.std.proofs.Common.{◌≡◌, ◌≤◌, ◌-◌, [], None}
+use Rattle.pg_connect.specs.Calm.{StaysCalm}
 use Rattle.pg_connect.specs.Passes.{Goes, OnlyReads}
 use Rattle.pg_connect.proofs.Parts.{Anything}
 use Rattle.pg_connect.proofs.streams.Streams.read_link.Given as goal
@@ -7,11 +8,13 @@ abbrev pub invariant-pieces : goal.invariant-pieces
 invariant-pieces g l = record {
   goes : Goes g.E.Desk.becomes l.initial.hub l.hub l.initial.self l.self (g.L.Link.view l.initial.link) (g.L.Link.view l.link) [] Anything;
   only : OnlyReads l.initial.self l.self (g.L.Link.view l.initial.link) (g.L.Link.view l.link);
+  at_end : l.self.at_end ≡ l.initial.self.at_end;
   held : l.self.held ≡ None;
   delayed : l.self.delayed.items ≡ [];
   unread : l.self.unread ≡ None;
   limit : l.self.max_bytes ≡ l.initial.self.max_bytes;
   given : l.self.given ≤ l.self.max_bytes;
+  calm : StaysCalm (g.L.Link.view l.initial.link) (g.L.Link.view l.link);
 }
 
 abbrev pub decreases-pieces : goal.decreases-pieces

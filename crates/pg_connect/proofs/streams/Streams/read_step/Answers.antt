@@ -1,10 +1,11 @@
-use Rattle.std.proofs.Common.{[], ◌∷◌, refl, sym, ap, subst, ◌∙◌, arith, Bool, Option, Some, None, Ok, Err}
+use Rattle.std.proofs.Common.{[], refl, subst, ◌∙◌, arith, Bool, Option, Ok, Err}
 use Rattle.pg_errors.specs.declared.async_message.AsyncMessage.{AsyncMessage}
-use Rattle.pg_connect.specs.declared.ends.ReadEnd.TheVariants as ending
+use Rattle.pg_connect.specs.declared.ends.ReadEnd.{ReadEnd}
 use Rattle.pg_connect.specs.Passes.{PassesOn}
 use Rattle.pg_connect.specs.Reads.{DeliverEnds, ReadEnds, HandedBy, HandedLate, LateEnds}
 use Rattle.pg_connect.proofs.Parts.{Anything}
-use Rattle.pg_connect.proofs.Passing.{goes-both, goes-behind, hands-both, hands-quietly, any_link, given_same, none_handed, held_refused, late_refused, ends_behind}
+use Rattle.pg_connect.proofs.Passing.{goes-behind, hands-both, hands-quietly, any_link, given_same, none_handed, held_refused, late_refused, ends_behind}
+use Rattle.pg_connect.proofs.Within.{within-any}
 use Rattle.pg_connect.proofs.streams.Streams.read_step.Goals as goal
 
 pub returns-in-Ok-Some-clause-goes : goal.returns-in-Ok-Some-clause-goes
@@ -91,3 +92,10 @@ pub returns-in-Ok-false-clause-within : goal.returns-in-Ok-false-clause-within
 returns-in-Ok-false-clause-within g c =
     let goes = c.in-Ok-false.ensures.goes any_link in
     omega (arith, goes.passes.limit, given_same c.hand_delayed.new.self c.deliver_held.new.self goes.events [] goes.passes, c.in-Ok-None.ensures.limit, c.in-Ok-None.ensures.given, c.requires.given)
+
+pub returns-in-Err-deliver_held-clause-within : goal.returns-in-Err-deliver_held-clause-within
+returns-in-Err-deliver_held-clause-within g c =
+    let t = c.deliver_held.new.self in
+    let goes = c.in-Err-deliver_held.ensures.goes any_link in
+    within-any {A = ReadEnd} t (Err c.in-Err-deliver_held.e)
+    (omega (arith, goes.passes.limit, given_same c.hand_delayed.new.self t goes.events [] goes.passes, c.in-Ok-None.ensures.limit, c.in-Ok-None.ensures.given, c.requires.given))

@@ -11,8 +11,8 @@ returns-in-Ok-Blocked-flush_step-clause-goes g c =
     let n = g.L.Link.view c.flush_step.new.link in
     let all = c.in-Ok-AllTaken in
     let w = c.in-Ok-Blocked-flush_step in
-    flushed _ _ _ c.args.self.now t l m n c.args.may_close all.field-0 (Ok sending.Waits) (all.ensures.only.unread ∙ c.requires) all.field-0-is all.ensures.goes w.ensures.bytes w.ensures.keeps
-    (λ es keeps was. flush_blocked t l m n t.closing w.field-0 es w.field-0-is w.ensures.end keeps)
+    flushed _ _ _ c.args.self.now t l m n c.args.may_close all.field-0 (Ok sending.Waits) (all.ensures.only.unread ∙ c.requires) all.field-0-is all.ensures.goes w.ensures.untouched w.ensures.keeps
+    (λ es keeps still was. flush_blocked t l m n t.closing w.field-0 es w.field-0-is w.ensures.end keeps still)
 
 pub returns-in-Ok-Flushed-clause-goes : goal.returns-in-Ok-Flushed-clause-goes
 returns-in-Ok-Flushed-clause-goes g c =
@@ -22,8 +22,8 @@ returns-in-Ok-Flushed-clause-goes g c =
     let n = g.L.Link.view c.flush_step.new.link in
     let all = c.in-Ok-AllTaken in
     let w = c.in-Ok-Flushed in
-    flushed _ _ _ c.args.self.now t l m n c.args.may_close all.field-0 (Ok sending.Waits) (all.ensures.only.unread ∙ c.requires) all.field-0-is all.ensures.goes w.ensures.bytes w.ensures.keeps
-    (λ es keeps was. flush_done t l m n w.field-0 es w.field-0-is w.ensures.end was)
+    flushed _ _ _ c.args.self.now t l m n c.args.may_close all.field-0 (Ok sending.Waits) (all.ensures.only.unread ∙ c.requires) all.field-0-is all.ensures.goes w.ensures.untouched w.ensures.keeps
+    (λ es keeps still was. flush_done t l m n w.field-0 es w.field-0-is w.ensures.end was)
 
 pub returns-in-Ok-ShutDown-clause-goes : goal.returns-in-Ok-ShutDown-clause-goes
 returns-in-Ok-ShutDown-clause-goes g c =
@@ -33,8 +33,8 @@ returns-in-Ok-ShutDown-clause-goes g c =
     let n = g.L.Link.view c.flush_step.new.link in
     let all = c.in-Ok-AllTaken in
     let w = c.in-Ok-ShutDown in
-    flushed _ _ _ c.args.self.now t l m n c.args.may_close all.field-0 (Ok sending.Over) (all.ensures.only.unread ∙ c.requires) all.field-0-is all.ensures.goes w.ensures.bytes w.ensures.keeps
-    (λ es keeps was. flush_over t l m n w.field-0 es w.field-0-is w.ensures.end was)
+    flushed _ _ _ c.args.self.now t l m n c.args.may_close all.field-0 (Ok sending.Over) (all.ensures.only.unread ∙ c.requires) all.field-0-is all.ensures.goes w.ensures.untouched w.ensures.keeps
+    (λ es keeps still was. flush_over t l m n w.field-0 es w.field-0-is w.ensures.end was)
 
 pub returns-in-Err-flush_step-clause-goes : goal.returns-in-Err-flush_step-clause-goes
 returns-in-Err-flush_step-clause-goes g c =
@@ -44,5 +44,5 @@ returns-in-Err-flush_step-clause-goes g c =
     let n = g.L.Link.view c.flush_step.new.link in
     let all = c.in-Ok-AllTaken in
     let w = c.in-Err-flush_step in
-    flushed _ _ _ c.args.self.now t l m n c.args.may_close all.field-0 (Err w.e) (all.ensures.only.unread ∙ c.requires) all.field-0-is all.ensures.goes w.ensures.bytes w.ensures.keeps
-    (λ es keeps was. flush_error t t.closing l m n w.e es keeps w.ensures.end)
+    flushed _ _ _ c.args.self.now t l m n c.args.may_close all.field-0 (Err w.e) (all.ensures.only.unread ∙ c.requires) all.field-0-is all.ensures.goes w.ensures.untouched w.ensures.keeps
+    (λ es keeps still was. flush_error t t.closing l m n w.e es keeps w.ensures.end)

@@ -4,8 +4,10 @@ use Rattle.pg_desk.specs.declared.event.Out.TheVariants as out
 use Rattle.pg_connect.specs.declared.fault.ConnectionFault.{ConnectionFault}
 use Rattle.pg_connect.specs.declared.streams.Streams.{Streams}
 use Rattle.pg_connect.specs.Ends.{has_none, has_no_more, OfferEnds, PartsEnds}
+use Rattle.pg_connect.proofs.Calm.{calm_same, calm_then}
 use Rattle.pg_connect.proofs.Parts.{Anything, answered, came_out}
-use Rattle.pg_connect.proofs.Joining.{goes-also, keeps_same, blocked_later, parts_refused, parts_closed, last_of}
+use Rattle.pg_connect.proofs.Joining.{goes-also, keeps_same, blocked_later, parts_refused, parts_closed, last_of, untouched_same}
+use Rattle.pg_connect.proofs.Passing.{untouched_first}
 use Rattle.pg_connect.proofs.Sends.{passes_nothing}
 use Rattle.pg_connect.proofs.streams.Streams.send_parts.Goals as goal
 
@@ -15,19 +17,21 @@ parts-init g c = record {
     events = [];
     calls = tt;
     became = g.met.E.Desk.stays c.args.hub.now;
-    passes = passes_nothing c.args.self.now (g.L.Link.view c.args.link.now) (g.L.Link.view c.args.link.now) [] c.requires.unread (record { given = refl; taken = refl; due = refl }) (keeps_same _) refl refl refl;
+    passes = passes_nothing c.args.self.now (g.L.Link.view c.args.link.now) (g.L.Link.view c.args.link.now) [] c.requires.unread (untouched_same _) (keeps_same _) refl refl refl;
     ended = tt;
   };
-  only = record { given = refl; count = refl; buffer = refl; unread = refl };
+  only = record { given = refl; count = refl; buffer = refl; unread = refl; at_end = refl };
   closing = c.requires.active;
   unread = c.requires.unread;
+  calm = calm_same _;
 }
 
 pub returns-in-Ok-false-clause-goes : goal.returns-in-Ok-false-clause-goes
 returns-in-Ok-false-clause-goes g c =
     let end = subst (λ (b : Bool). OfferEnds c.offer.new.self (g.L.Link.view c.parts.link) (g.L.Link.view c.offer.new.link) (Ok b)) c.in-Ok-false.field-0-test c.in-Ok-false.ensures.end in
     goes-also _ _ _ _ c.parts.self _ _ (g.L.Link.view c.parts.link) _ [] [] Anything _ c.parts.invariant.goes c.in-Ok-false.ensures.passes
-    (λ es was. blocked_later _ _ _ c.parts.invariant.goes.passes.link end)
+    (λ es was. blocked_later _ _ _ _ c.parts.invariant.goes.passes.link
+    (untouched_first c.args.self.now c.parts.self c.offer.new.self _ _ _ c.parts.invariant.goes.events [] [] [] c.parts.invariant.goes.passes c.in-Ok-false.ensures.passes) end)
 
 pub returns-in-Err-clause-goes : goal.returns-in-Err-clause-goes
 returns-in-Err-clause-goes g c =
@@ -50,9 +54,11 @@ parts-preserved g c =
         count = ap (λ (x : Streams). x.given) queued ∙ only.count ∙ was.only.count;
         buffer = ap (λ (x : Streams). x.buffer.items) queued ∙ only.buffer ∙ was.only.buffer;
         unread = ap (λ (x : Streams). x.unread) queued ∙ only.unread ∙ was.only.unread;
+        at_end = ap (λ (x : Streams). x.at_end) queued ∙ only.at_end ∙ was.only.at_end;
       };
       closing = ap (λ (x : Streams). x.closing) queued ∙ active;
       unread = ap (λ (x : Streams). x.unread) queued ∙ read;
+      calm = calm_then _ _ _ was.calm c.in-Ok-true.ensures.calm;
     }
 
 pub returns-in-Ok-CopyWaits-clause-goes : goal.returns-in-Ok-CopyWaits-clause-goes
@@ -60,14 +66,14 @@ returns-in-Ok-CopyWaits-clause-goes g c =
     let sent = subst (λ (b : Bool). OfferEnds c.offer.new.self (g.L.Link.view c.parts.link) (g.L.Link.view c.offer.new.link) (Ok b)) c.in-Ok-true.field-0-test c.in-Ok-true.ensures.end in
     answered _ g.met.E.Desk.joins _ _ _ _ c.parts.self _ _ (g.L.Link.view c.parts.link) _ _ (Ok out.CopyWaits) _ c.parts.invariant.goes c.in-Ok-true.ensures.passes
     (c.in-Ok-true.ensures.only.unread ∙ c.parts.invariant.unread)
-    c.in-Ok-CopyWaits.ensures.event (ap Ok c.in-Ok-CopyWaits.field-0-is) refl refl (λ es. (sent, last_of has_none es (NextOut (Ok out.CopyWaits))))
+    c.in-Ok-CopyWaits.ensures.event (ap Ok c.in-Ok-CopyWaits.field-0-is) refl refl (λ es. (sent, last_of has_none es (NextOut (Ok out.CopyWaits)), last_of has_no_more es (NextOut (Ok out.CopyWaits))))
 
 pub returns-in-Ok-Nothing-clause-goes : goal.returns-in-Ok-Nothing-clause-goes
 returns-in-Ok-Nothing-clause-goes g c =
     let sent = subst (λ (b : Bool). OfferEnds c.offer.new.self (g.L.Link.view c.parts.link) (g.L.Link.view c.offer.new.link) (Ok b)) c.in-Ok-true.field-0-test c.in-Ok-true.ensures.end in
     answered _ g.met.E.Desk.joins _ _ _ _ c.parts.self _ _ (g.L.Link.view c.parts.link) _ _ (Ok out.Nothing) _ c.parts.invariant.goes c.in-Ok-true.ensures.passes
     (c.in-Ok-true.ensures.only.unread ∙ c.parts.invariant.unread)
-    c.in-Ok-Nothing.ensures.event (ap Ok c.in-Ok-Nothing.field-0-is) refl refl (λ es. (sent, last_of has_none es (NextOut (Ok out.Nothing))))
+    c.in-Ok-Nothing.ensures.event (ap Ok c.in-Ok-Nothing.field-0-is) refl refl (λ es. (sent, last_of has_none es (NextOut (Ok out.Nothing)), last_of has_no_more es (NextOut (Ok out.Nothing))))
 
 pub returns-in-Ok-NoMore-clause-goes : goal.returns-in-Ok-NoMore-clause-goes
 returns-in-Ok-NoMore-clause-goes g c =

@@ -1,4 +1,5 @@
 use Rattle.std.proofs.Common.{◌≡◌, [], false, None}
+use Rattle.pg_connect.specs.Calm.{StaysCalm}
 use Rattle.pg_connect.specs.Passes.{Goes, OnlySends}
 use Rattle.pg_connect.proofs.Parts.{Anything}
 use Rattle.pg_connect.proofs.streams.Streams.send_parts.Given as goal
@@ -9,6 +10,7 @@ invariant-parts g l = record {
   only : OnlySends l.initial.self l.self (g.L.Link.view l.initial.link) (g.L.Link.view l.link);
   closing : l.self.closing ≡ false;
   unread : l.self.unread ≡ None;
+  calm : StaysCalm (g.L.Link.view l.initial.link) (g.L.Link.view l.link);
 }
 
 abbrev pub decreases-parts : goal.decreases-parts

@@ -4,7 +4,7 @@ use Rattle.pg_wire.specs.declared.codec.BackendMessage.{BackendMessage}
 use Rattle.pg_wire.specs.declared.fault.WireFault.{WireFault}
 use Rattle.pg_connect.specs.declared.streams.Streams.{Streams}
 use Rattle.pg_connect.specs.Passes.{Passes, waiting, notice_of}
-use Rattle.pg_connect.proofs.Joining.{keeps_same}
+use Rattle.pg_connect.proofs.Joining.{keeps_same, untouched_same}
 use Rattle.pg_connect.proofs.Arriving.{reads_nothing, reads_batch}
 use Rattle.pg_connect.proofs.Sizes.{some_came_off}
 use Rattle.pg_connect.proofs.Taking.{aside_taken, decode_refused}
@@ -22,9 +22,9 @@ returns-in-Ok-None-clause-passes c =
     λ l. record {
       handed = [];
       is = refl;
-      passes = reads_nothing c.args.self.now _ l l c.requires.unread (record { given = refl; taken = refl; due = refl })
+      passes = reads_nothing c.args.self.now _ l l c.requires.unread (untouched_same l)
           (record { buffer = cut.same; unread = c.requires.unread; held = refl; delayed = refl; parameters = refl; given = refl; delivered = refl })
-          (record { unsent = refl; closing = refl; limit = refl; ended = refl }) refl (keeps_same l);
+          (record { unsent = refl; closing = refl; limit = refl; ended = refl; at_end = refl }) refl (keeps_same l);
     }
 
 pub returns-in-Err-BadLength-clause-passes : goal.returns-in-Err-BadLength-clause-passes
@@ -33,9 +33,9 @@ returns-in-Err-BadLength-clause-passes c =
     λ l. record {
       handed = [];
       is = refl;
-      passes = reads_nothing c.args.self.now _ l l c.requires.unread (record { given = refl; taken = refl; due = refl })
+      passes = reads_nothing c.args.self.now _ l l c.requires.unread (untouched_same l)
           (record { buffer = cut.same; unread = c.requires.unread; held = refl; delayed = refl; parameters = refl; given = refl; delivered = refl })
-          (record { unsent = refl; closing = refl; limit = refl; ended = refl }) refl (keeps_same l);
+          (record { unsent = refl; closing = refl; limit = refl; ended = refl; at_end = refl }) refl (keeps_same l);
     }
 
 pub returns-in-Err-Layout-clause-passes : goal.returns-in-Err-Layout-clause-passes
@@ -44,9 +44,9 @@ returns-in-Err-Layout-clause-passes c =
     λ l. record {
       handed = [];
       is = refl;
-      passes = reads_nothing c.args.self.now _ l l c.requires.unread (record { given = refl; taken = refl; due = refl })
+      passes = reads_nothing c.args.self.now _ l l c.requires.unread (untouched_same l)
           (record { buffer = cut.same; unread = c.requires.unread; held = refl; delayed = refl; parameters = refl; given = refl; delivered = refl })
-          (record { unsent = refl; closing = refl; limit = refl; ended = refl }) refl (keeps_same l);
+          (record { unsent = refl; closing = refl; limit = refl; ended = refl; at_end = refl }) refl (keeps_same l);
     }
 
 pub returns-in-Ok-Some-Async-clause-passes : goal.returns-in-Ok-Some-Async-clause-passes
@@ -68,7 +68,7 @@ returns-in-Ok-Some-Normal-clause-passes c =
       is = refl;
       passes = subst (λ (x : Streams). Passes s x l l [] []) (sym c.hold.ensures.same)
           (reads_batch s mid l w.messages w.request_complete c.requires.unread c.requires.unread cut (ap waiting c.requires.held) c.hold.ensures.held
-          refl refl refl refl (record { unsent = refl; closing = refl; limit = refl; ended = refl }) refl);
+          refl refl refl refl (record { unsent = refl; closing = refl; limit = refl; ended = refl; at_end = refl }) refl);
     }
 
 pub returns-in-Err : goal.returns-in-Err
@@ -76,7 +76,7 @@ returns-in-Err c = record {
   passes = λ l. record {
     handed = [];
     is = refl;
-    passes = reads_nothing c.args.self.now _ l l c.requires.unread (record { given = refl; taken = refl; due = refl })
+    passes = reads_nothing c.args.self.now _ l l c.requires.unread (untouched_same l)
         (record {
           buffer = decode_refused c.args.self.now.buffer.items c.decode.new.buf.items c.in-Err.field-0 c.in-Err.ensures;
           unread = c.requires.unread;
@@ -86,10 +86,11 @@ returns-in-Err c = record {
           given = refl;
           delivered = refl;
         })
-        (record { unsent = refl; closing = refl; limit = refl; ended = refl }) refl (keeps_same l);
+        (record { unsent = refl; closing = refl; limit = refl; ended = refl; at_end = refl }) refl (keeps_same l);
   };
   end = tt;
   delayed = c.requires.delayed;
   unread = tt;
   closing = refl;
+  at_end = refl;
 }

@@ -21,7 +21,7 @@ returns-in-Ok-Waits-clause-turns g c =
 pub returns-in-Err-send-clause-turns : goal.returns-in-Err-send-clause-turns
 returns-in-Err-send-clause-turns g c =
     turned_error _ g.met.E.Desk.joins _ _ _ c.args.self.now c.read_step.new.self c.send.new.self (g.L.Link.view c.args.link.now) (g.L.Link.view c.read_step.new.link)
-    (g.L.Link.view c.send.new.link) _ _ _ c.in-Err-send.e c.in-Ok-Handed.ensures.goes c.in-Err-send.ensures.goes
+    (g.L.Link.view c.send.new.link) _ _ _ c.in-Err-send.e c.in-Ok-Handed.ensures.only c.in-Ok-Handed.ensures.goes c.in-Err-send.ensures.goes
 
 pub returns-in-Ok-Waits-send-clause-turns : goal.returns-in-Ok-Waits-send-clause-turns
 returns-in-Ok-Waits-send-clause-turns g c =
@@ -40,7 +40,7 @@ returns-in-Ok-Waits-send-clause-turns g c =
 pub returns-in-Err-send-2-clause-turns : goal.returns-in-Err-send-2-clause-turns
 returns-in-Err-send-2-clause-turns g c =
     turned_error _ g.met.E.Desk.joins _ _ _ c.args.self.now c.read_step.new.self c.send-in-Ok-Full.new.self (g.L.Link.view c.args.link.now) (g.L.Link.view c.read_step.new.link)
-    (g.L.Link.view c.send-in-Ok-Full.new.link) _ _ _ c.in-Err-send-2.e c.in-Ok-Full.ensures.goes c.in-Err-send-2.ensures.goes
+    (g.L.Link.view c.send-in-Ok-Full.new.link) _ _ _ c.in-Err-send-2.e c.in-Ok-Full.ensures.only c.in-Ok-Full.ensures.goes c.in-Err-send-2.ensures.goes
 
 pub returns-in-Ok-Waits-send-2-clause-turns : goal.returns-in-Ok-Waits-send-2-clause-turns
 returns-in-Ok-Waits-send-2-clause-turns g c =
@@ -73,4 +73,4 @@ returns-in-Ok-Over-send-2-clause-turns g c =
 pub returns-in-Err-send-3-clause-turns : goal.returns-in-Err-send-3-clause-turns
 returns-in-Err-send-3-clause-turns g c =
     turned_error _ g.met.E.Desk.joins _ _ _ c.args.self.now c.read_step.new.self c.send-in-Ok-Dry.new.self (g.L.Link.view c.args.link.now) (g.L.Link.view c.read_step.new.link)
-    (g.L.Link.view c.send-in-Ok-Dry.new.link) _ _ _ c.in-Err-send-3.e c.in-Ok-Dry.ensures.goes c.in-Err-send-3.ensures.goes
+    (g.L.Link.view c.send-in-Ok-Dry.new.link) _ _ _ c.in-Err-send-3.e c.in-Ok-Dry.ensures.only c.in-Ok-Dry.ensures.goes c.in-Err-send-3.ensures.goes

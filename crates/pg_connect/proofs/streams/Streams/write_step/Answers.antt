@@ -6,6 +6,7 @@ use Rattle.pg_connect.specs.declared.streams.Streams.{Streams}
 use Rattle.pg_connect.specs.Passes.{Passes, Goes}
 use Rattle.pg_connect.specs.Ends.{PartsEnds}
 use Rattle.pg_connect.proofs.Joining.{passes-joined, goes-also}
+use Rattle.pg_connect.proofs.Passing.{untouched_first}
 use Rattle.pg_connect.proofs.Sends.{passes_goodbye}
 use Rattle.pg_connect.proofs.Closing.{written_closing, written_goodbye, written_open, goes-ends}
 use Rattle.pg_connect.proofs.streams.Streams.write_step.Goals as goal
@@ -16,7 +17,7 @@ returns-then-self-clause-goes g c = record {
   calls = tt;
   became = g.met.E.Desk.stays c.args.hub.now;
   passes = c.offer_last.ensures.passes;
-  ended = written_closing c.args.self.now c.offer_last.new.self (g.L.Link.view c.args.link.now) (g.L.Link.view c.offer_last.new.link) c.args.may_close c.offer_last.result c.if-self.true c.offer_last.ensures.end;
+  ended = written_closing c.args.self.now c.offer_last.new.self (g.L.Link.view c.args.link.now) (g.L.Link.view c.offer_last.new.link) c.args.may_close c.offer_last.result c.if-self.true c.offer_last.ensures.closing c.offer_last.ensures.end;
 }
 
 pub returns-then-may_close-clause-goes : goal.returns-then-may_close-clause-goes
@@ -33,7 +34,9 @@ returns-then-may_close-clause-goes g c =
     let last = subst (λ (x : Streams). Passes x new b d [] []) c.queue_terminate.ensures c.offer_last-then-may_close.ensures.passes in
     goes-also _ _ _ s mid new a b d [] [] _ _ goes
     (passes-joined mid (record mid { unsent = terminate_frame; closing = true }) new b b d [] [] [] [] (passes_goodbye mid b read ends.0 c.in-Ok-NoMore.ensures.closing) last)
-    (λ es was. written_goodbye s c.queue_terminate.new.self new a b d c.args.may_close c.offer_last-then-may_close.result es goes.passes.link c.if-may_close.true
+    (λ es was. written_goodbye s c.queue_terminate.new.self new a b d c.args.may_close c.offer_last-then-may_close.result es goes.passes.link
+    (untouched_first s mid new a b d goes.events [] [] [] goes.passes
+    (passes-joined mid (record mid { unsent = terminate_frame; closing = true }) new b b d [] [] [] [] (passes_goodbye mid b read ends.0 c.in-Ok-NoMore.ensures.closing) last)) c.if-may_close.true
     c.offer_last-then-may_close.ensures.closing
     (subst (λ (e : PartsEnd). PartsEnds mid a b (Ok e) es) c.in-Ok-NoMore.field-0-is was).1 c.offer_last-then-may_close.ensures.end)
 
@@ -43,4 +46,4 @@ returns-else-may_close-clause-goes g c =
     let a = g.L.Link.view c.args.link.now in
     let b = g.L.Link.view c.send_parts.new.link in
     goes-ends _ _ _ _ _ _ _ [] _ _ c.in-Ok-NoMore.ensures.goes
-    (λ es was. written_open c.args.self.now mid a b c.args.may_close es c.in-Ok-NoMore.ensures.closing (subst (λ (e : PartsEnd). PartsEnds mid a b (Ok e) es) c.in-Ok-NoMore.field-0-is was))
+    (λ es was. written_open c.args.self.now mid a b c.args.may_close es c.if-may_close.false c.in-Ok-NoMore.ensures.closing (subst (λ (e : PartsEnd). PartsEnds mid a b (Ok e) es) c.in-Ok-NoMore.field-0-is was))
