@@ -33,7 +33,7 @@ use Rattle.pg_connect.specs.Faults.{error_of}
 use Rattle.pg_connect.specs.Ends.{last_is, is_closed_out}
 use Rattle.pg_connect.specs.Passed.{AllEngineCalls, bytes_out_by, delivered_by}
 use Rattle.pg_connect.specs.Passes.{goodbye, waiting, notice_of, delayed_in, IsUnread, CameOff}
-use Rattle.pg_connect.specs.Polls.{TurnEnds, EndsWhole}
+use Rattle.pg_connect.specs.Polls.{TurnFails, EndsWhole}
 use Rattle.pg_connect.specs.Reads.{BreaksLayout, LeavesUnread, LeavesDelayed, IsUnasked, has_no_request}
 use Rattle.pg_connect.specs.Startups.{frame_of, Ends}
 use Rattle.pg_connect.specs.declared.fault.ConnectionFault.{ConnectionFault}
@@ -272,7 +272,7 @@ module _ (user : List ℕ) (call : Call) (former now : List Event) (t : Streams)
 -- ---- why a turn fails
 
 pub cause-of : (user : List ℕ) (call : Call) (former now : List Event) (s t : Streams) (l : LinkView) → Fails user call former now t l → (e : ConnectionFault) →
-    TurnEnds (fresh s) (left_open t) l call.after (Err e) now → HasCause call (failure_of (error_of e))
+    TurnFails (fresh s) (left_open t) l call.after e now → HasCause call (failure_of (error_of e))
 cause-of user call former now s t l f fault.Link ends = rose_later call.before.faults l.faults call.after.faults f.keeps.counts.faults ends
 cause-of user call former now s t l f (fault.LimitReached given limit) ends = record {
   asked = ends.1 ∙ f.limit;

@@ -10,7 +10,7 @@ use Rattle.pg_spec.specs.Bytes.{text0}
 use Rattle.pg_spec.specs.Faults.{FrameFault, ZeroByte, TooMany, TooLong}
 use Rattle.pg_spec.specs.Frames.{frame_fault, unless_fault, has_zero, untagged, tagged, startup_body, query_frame}
 use Rattle.pg_spec.specs.RawMessages.{RawMessage, message_bytes, messages, bytes_left, cut_after, ends_in}
-use Rattle.pg_spec.specs.Sent.{messages_if, tagged_frames, is_password, ends_unit, units, is_terminate}
+use Rattle.pg_spec.specs.Sent.{after_startup_frame, messages_if, tagged_frames, is_password, ends_unit, units, is_terminate}
 use Rattle.pg_spec.specs.Settings.{startup_parameters}
 use Rattle.pg_spec.specs.ConnectionStrings.{only_user}
 use Rattle.pg_spec.proofs.MessageLaws.{messages-front, messages-append}
@@ -101,15 +101,19 @@ front-reads parts more unsent h is =
 
 -- ---- what was said
 
--- behind the startup's frame
-pub frames-behind : (user opening more : List ℕ) → frame_of user ≡ Ok opening → tagged_frames (opening ++ more) ≡ messages more
-frames-behind user opening more e =
+-- what was sent behind the startup's frame
+pub sent-behind : (user opening more : List ℕ) → frame_of user ≡ Ok opening → after_startup_frame (opening ++ more) ≡ Some more
+sent-behind user opening more e =
     let pairs = startup_parameters (only_user user) in
     let w = written (map (λ pair. pair.0) pairs ++ map (λ pair. pair.1) pairs) [] (4 + length (startup_body pairs)) (untagged (startup_body pairs)) opening e in
     let rest = drop 1 (startup_body pairs) in
     let short : 5 + length rest < 2 ^ 32 = omega (arith, w.short) in
-    ap (λ (x : List ℕ). tagged_frames (x ++ more)) w.same
-    ∙ ap messages_if (after_startup_frame-front rest more short)
+    ap (λ (x : List ℕ). after_startup_frame (x ++ more)) w.same
+    ∙ after_startup_frame-front rest more short
+
+-- the frames there
+pub frames-behind : (user opening more : List ℕ) → frame_of user ≡ Ok opening → tagged_frames (opening ++ more) ≡ messages more
+frames-behind user opening more e = ap messages_if (sent-behind user opening more e)
 
 no_end : (tag : ℕ) → (tag == byte "Q") ≡ true → (tag == byte "X") ≡ false
 no_end tag e = ap (λ (x : ℕ). x == byte "X") (eqb-true tag (byte "Q") e)

@@ -99,7 +99,7 @@ of-bytes before after P f =
 
 -- ---- what was sent
 
-joined-append : (xs ys : List (List ℕ)) → joined (xs ++ ys) ≡ joined xs ++ joined ys
+pub joined-append : (xs ys : List (List ℕ)) → joined (xs ++ ys) ≡ joined xs ++ joined ys
 joined-append [] ys = refl
 joined-append (x ∷ xs) ys = ap (λ (l : List ℕ). x ++ l) (joined-append xs ys) ∙ sym (append_assoc x (joined xs) (joined ys))
 
@@ -108,13 +108,13 @@ joined-concat [] = refl
 joined-concat (x ∷ xs) = ap (λ (l : List ℕ). x ++ l) (joined-concat xs)
 
 -- the bytes of all parts are those of the book
-wire-bytes : (bs : List Booking) → joined (wire bs) ≡ book.wire (map booking_of bs)
+pub wire-bytes : (bs : List Booking) → joined (wire bs) ≡ book.wire (map booking_of bs)
 wire-bytes [] = refl
 wire-bytes (b ∷ bs) =
     joined-append b.parts (wire bs) ∙ ap (λ (l : List ℕ). l ++ joined (wire bs)) (joined-concat b.parts)
     ∙ ap (λ (l : List ℕ). concat b.parts ++ l) (wire-bytes bs)
 
-whole-front : {A : Type 0} (xs ys : List A) → IsFrontOf xs ys → drop (length xs) ys ≡ [] → xs ≡ ys
+pub whole-front : {A : Type 0} (xs ys : List A) → IsFrontOf xs ys → drop (length xs) ys ≡ [] → xs ≡ ys
 whole-front {A} xs ys front none =
     let rest : front.0 ≡ [] = sym (drop-append_seam xs front.0) ∙ ap (λ (l : List A). drop (length xs) l) front.1 ∙ none in
     sym (append-nil xs) ∙ ap (λ (l : List A). xs ++ l) (sym rest) ∙ front.1

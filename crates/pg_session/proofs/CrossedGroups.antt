@@ -34,11 +34,11 @@ one-whole : (m : RawMessage) (n : ℕ) (pieces : List (List RawMessage)) → is_
 one-whole m n pieces ready h = record { count = ap suc h.count; whole = and-true (is_ready m) (list_all is_whole_group pieces) ready h.whole }
 
 -- what the first message of a batch is
-data First (complete : Bool) (m : RawMessage) (ms : List RawMessage) : Type 0 where
+pub data First (complete : Bool) (m : RawMessage) (ms : List RawMessage) : Type 0 where
   GoesOn : is_ready m ≡ false → is_batch complete ms ≡ true → First complete m ms
   Last : is_ready m ≡ true → complete ≡ true → ms ≡ [] → First complete m ms
 
-first-of : (complete : Bool) (m : RawMessage) (ms : List RawMessage) → is_batch complete (m ∷ ms) ≡ true → First complete m ms
+pub first-of : (complete : Bool) (m : RawMessage) (ms : List RawMessage) → is_batch complete (m ∷ ms) ≡ true → First complete m ms
 first-of complete m ms cut = by_tests (is_aside m) (is_ready m) refl cut
   where
     nothing-left : (l : List RawMessage) (b : Bool) → b && is_nothing l ≡ true → l ≡ []

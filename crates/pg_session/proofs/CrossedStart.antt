@@ -103,11 +103,20 @@ silent-move (Writes frames next) later w h = ap (λ (l : List (List ℕ)). l ++ 
 silent-move EndsMove later w h = refl
 silent-move (Refuses failure) later w h = refl
 
-no-frames : (user nonce : List ℕ) (phase : Phase) (ms : List RawMessage) → IsCalm phase → (dialogue (only_user user) nonce phase ms).frames ≡ []
+pub no-frames : (user nonce : List ℕ) (phase : Phase) (ms : List RawMessage) → IsCalm phase → (dialogue (only_user user) nonce phase ms).frames ≡ []
 no-frames user nonce phase [] c = refl
 no-frames user nonce phase (m ∷ ms) c =
     silent-move (startup_move (only_user user) nonce phase m) (λ next. dialogue (only_user user) nonce next ms) (calm-move user nonce phase m c)
     (λ next d. no-frames user nonce next ms d)
+
+begun-frames : (r : Result (List ℕ) FrameFault) (frame : List ℕ) (s : Startup) → r ≡ Ok frame → s.frames ≡ [] → concat (begun_by r s).frames ≡ frame
+begun-frames r frame s e none =
+    ap (λ (x : Result (List ℕ) FrameFault). concat (begun_by x s).frames) e ∙ ap (λ (l : List (List ℕ)). frame ++ concat l) none ∙ append-nil frame
+
+-- whatever it reads, it writes the startup's frame alone
+pub one-frame : (user nonce opening : List ℕ) (ms : List RawMessage) → frame_of user ≡ Ok opening → concat (startup (only_user user) nonce ms).frames ≡ opening
+one-frame user nonce opening ms frame =
+    begun-frames (startup_frame (startup_parameters (only_user user))) opening (dialogue (only_user user) nonce First ms) frame (no-frames user nonce First ms tt)
 
 -- ---- the startup of a session
 
@@ -120,10 +129,6 @@ pub record Started (user nonce opening : List ℕ) (first more ms : List RawMess
 
 begun-outcome : (r : Result (List ℕ) FrameFault) (frame : List ℕ) (s : Startup) → r ≡ Ok frame → (begun_by r s).outcome ≡ s.outcome
 begun-outcome r frame s e = ap (λ (x : Result (List ℕ) FrameFault). (begun_by x s).outcome) e
-
-begun-frames : (r : Result (List ℕ) FrameFault) (frame : List ℕ) (s : Startup) → r ≡ Ok frame → s.frames ≡ [] → concat (begun_by r s).frames ≡ frame
-begun-frames r frame s e none =
-    ap (λ (x : Result (List ℕ) FrameFault). concat (begun_by x s).frames) e ∙ ap (λ (l : List (List ℕ)). frame ++ concat l) none ∙ append-nil frame
 
 pub is-started : (user nonce opening : List ℕ) (first more ms : List RawMessage) → frame_of user ≡ Ok opening → Ends user nonce first (Done (length first)) → ms ≡ first ++ more →
     Started user nonce opening first more ms

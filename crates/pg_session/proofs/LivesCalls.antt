@@ -29,13 +29,13 @@ calls-joined : (es fs : List Event) → AllEngineCalls es → AllEngineCalls fs 
 calls-joined [] fs h k = k
 calls-joined (e ∷ es) fs h k = (h.0, calls-joined es fs h.1 k)
 
-calls-turn : (scripts : List (List Command)) (turn : ℕ) (s t : SessionState) (l m : LinkView) (over : Bool) →
+pub calls-turn : (scripts : List (List Command)) (turn : ℕ) (s t : SessionState) (l m : LinkView) (over : Bool) →
     (made : Makes scripts turn s t l m over) → AllEngineCalls (calls_in_turn scripts turn s t l m over made)
 calls-turn scripts turn s t l m over (inl handle) = tt
 calls-turn scripts turn s t l m over (inr connection) =
     calls-poll s.hub t.hub s.streams t.streams l m connection.made.answer connection.made.polled
 
-calls-turns : (scripts : List (List Command)) (turns : List ℕ) (s : SessionState) (l : LinkView) (t : SessionState) (m : LinkView) →
+pub calls-turns : (scripts : List (List Command)) (turns : List ℕ) (s : SessionState) (l : LinkView) (t : SessionState) (m : LinkView) →
     (made : MakesAll scripts turns s l t m) → AllEngineCalls (calls_in scripts turns s l t m made)
 calls-turns scripts [] s l t m made = tt
 calls-turns scripts (turn ∷ turns) s l t m (rested, mid, passed, rests, makes, more) =

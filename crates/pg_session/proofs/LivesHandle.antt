@@ -1,8 +1,10 @@
 -- One turn of a handle, as its commands and the book tell it.
-use Rattle.std.proofs.Common.{◌≡◌, ◌≢◌, ℕ, suc, ◌+◌, ◌<◌, ◌≤◌, List, [], ◌∷◌, ◌++◌, length, map, true, false, Option, Some, None, Result, Err, refl, sym, ap, ◌∙◌, subst, arith, inl, inr, ◌⊎◌, option_map, slice_get}
+use Rattle.std.proofs.Common.{◌≡◌, ◌≢◌, ℕ, suc, ◌+◌, ◌<◌, ◌≤◌, List, [], ◌∷◌, ◌++◌, length, map, true, false, Option, Some, None, Result, Ok, Err, refl, sym, ap, ◌∙◌, subst, arith, inl, inr, ◌⊎◌, option_map, slice_get}
 use Rattle.std.proofs.lemmas.List.{length-map, map-append}
 use Rattle.std.proofs.lemmas.Option.{slice_get_within, slice_get-map}
 use Rattle.pg_spec.specs.Book as said
+use Rattle.pg_spec.specs.Faults as spec
+use Rattle.pg_spec.specs.Frames.{query_frame}
 use Rattle.pg_spec.specs.RawMessages.{RawMessage}
 use Rattle.pg_spec.specs.Report as told
 use Rattle.pg_spec.specs.Turns.{Times}
@@ -25,6 +27,7 @@ use Rattle.pg_session.proofs.LivesPolls.{BeganSo, Booked, Unwritten, Refused, Be
 use Rattle.pg_session.proofs.LivesReached.{Reached, state_of, state-more, reached-more, book_in, own-kept, none-kept, booked-one, never-refused}
 use Rattle.pg_session.proofs.LivesTakes.{SameReader, reader-here}
 use Rattle.pg_session.proofs.LivesRows.{RowStands, request, idle-turn, waits-turn, begins-turn, runs-answers, begins-answered, unwritten-answered}
+use Rattle.pg_session.proofs.SentOrder.{OwnRequests, begun, runs, one-booked, none-booked}
 use Rattle.pg_session.specs.HandleTurns.{AsksCommand, BeginsNext, kept_answer, Idles, Waits}
 use Rattle.pg_session.specs.States.{HandleState}
 
@@ -33,6 +36,8 @@ pub record HandleStands (script : List Command) (trace : List told.TurnMark) (bo
     (handle : ℕ) (h : HandleState) (row : List Times) : Type 0 where
   pub count : length row ≡ length h.answers
   pub stands : RowStands (map command_of script) trace book came (map answer_of h.answers) s handle row h.running
+  -- of those that began each booked its request, in order, and no other was booked
+  pub requests : OwnRequests (map command_of script) book handle (begun h)
 
 -- what a turn of a handle booked: nothing, or one request of the command at this place of its script
 pub data Books (script : List Command) (turn place time : ℕ) (a b : Standing) : Type 0 where
@@ -105,6 +110,34 @@ module _ (script : List Command) (trace : List told.TurnMark) (m : told.TurnMark
   counted : length row ≡ length (map answer_of old.answers)
   counted = h.count ∙ sym (length-map old.answers answer_of)
 
+  -- its requests, where so many of its commands began
+  own-of : (b : Standing) (many now : ℕ) → begun old ≡ many → many ≡ now → book_in b ≡ book_in a → OwnRequests (map command_of script) (book_in b) turn now
+  own-of b many now is next kept =
+      subst (λ (n : ℕ). OwnRequests (map command_of script) (book_in b) turn n) next
+      (subst (λ (bs : List said.Booking). OwnRequests (map command_of script) bs turn many) (sym kept)
+      (subst (λ (n : ℕ). OwnRequests (map command_of script) (book_in a) turn n) is h.requests))
+
+  -- and one more began, by what it asks
+  own-more : (b : Standing) (text : List ℕ) (take : Option ℕ) (frame : List ℕ) (now : ℕ) → old.running ≡ None → slice_get script (length old.answers) ≡ Some (command.Simple text take) →
+      query_frame text ≡ Ok frame → book_in b ≡ book_in a ++ booking_of (record { stamp = record { owner = turn; command = length old.answers; turn = time }; parts = frame ∷ [] }) ∷ [] →
+      suc (length old.answers) ≡ now → OwnRequests (map command_of script) (book_in b) turn now
+  own-more b text take frame now none at is booked next =
+      let stamp : Stamp = record { owner = turn; command = length old.answers; turn = time } in
+      subst (λ (n : ℕ). OwnRequests (map command_of script) (book_in b) turn n) next
+      (subst (λ (bs : List said.Booking). OwnRequests (map command_of script) bs turn (suc (length old.answers))) (sym booked)
+      (one-booked (map command_of script) (book_in a) (booking_of (record { stamp = stamp; parts = frame ∷ [] })) turn (length old.answers) text take frame
+      (said-at script (length old.answers) (length old.answers) (command.Simple text take) refl at) is refl refl
+      (subst (λ (n : ℕ). OwnRequests (map command_of script) (book_in a) turn n) (ap (λ (o : Option (Place (List SimpleMessage))). length old.answers + runs o) none ∙ omega arith) h.requests)))
+
+  -- or one that asks nothing
+  own-none : (b : Standing) (text : List ℕ) (take : Option ℕ) (fault : spec.FrameFault) (now : ℕ) → old.running ≡ None → slice_get script (length old.answers) ≡ Some (command.Simple text take) →
+      query_frame text ≡ Err fault → book_in b ≡ book_in a → suc (length old.answers) ≡ now → OwnRequests (map command_of script) (book_in b) turn now
+  own-none b text take fault now none at is kept next =
+      subst (λ (n : ℕ). OwnRequests (map command_of script) (book_in b) turn n) next
+      (none-booked (map command_of script) (book_in b) turn (length old.answers) text take fault
+      (said-at script (length old.answers) (length old.answers) (command.Simple text take) refl at) is
+      (own-of b (length old.answers) (length old.answers) (ap (λ (o : Option (Place (List SimpleMessage))). length old.answers + runs o) none ∙ omega arith) refl kept))
+
   -- nothing happened
   pub polled-idle : (b : Standing) (new : HandleState) → Idles script a old b new → Polled script trace m came turn time a was old b new 0
   polled-idle b new idle =
@@ -122,6 +155,7 @@ module _ (script : List Command) (trace : List told.TurnMark) (m : told.TurnMark
           count = h.count;
           stands = subst (λ (o : Option (Place (List SimpleMessage))). RowStands (map command_of script) (trace ++ m ∷ []) (book_in a) (came ++ now_come was ∷ []) (map answer_of old.answers) (state_of was) turn row o)
               (sym idle.none_runs) now-none;
+          requests = h.requests;
         };
         grew = omega arith;
         room = omega arith;
@@ -154,6 +188,7 @@ module _ (script : List Command) (trace : List told.TurnMark) (m : told.TurnMark
         stands = record {
           count = h.count;
           stands = subst (λ (bs : List said.Booking). RowStands (map command_of script) (trace ++ m ∷ []) bs (came ++ now_come was ∷ []) (map answer_of old.answers) (state_of next) turn row (Some waits.to)) (sym kept.book) stands;
+          requests = own-of b (length old.answers + 1) (length old.answers + 1) (ap (λ (o : Option (Place (List SimpleMessage))). length old.answers + runs o) waits.starts) refl kept.book;
         };
         grew = omega arith;
         room = omega arith;
@@ -199,6 +234,7 @@ module _ (script : List Command) (trace : List told.TurnMark) (m : told.TurnMark
               stands = subst (λ (said-so : List told.Answer). RowStands (map command_of script) (trace ++ m ∷ []) (book_in b) (came ++ now_come was ∷ []) said-so (state_of next) turn (row ++ times ∷ []) None) (more-said old r)
                   (subst (λ (bs : List said.Booking). RowStands (map command_of script) (trace ++ m ∷ []) bs (came ++ now_come was ∷ []) (map answer_of old.answers ++ answer_of (kept_answer r) ∷ []) (state_of next) turn
                   (row ++ times ∷ []) None) (sym kept.book) stands);
+              requests = own-of b (length old.answers + 1) (length (old.answers ++ kept_answer r ∷ []) + 0) (ap (λ (o : Option (Place (List SimpleMessage))). length old.answers + runs o) starts) (omega (arith, one-more old.answers (kept_answer r))) kept.book;
             };
             grew = one-more old.answers (kept_answer r) ∙ omega arith;
             room = omega (arith, there, h.count, length-map script command_of);
@@ -238,6 +274,7 @@ module _ (script : List Command) (trace : List told.TurnMark) (m : told.TurnMark
               count = h.count;
               stands = subst (λ (bs : List said.Booking). RowStands (map command_of script) (trace ++ m ∷ []) bs (came ++ now_come was ∷ []) (map answer_of old.answers) (state_of next) turn row (Some waits.to))
                   (same ∙ sym one.book) now;
+              requests = own-more b text take begun.frame (length old.answers + 1) waits.starts.none_runs stands begun.is one.book (omega arith);
             };
             grew = omega arith;
             room = omega arith;
@@ -290,6 +327,7 @@ module _ (script : List Command) (trace : List told.TurnMark) (m : told.TurnMark
               stands = subst (λ (said-so : List told.Answer). RowStands (map command_of script) (trace ++ m ∷ []) (book_in b) (came ++ now_come was ∷ []) said-so (state_of next) turn (row ++ times ∷ []) None) (more-said old r)
                   (subst (λ (bs : List said.Booking). RowStands (map command_of script) (trace ++ m ∷ []) bs (came ++ now_come was ∷ []) (map answer_of old.answers ++ answer_of (kept_answer r) ∷ []) (state_of next) turn
                   (row ++ times ∷ []) None) (same ∙ sym one.book) now);
+              requests = own-more b text take begun.frame (length (old.answers ++ kept_answer r ∷ []) + 0) starts.none_runs stands begun.is one.book (omega (arith, one-more old.answers (kept_answer r)));
             };
             grew = one-more old.answers (kept_answer r) ∙ omega arith;
             room = omega (arith, there);
@@ -318,6 +356,7 @@ module _ (script : List Command) (trace : List told.TurnMark) (m : told.TurnMark
               stands = subst (λ (said-so : List told.Answer). RowStands (map command_of script) (trace ++ m ∷ []) (book_in b) (came ++ now_come was ∷ []) said-so (state_of next) turn (row ++ times ∷ []) None) (more-said old r)
                   (subst (λ (bs : List said.Booking). RowStands (map command_of script) (trace ++ m ∷ []) bs (came ++ now_come was ∷ []) (map answer_of old.answers ++ answer_of (kept_answer r) ∷ []) (state_of next) turn
                   (row ++ times ∷ []) None) (sym kept.book) now);
+              requests = own-none b text take fault (length (old.answers ++ kept_answer r ∷ []) + 0) starts.none_runs stands unwritten kept.book (omega (arith, one-more old.answers (kept_answer r)));
             };
             grew = one-more old.answers (kept_answer r) ∙ omega arith;
             room = omega (arith, there);

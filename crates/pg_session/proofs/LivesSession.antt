@@ -32,6 +32,7 @@ use Rattle.pg_session.proofs.LivesLists.{one-more}
 use Rattle.pg_session.proofs.LivesReached.{Reached, state_of, state-more, reached-more, book_in, engine-kept}
 use Rattle.pg_session.proofs.LivesRows.{book-same, other-turn}
 use Rattle.pg_session.proofs.LivesTakes.{SameReader, engine-readers, engine-received}
+use Rattle.pg_session.proofs.SentOrder.{OwnRequests, begun}
 use Rattle.pg_session.proofs.LivesTurns.{SessionStands, Onward, trace_of, handle-turn}
 use Rattle.pg_connect.specs.Passed.{AllEngineCalls}
 use Rattle.pg_session.specs.Lives.{calls_in_poll, calls_in_turn, calls_in, calls_of}
@@ -120,6 +121,7 @@ connection-turn scripts turn s t l m over past made calls h =
                     more = let same = ap (λ (bs : List said.Booking). length bs) kept.book in
                         omega (arith, same, booked-many s.hub h.reached, booked-many t.hub next);
                   }) was.stands;
+              requests = subst (λ (bs : List said.Booking). OwnRequests (map command_of script) bs i (begun g)) (sym kept.book) was.requests;
             });
         book = subst (λ (bs : List said.Booking). BookStands (scripts_of scripts) (length (trace_of t)) bs) (sym kept.book)
             (subst (λ (n : ℕ). BookStands (scripts_of scripts) n (book_in s.hub)) (sym (ap (λ (tr : List told.TurnMark). length tr) traced ∙ one-more (trace_of s) mark))
@@ -148,7 +150,7 @@ onward-by : (scripts : List (List Command)) (s t : SessionState) (h : SessionSta
     Onward scripts s t h ms → Onward scripts s t h ns
 onward-by scripts s t h ms ns same o = subst (λ (l : List RawMessage). Onward scripts s t h l) same o
 
-any-turn : (scripts : List (List Command)) (turn : ℕ) (s t : SessionState) (l m : LinkView) (over : Bool) → (made : Makes scripts turn s t l m over) →
+pub any-turn : (scripts : List (List Command)) (turn : ℕ) (s t : SessionState) (l m : LinkView) (over : Bool) → (made : Makes scripts turn s t l m over) →
     AllEngineCalls (calls_in_turn scripts turn s t l m over made) →
     (h : SessionStands scripts s) → Onward scripts s t h (delivered_by (calls_in_turn scripts turn s t l m over made))
 any-turn scripts turn s t l m over (inl handle) calls h = handle-turn scripts turn s t handle.did handle.made h
@@ -162,7 +164,7 @@ calls-back : (es fs : List Event) → AllEngineCalls (es ++ fs) → AllEngineCal
 calls-back [] fs h = h
 calls-back (e ∷ es) fs h = calls-back es fs h.1
 
-all-turns : (scripts : List (List Command)) (turns : List ℕ) (s : SessionState) (l : LinkView) (t : SessionState) (m : LinkView) →
+pub all-turns : (scripts : List (List Command)) (turns : List ℕ) (s : SessionState) (l : LinkView) (t : SessionState) (m : LinkView) →
     (made : MakesAll scripts turns s l t m) →
     AllEngineCalls (calls_in scripts turns s l t m made) → (h : SessionStands scripts s) →
     Onward scripts s t h (delivered_by (calls_in scripts turns s l t m made))
@@ -214,7 +216,7 @@ opens (suc n) hub now f h =
       come = refl;
     })
 
-new-handle : (scripts : List (List Command)) (i : ℕ) (h : HandleState) → slice_get (new_handles scripts) i ≡ Some h → h ≡ idle_handle
+pub new-handle : (scripts : List (List Command)) (i : ℕ) (h : HandleState) → slice_get (new_handles scripts) i ≡ Some h → h ≡ idle_handle
 new-handle [] i h e = absurd cc
 new-handle (script ∷ scripts) zero h e = cc
 new-handle (script ∷ scripts) (suc i) h e = new-handle scripts i h e
@@ -226,14 +228,15 @@ idle-stands script s i h same = subst (λ (x : HandleState). HandleStands script
     entries = λ place times e. absurd cc;
     now = record { none_booked = λ place ge. refl; no_turn = λ command there earlier ge lt own. omega (arith, lt) };
   };
+  requests = refl;
 })
 
 -- a session before its first turn
-record Begins (scripts : List (List Command)) (s : SessionState) : Type 0 where
-  stands : SessionStands scripts s
-  come : now_come stands.reached ≡ []
+pub record Begins (scripts : List (List Command)) (s : SessionState) : Type 0 where
+  pub stands : SessionStands scripts s
+  pub come : now_come stands.reached ≡ []
 
-new-stands : (scripts : List (List Command)) (s : SessionState) → IsNewSession scripts s → s.streams.closing ≡ false → s.streams.delivered ≡ 0 →
+pub new-stands : (scripts : List (List Command)) (s : SessionState) → IsNewSession scripts s → s.streams.closing ≡ false → s.streams.delivered ≡ 0 →
     Begins scripts s
 new-stands scripts s h active none =
     let o = opens (commands_in scripts) h.hub s.hub h.new h.closes in

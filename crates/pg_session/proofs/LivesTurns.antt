@@ -25,6 +25,7 @@ use Rattle.pg_session.proofs.LivesLists.{set-here, set-there, one-more}
 use Rattle.pg_session.proofs.LivesReached.{Reached, state_of, reached-more, reached-untouched, book_in, shut}
 use Rattle.pg_session.proofs.LivesRows.{BookGrows, book-same, book-pushed, booked-elsewhere, request, other-turn, row-stays, row-within}
 use Rattle.pg_session.proofs.LivesTakes.{SameReader, reader-here}
+use Rattle.pg_session.proofs.SentOrder.{OwnRequests, begun, other-booked}
 use Rattle.pg_session.specs.HandleTurns.{HandleTurns, StartsAt}
 use Rattle.pg_session.specs.Lives.{came_at}
 use Rattle.pg_session.specs.States.{HandleState, SessionState}
@@ -168,11 +169,17 @@ others-stand script trace m came c script' turn place time a b was now i h row m
         readers = λ n x at mine. readers n x at (λ e. other (sym e ∙ mine));
         more = omega (arith, more books, booked-many a was, booked-many b now);
       }) k.stands;
+  requests = requests books;
 }
   where
     same : Books script' turn place time a b → (p : ℕ) → said.bookings_of (book_in b) i p ≡ said.bookings_of (book_in a) i p
     same (Nothing e) p = ap (λ (bs : List said.Booking). said.bookings_of bs i p) e
     same (One frame next there e) p = ap (λ (bs : List said.Booking). said.bookings_of bs i p) e ∙ booked-elsewhere (book_in a) turn place time frame i p other
+
+    requests : Books script' turn place time a b → OwnRequests (map command_of script) (book_in b) i (begun h)
+    requests (Nothing e) = subst (λ (bs : List said.Booking). OwnRequests (map command_of script) bs i (begun h)) (sym e) k.requests
+    requests (One frame next there e) = subst (λ (bs : List said.Booking). OwnRequests (map command_of script) bs i (begun h)) (sym e)
+        (other-booked (map command_of script) (book_in a) (request turn place time frame) i (begun h) other k.requests)
 
     grows : Books script' turn place time a b → BookGrows (book_in a) (book_in b)
     grows (Nothing e) = book-same (book_in a) (book_in b) e
@@ -253,6 +260,7 @@ handle-turn scripts turn s t did made h =
     settled script trace book came x y i g row more same k = record {
       count = k.count;
       stands = row-stays (map command_of script) trace book came (map answer_of g.answers) x y i row g.running more same k.stands;
+      requests = k.requests;
     }
 
     each : (polled : Polled made.script (trace_of s) (record { turn = turn; delivered = s.streams.delivered }) h.came turn (length s.trace) (untouched s.hub) (reached-untouched s.hub h.reached) made.old made.hub made.new (answered_in did)) →

@@ -27,7 +27,7 @@ of_added None b piece P grew h = tt
 of_added (Some told) b piece P grew h =
     subst (λ (o : Option (List ℕ)). IfSome (added (Some told) o) P) (sym grew) (subst P (sym (drop-append_seam told piece)) h)
 
-of_grown : (a b : LinkView) (got sent : List ℕ) (P : List ℕ → List ℕ → Type 0) → Grew a.given b.given got → Grew a.taken b.taken sent → P got sent → OfBytes a b P
+pub of_grown : (a b : LinkView) (got sent : List ℕ) (P : List ℕ → List ℕ → Type 0) → Grew a.given b.given got → Grew a.taken b.taken sent → P got sent → OfBytes a b P
 of_grown a b got sent P given taken h =
     of_added a.given b.given got (λ g. IfSome (added a.taken b.taken) (λ t. P g t)) given
     (of_added a.taken b.taken sent (λ t. P got t) taken h)
@@ -88,7 +88,7 @@ waits_behind zero d is = is
 waits_behind (suc n) d is = waits_after (behind n d) (waits_behind n d is)
 
 -- the dialogue waits behind messages that lead to a phase
-awaits : (user nonce opening : List ℕ) (front : List RawMessage) (at : Phase) → frame_of user ≡ Ok opening → Leads user nonce front at →
+pub awaits : (user nonce opening : List ℕ) (front : List RawMessage) (at : Phase) → frame_of user ≡ Ok opening → Leads user nonce front at →
     (startup (only_user user) nonce front).outcome ≡ More
 awaits user nonce opening front at is leads =
     ap (λ (r : Result (List ℕ) FrameFault). (begun_by r (dialogue_of user nonce front)).outcome) is

@@ -1,19 +1,22 @@
 -- How a session that was opened ends in an error.
-use Rattle.std.specs.Prelude.{◌≡◌, ◌⊎◌, ◌≤◌, ℕ, List, Some, Err}
+use Rattle.std.specs.Prelude.{◌≡◌, ◌⊎◌, ◌≤◌, ◌+◌, ℕ, Bool, true, false, IsTrue, List, length, Option, Some, Result, Err}
+use Rattle.futures.specs.declared.task.Poll.{Poll}
 use Rattle.futures.specs.declared.task.Poll.TheVariants.{Ready}
 use Rattle.pg_spec.specs.Links.{LinkView, Rose}
-use Rattle.pg_connect.specs.Answers.{PollAnswers}
-use Rattle.pg_connect.specs.Startups.{Opened}
-use Rattle.pg_connect.specs.StartupPolls.{IsFresh}
+use Rattle.pg_connect.specs.Answers.{IsWithinPoll, PollAnswers}
+use Rattle.pg_wire.specs.LinkCalls.{Keeps, SameBytes}
+use Rattle.pg_connect.specs.Startups.{Opened, Opening}
+use Rattle.pg_connect.specs.StartupPolls.{IsFresh, GoesOn}
 use Rattle.pg_connect.specs.declared.startup.Startup.{Startup}
 use Rattle.pg_connect.specs.declared.streams.Streams.{Streams}
+use Rattle.pg_errors.specs.declared.async_message.AsyncMessage.{AsyncMessage}
 use Rattle.pg_errors.specs.declared.cause.Cause.TheVariants as cause
 use Rattle.pg_errors.specs.declared.error.Error.{Error}
 use Rattle.pg_errors.specs.declared.error.Error.TheVariants as error
 use Rattle.pg_hub.specs.Fits.{HubBecomes}
 use Rattle.pg_hub.specs.Standing.{Standing}
 use Rattle.pg_text.specs.declared.command.Command.{Command}
-use Rattle.pg_session.specs.Sessions.{IsNewSession, MakesAll}
+use Rattle.pg_session.specs.Sessions.{IsNewSession, MakesAll, Plays, Rests, StaysAll, numbers}
 use Rattle.pg_session.specs.States.{SessionState}
 
 -- a poll of the connection failed
@@ -21,17 +24,61 @@ pub record PollFails (s : SessionState) (before after : LinkView) (e : Error) : 
   pub hub : Standing
   pub streams : Streams
   pub polled : PollAnswers HubBecomes s.hub hub s.streams streams before after (Ready (Some (Err e)))
+  pub kept : s.streams.ended ≡ false → IsWithinPoll streams (Ready (Some (Err e)))
+
+-- a poll answered no error
+abbrev pub IsFine : Poll (Option (Result AsyncMessage Error)) → Type 0
+IsFine (Ready (Some (Err e))) = ⊥
+IsFine answer = Unit {0}
+
+-- the connection was polled, and what it answered wasn't noted
+pub record WasPolled (s : SessionState) (before after : LinkView) : Type 0 where
+  pub hub : Standing
+  pub streams : Streams
+  pub answer : Poll (Option (Result AsyncMessage Error))
+  pub polled : PollAnswers HubBecomes s.hub hub s.streams streams before after answer
+  pub fine : IsFine answer
+
+-- Memory lacked in a turn: in a handle's, which crosses no link, or behind a poll of the connection.
+pub record LacksMemory (s : SessionState) (before after : LinkView) (e : Error) : Type 0 where
+  pub memory : e ≡ error.OutOfMemory
+  pub crossed : (after ≡ before) ⊎ WasPolled s before after
 
 -- why a turn failed
 abbrev pub TurnFails : SessionState → (before after : LinkView) → Error → Type 0
-TurnFails s before after e = (e ≡ error.OutOfMemory) ⊎ PollFails s before after e
+TurnFails s before after e = LacksMemory s before after e ⊎ PollFails s before after e
 
--- Why a pause of the link failed, behind turns in which its count of calls that weren't ready went from one
--- number to another.
-abbrev pub PauseFails : (from to : ℕ) → (before after : LinkView) → Error → Type 0
-PauseFails from to before after (error.Stalled a b) = (a ≡ from) × (b ≡ to)
-PauseFails from to before after (error.Io cause.Link) = Rose before.faults after.faults
-PauseFails from to before after _ = ⊥
+-- Nothing moved in a round or a poll, and the link was waited for in vain, or the round came behind a wait already.
+abbrev pub GivesUp : (waited : Bool) → (before after : LinkView) → Type 0
+GivesUp waited before after = (Rose before.lulls after.lulls × Rests before after) ⊎ ((waited ≡ true) × (after ≡ before))
+
+-- Why a pause of the link failed, behind a round or a poll in which nothing moved and its count of calls that weren't
+-- ready went from one number to another.
+abbrev pub PauseFails : (from to : ℕ) → (waited : Bool) → (before after : LinkView) → Error → Type 0
+PauseFails from to waited before after (error.Stalled a b) = (a ≡ from) × (b ≡ to) × GivesUp waited before after
+PauseFails from to waited before after (error.Io cause.Link) = Rose before.faults after.faults
+PauseFails from to waited before after _ = ⊥
+
+-- A poll of the startup moved nothing, and the pause behind it failed. The poll came behind a wait, or not.
+pub record StopsOpening (user nonce : List ℕ) (begin now : LinkView) (s : Startup) (e : Error) : Type 0 where
+  pub link : LinkView
+  pub keeps : Keeps begin link
+  pub polled : LinkView
+  pub opening : Opening user nonce begin polled s
+  pub within : s.given ≤ s.max_bytes
+  pub goes_on : GoesOn s link polled
+  pub unmoved : s.moved ≡ false
+  pub waited : Bool
+  pub promised : waited ≡ true → IsTrue link.promised
+  pub fails : PauseFails link.quiet polled.quiet waited polled now e
+
+-- some turns were made, and memory lacked in the next one
+pub record RunsShort (scripts : List (List Command)) (s : SessionState) (l m : LinkView) (e : Error) : Type 0 where
+  pub turns : List ℕ
+  pub state : SessionState
+  pub link : LinkView
+  pub before : MakesAll scripts turns s l state link
+  pub lacks : LacksMemory state link m e
 
 -- some turns were made, and the next one failed
 pub record BreaksOff (scripts : List (List Command)) (s : SessionState) (l m : LinkView) (e : Error) : Type 0 where
@@ -41,22 +88,25 @@ pub record BreaksOff (scripts : List (List Command)) (s : SessionState) (l m : L
   pub before : MakesAll scripts turns s l state link
   pub fails : PollFails state link m e
 
--- Some turns were made, the link was waited for behind them, and the session went no further. The counts of
--- calls that weren't ready are the link's, in these turns.
+-- Some turns were made, and then a whole round in which nothing moved, and the pause behind it failed. The round came
+-- behind a wait, or not.
 pub record GivesOut (scripts : List (List Command)) (s : SessionState) (l m : LinkView) (e : Error) : Type 0 where
   pub turns : List ℕ
   pub state : SessionState
   pub link : LinkView
   pub before : MakesAll scripts turns s l state link
-  pub from : ℕ
-  pub to : ℕ
-  pub counted_from : l.quiet ≤ from
-  pub counted_to : to ≤ m.quiet
-  pub fails : PauseFails from to link m e
+  pub last : SessionState
+  pub passed : LinkView
+  pub round : StaysAll scripts (numbers (length scripts + 1)) state link last passed
+  pub within : last.streams.given ≤ last.streams.max_bytes
+  pub bytes : SameBytes passed m
+  pub waited : Bool
+  pub promised : waited ≡ true → IsTrue link.promised
+  pub fails : PauseFails link.quiet passed.quiet waited passed m e
 
 -- why a session that was opened failed
 abbrev pub HasFailed : List (List Command) → SessionState → (before after : LinkView) → Error → Type 0
-HasFailed scripts s l m e = (e ≡ error.OutOfMemory) ⊎ (BreaksOff scripts s l m e ⊎ GivesOut scripts s l m e)
+HasFailed scripts s l m e = RunsShort scripts s l m e ⊎ (BreaksOff scripts s l m e ⊎ GivesOut scripts s l m e)
 
 -- a whole session: it was opened as this user, and failed behind its startup
 pub record HasBroken (user nonce : List ℕ) (scripts : List (List Command)) (before after : LinkView) (e : Error) : Type 0 where
@@ -68,3 +118,21 @@ pub record HasBroken (user nonce : List ℕ) (scripts : List (List Command)) (be
   pub fresh : IsFresh startup opening new.streams
   pub is_new : IsNewSession scripts new
   pub fails : HasFailed scripts new link after e
+
+-- a session that was opened, and made no turn
+pub record WasOpened (user nonce : List ℕ) (before after : LinkView) : Type 0 where
+  pub startup : Startup
+  pub opened : Opened user nonce before after startup
+
+-- a session that was opened and played to its end, and wasn't reported
+pub record WasOver (user nonce : List ℕ) (scripts : List (List Command)) (before after : LinkView) : Type 0 where
+  pub startup : Startup
+  pub link : LinkView
+  pub opened : Opened user nonce before link startup
+  pub opening : List ℕ
+  pub new : SessionState
+  pub fresh : IsFresh startup opening new.streams
+  pub is_new : IsNewSession scripts new
+  pub given : List ℕ
+  pub last : SessionState
+  pub plays : Plays scripts given new link last after

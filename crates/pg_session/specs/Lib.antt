@@ -1,4 +1,5 @@
 pub mod States
+pub mod Measure
 pub mod HandleTurns
 pub mod Turns
 pub mod Sessions
@@ -7,4 +8,4 @@ pub mod Lives
 pub mod Crossed
 pub mod Failures
 pub mod WholeSession
-pub mod FailureCauses
+pub mod Course

@@ -1,5 +1,5 @@
 -- A whole session: the startup, the turns one after another, and the report.
-use Rattle.std.specs.Prelude.{◌≡◌, ◌<◌, ◌≤◌, ◌+◌, ◌^◌, ◌⊎◌, ℕ, zero, suc, true, false, List, [], ◌∷◌, ◌++◌, length}
+use Rattle.std.specs.Prelude.{◌≡◌, ◌<◌, ◌≤◌, ◌+◌, ◌^◌, ◌⊎◌, ℕ, zero, suc, true, false, List, [], ◌∷◌, ◌++◌, length, Some}
 use Rattle.pg_spec.specs.Links.{LinkView}
 use Rattle.pg_wire.specs.LinkCalls.{SameBytes, Keeps}
 use Rattle.pg_desk.specs.History.{start, IsFrontOf}
@@ -12,7 +12,7 @@ use Rattle.pg_connect.specs.StartupPolls.{IsFresh}
 use Rattle.pg_connect.specs.declared.startup.Startup.{Startup}
 use Rattle.pg_session.specs.Reports.{Reports}
 use Rattle.pg_session.specs.States.{SessionState, new_handles, commands_in}
-use Rattle.pg_session.specs.Turns.{Closes, Makes}
+use Rattle.pg_session.specs.Turns.{Closes, Makes, Turns}
 
 -- between two turns the link may be waited for
 pub record Rests (before after : LinkView) : Type 0 where
@@ -25,6 +25,12 @@ MakesAll scripts [] s l t m = (t ≡ s) × Rests l m
 MakesAll scripts (turn ∷ turns) s l t m =
     (rested : LinkView) × (mid : SessionState) × (passed : LinkView)
     × Rests l rested × Makes scripts turn s mid rested passed false × MakesAll scripts turns mid passed t m
+
+-- The same, with nothing between two turns, and in none of them anything moved.
+abbrev pub StaysAll : List (List Command) → (turns : List ℕ) → SessionState → LinkView → SessionState → LinkView → Type 0
+StaysAll scripts [] s l t m = (t ≡ s) × (m ≡ l)
+StaysAll scripts (turn ∷ turns) s l t m =
+    (mid : SessionState) × (passed : LinkView) × Turns scripts turn s mid l passed (Some false) × StaysAll scripts turns mid passed t m
 
 -- the same, and the connection was shut down in one more turn behind them
 pub record EndsWith (scripts : List (List Command)) (turns : List ℕ) (last : ℕ) (s : SessionState) (l : LinkView) (t : SessionState) (m : LinkView) : Type 0 where
@@ -70,8 +76,8 @@ pub record IsNewSession (scripts : List (List Command)) (s : SessionState) : Typ
   pub trace : s.trace ≡ []
   pub asynchronous : s.asynchronous ≡ []
 
--- A whole session: it was opened as this user, and played from there to its end, and this is its report. The bytes
--- that the link gave in it are counted by 64 bits.
+-- A whole session: it was opened as this user, and played from there to its end, and this is its report. The link
+-- gave no more bytes in it than it may, and they are counted by 64 bits.
 pub record HasPlayed (user nonce : List ℕ) (scripts : List (List Command)) (given : List ℕ) (before after : LinkView) (report : Report) : Type 0 where
   pub startup : Startup
   pub link : LinkView
@@ -84,3 +90,4 @@ pub record HasPlayed (user nonce : List ℕ) (scripts : List (List Command)) (gi
   pub plays : Plays scripts given new link last after
   pub reports : Reports opening last report
   pub counted : last.streams.given < 2 ^ 64
+  pub within : last.streams.given ≤ startup.max_bytes

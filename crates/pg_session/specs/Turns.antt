@@ -1,9 +1,11 @@
 -- What one turn of a session does.
 use Rattle.std.specs.Prelude.{◌≡◌, ◌<◌, ◌≤◌, ◌-◌, ◌⊎◌, ℕ, zero, suc, Bool, true, false, List, [], ◌∷◌, ◌++◌, length, Option, Some, None, slice_get, slice_set, Result, Ok, Err}
+use Rattle.std.proofs.Common.{inl, inr}
 use Rattle.futures.specs.declared.task.Poll.{Poll}
 use Rattle.futures.specs.declared.task.Poll.TheVariants.{Ready, Pending}
 use Rattle.pg_spec.specs.Links.{LinkView}
 use Rattle.pg_connect.specs.Answers.{PollAnswers}
+use Rattle.pg_connect.specs.declared.streams.Streams.{Streams}
 use Rattle.pg_desk.specs.declared.event.Event.TheVariants.{CloseRequests}
 use Rattle.pg_errors.specs.declared.async_message.AsyncMessage.{AsyncMessage}
 use Rattle.pg_errors.specs.declared.error.Error.{Error}
@@ -81,6 +83,30 @@ pub record ConnectionTurn (scripts : List (List Command)) (turn : ℕ) (s t : Se
   pub other : length scripts ≤ turn
   pub made : ConnectionMade turn s t before after over
 
+-- whether a turn of a handle moved anything: its command begins or answers, or what it did to the hub moves it
+abbrev pub moved_by : Polling → (hub : Standing) → Bool
+moved_by polling.Idle hub = false
+moved_by polling.Began hub = true
+moved_by polling.Waits hub = hub.touched
+moved_by polling.Answered hub = true
+
+-- whether a poll moved anything: a message is handed out, or it says so itself
+abbrev pub moved_in_poll : Poll (Option (Result AsyncMessage Error)) → Streams → Bool
+moved_in_poll Pending streams = streams.moved
+moved_in_poll (Ready answer) streams = true
+
 -- one turn of a session, and whether the connection was shut down in it
 abbrev pub Makes : List (List Command) → (turn : ℕ) → SessionState → SessionState → (before after : LinkView) → (over : Bool) → Type 0
 Makes scripts turn s t before after over = HandleTurn scripts turn s t before after over ⊎ ConnectionTurn scripts turn s t before after over
+
+-- whether anything moved in it
+abbrev pub moved_in : (scripts : List (List Command)) (turn : ℕ) (s t : SessionState) (before after : LinkView) (over : Bool) →
+    Makes scripts turn s t before after over → Bool
+moved_in scripts turn s t before after over (inl handle) = moved_by handle.did handle.made.hub
+moved_in scripts turn s t before after over (inr connection) = moved_in_poll connection.made.answer t.streams
+
+-- one turn by what it answers: the connection was shut down in it, or whether anything moved
+abbrev pub Turns : List (List Command) → (turn : ℕ) → SessionState → SessionState → (before after : LinkView) → Option Bool → Type 0
+Turns scripts turn s t before after None = Makes scripts turn s t before after true
+Turns scripts turn s t before after (Some moved) =
+    (made : Makes scripts turn s t before after false) × (moved_in scripts turn s t before after false made ≡ moved)

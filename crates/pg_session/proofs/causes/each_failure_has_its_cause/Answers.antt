@@ -1,4 +1,5 @@
 use Rattle.pg_session.proofs.Caused.{broken-cause}
+use Rattle.pg_session.proofs.StalledStart.{stalled-start}
 use Rattle.pg_session.proofs.StartCauses.{start_cause}
 use Rattle.pg_session.proofs.causes.each_failure_has_its_cause.Goals as goal
 
@@ -6,4 +7,7 @@ pub returns-clause-startup : goal.returns-clause-startup
 returns-clause-startup c = start_cause
 
 pub returns-clause-later : goal.returns-clause-later
-returns-clause-later c call user scripts e means b limit moves = broken-cause call user scripts e means b limit moves
+returns-clause-later c call user scripts e means b limit = broken-cause call user scripts e means b limit
+
+pub returns-clause-stalled : goal.returns-clause-stalled
+returns-clause-stalled c call user s before after means h = stalled-start call user s before after means h

@@ -1,0 +1,118 @@
+-- Each turn of a session leaves less to do where something moved in it.
+use Rattle.std.proofs.Common.{◌≡◌, inl, inr, ℕ, ◌+◌, ◌≤◌, List, [], ◌∷◌, Bool, true, false, ◌||◌, Option, Some, None, Result, Ok, Err, sym, ap, subst, arith}
+use Rattle.futures.specs.declared.task.Poll.{Poll}
+use Rattle.futures.specs.declared.task.Poll.TheVariants.{Ready, Pending}
+use Rattle.pg_spec.specs.Links.{LinkView}
+use Rattle.pg_errors.specs.declared.async_message.AsyncMessage.{AsyncMessage}
+use Rattle.pg_errors.specs.declared.error.Error.{Error}
+use Rattle.pg_connect.specs.declared.streams.Streams.{Streams}
+use Rattle.pg_connect.specs.Answers.{PollAnswers}
+use Rattle.pg_desk.specs.History.{start}
+use Rattle.pg_hub.specs.Fits.{HubBecomes}
+use Rattle.pg_hub.specs.Standing.{Standing}
+use Rattle.pg_text.specs.declared.command.Command.{Command}
+use Rattle.pg_session.specs.Measure.{one_if, scripts_left, unsent_left, reading_left, left_to_do, IsNearer, IsWithinLimit, AllRead, IsUnderWay}
+use Rattle.pg_session.specs.Sessions.{IsNewSession, MakesAll}
+use Rattle.pg_session.specs.States.{SessionState, new_handles, commands_in}
+use Rattle.pg_session.specs.Turns.{HandsOn, HandleMade, ConnectionMade, Makes, Turns, moved_by, moved_in, moved_in_poll}
+use Rattle.pg_session.proofs.NearerLink.{poll-less}
+use Rattle.pg_session.proofs.NearerSums.{one-or, scripts-changed, read-at, read-set}
+use Rattle.pg_session.proofs.NearerTurns.{handle-less, closes}
+
+-- a session goes on, and less is left to do
+pub record GoesNearer (scripts : List (List Command)) (moved : Bool) (s t : SessionState) : Type 0 where
+  pub nearer : IsNearer scripts moved s t
+  pub under_way : IsUnderWay t
+
+handle-nearer : (scripts : List (List Command)) (turn : ℕ) (s t : SessionState) (did : _) → (made : HandleMade scripts turn s t did) → IsUnderWay s →
+    GoesNearer scripts (moved_by did made.hub) s t
+handle-nearer scripts turn s t did made h =
+    let less = handle-less did made.script _ s.unanswered h.state s.hub made.hub t.hub made.old made.new h.fits (read-at s.handles turn made.old h.handles made.old_at) made.turns made.closes in
+    let changed = scripts-changed scripts s.handles turn made.script made.old made.new made.script_at made.old_at in
+    let handles = ap (scripts_left scripts) made.handles in
+    let unsent = ap unsent_left made.streams in
+    let reading = ap reading_left made.streams in
+    record {
+      nearer = omega (arith, less.left, changed, handles, unsent, reading);
+      under_way = record {
+        state = less.state;
+        fits = less.fits;
+        handles = subst AllRead (sym made.handles) (read-set s.handles turn made.new h.handles less.runs);
+      };
+    }
+
+link-nearer : (scripts : List (List Command)) (turn : ℕ) (s t : SessionState) (l m : LinkView) → (made : ConnectionMade turn s t l m false) → IsUnderWay s → IsWithinLimit t →
+    GoesNearer scripts (moved_in_poll made.answer t.streams) s t
+link-nearer scripts turn s t l m made h within =
+    let less = poll-less h.state s.hub t.hub s.streams t.streams l m s.asynchronous t.asynchronous made.answer h.fits made.polled made.hands within in
+    let handles = ap (scripts_left scripts) made.handles in
+    record {
+      nearer = omega (arith, less.left, handles);
+      under_way = record { state = less.state; fits = less.fits; handles = subst AllRead (sym made.handles) h.handles };
+    }
+
+-- one turn
+pub turn-nearer : (scripts : List (List Command)) (turn : ℕ) (s t : SessionState) (l m : LinkView) → (made : Makes scripts turn s t l m false) → IsUnderWay s → IsWithinLimit t →
+    GoesNearer scripts (moved_in scripts turn s t l m false made) s t
+turn-nearer scripts turn s t l m (inl handle) h within = handle-nearer scripts turn s t handle.did handle.made h
+turn-nearer scripts turn s t l m (inr link) h within = link-nearer scripts turn s t l m link.made h within
+
+-- the same by what it answers
+pub answered-nearer : (scripts : List (List Command)) (turn : ℕ) (s t : SessionState) (l m : LinkView) (moved : Bool) → Turns scripts turn s t l m (Some moved) →
+    IsUnderWay s → IsWithinLimit t → GoesNearer scripts moved s t
+answered-nearer scripts turn s t l m moved h under_way within =
+    subst (λ (b : Bool). GoesNearer scripts b s t) h.1 (turn-nearer scripts turn s t l m h.0 under_way within)
+
+-- ---- several turns
+
+-- one and another behind it
+pub nearer-joined : (scripts : List (List Command)) (a b : Bool) (s t u : SessionState) → IsNearer scripts a s t → IsNearer scripts b t u → IsNearer scripts (a || b) s u
+nearer-joined scripts a b s t u h k = omega (arith, h, k, one-or a b)
+
+streams-within : (s t : Streams) → t ≡ s → t.given ≤ t.max_bytes → s.given ≤ s.max_bytes
+streams-within s t same h = subst (λ (x : Streams). x.given ≤ x.max_bytes) same h
+
+-- the link doesn't take bytes back
+poll-within : (a b : Standing) (s t : Streams) (l m : LinkView) (old new : List AsyncMessage) (answer : Poll (Option (Result AsyncMessage Error))) →
+    PollAnswers HubBecomes a b s t l m answer → HandsOn answer old new false → t.given ≤ t.max_bytes → s.given ≤ s.max_bytes
+poll-within a b s t l m old new Pending p hands h = omega (arith, p.turns.goes.passes.count, p.turns.goes.passes.limit, h)
+poll-within a b s t l m old new (Ready None) p hands h = let no : false ≡ true = hands.1 in absurd cc
+poll-within a b s t l m old new (Ready (Some (Ok message))) p hands h = omega (arith, p.turns.goes.passes.count, p.turns.goes.passes.limit, h)
+poll-within a b s t l m old new (Ready (Some (Err e))) p hands h = absurd hands
+
+turn-within : (scripts : List (List Command)) (turn : ℕ) (s t : SessionState) (l m : LinkView) → Makes scripts turn s t l m false → IsWithinLimit t → IsWithinLimit s
+turn-within scripts turn s t l m (inl handle) h = streams-within s.streams t.streams handle.made.streams h
+turn-within scripts turn s t l m (inr link) h =
+    poll-within s.hub t.hub s.streams t.streams l m s.asynchronous t.asynchronous link.made.answer link.made.polled link.made.hands h
+
+all-within : (scripts : List (List Command)) (turns : List ℕ) (s : SessionState) (l : LinkView) (t : SessionState) (m : LinkView) →
+    MakesAll scripts turns s l t m → IsWithinLimit t → IsWithinLimit s
+all-within scripts [] s l t m made h = subst IsWithinLimit made.0 h
+all-within scripts (turn ∷ turns) s l t m made h =
+    turn-within scripts turn s made.1 made.0 made.2 made.4 (all-within scripts turns made.1 made.2 t m made.5 h)
+
+some-less : (b : Bool) (m n : ℕ) → m + one_if b ≤ n → m ≤ n
+some-less b m n h = omega (arith, h)
+
+-- turns one after another leave no more to do
+pub turns-nearer : (scripts : List (List Command)) (turns : List ℕ) (s : SessionState) (l : LinkView) (t : SessionState) (m : LinkView) →
+    MakesAll scripts turns s l t m → IsUnderWay s → IsWithinLimit t → GoesNearer scripts false s t
+turns-nearer scripts [] s l t m made h within =
+    subst (λ (x : SessionState). GoesNearer scripts false s x) (sym made.0) (record { nearer = omega arith; under_way = h })
+turns-nearer scripts (turn ∷ turns) s l t m made h within =
+    let one = turn-nearer scripts turn s made.1 made.0 made.2 made.4 h (all-within scripts turns made.1 made.2 t m made.5 within) in
+    let more = turns-nearer scripts turns made.1 made.2 t m made.5 one.under_way within in
+    let moved = moved_in scripts turn s made.1 made.0 made.2 false made.4 in
+    let less = some-less moved (left_to_do scripts made.1) (left_to_do scripts s) one.nearer in
+    record { nearer = omega (arith, less, more.nearer); under_way = more.under_way }
+
+-- ---- a new session
+
+read-new : (scripts : List (List Command)) → AllRead (new_handles scripts)
+read-new [] = tt
+read-new (script ∷ scripts) = (tt, read-new scripts)
+
+pub new-under-way : (scripts : List (List Command)) (s : SessionState) → IsNewSession scripts s → IsUnderWay s
+new-under-way scripts s new =
+    let hub = closes (commands_in scripts) (start 0 0) new.hub s.hub new.new new.closes in
+    record { state = hub.state; fits = hub.fits; handles = subst AllRead (sym new.handles) (read-new scripts) }

@@ -1,0 +1,113 @@
+-- Sums over places, and what is left of scripts and parts.
+use Rattle.std.proofs.Common.{◌≡◌, ◌≢◌, ℕ, zero, suc, ◌+◌, ◌<◌, ◌≤◌, List, [], ◌∷◌, ◌++◌, length, drop, Bool, true, false, ◌||◌, Some, refl, ap, ◌∙◌, subst, arith}
+use Rattle.std.specs.Prelude.{slice_get, slice_set}
+use Rattle.pg_hub.specs.declared.mailbox.Mailbox.{Mailbox}
+use Rattle.pg_hub.specs.Mail.{waits, at}
+use Rattle.pg_hub.specs.Waiting.{undelivered_in}
+use Rattle.pg_text.specs.declared.command.Command.{Command}
+use Rattle.pg_session.specs.Measure.{one_if, parts_left, command_left, commands_left, script_left, scripts_left, RunReads, AllRead}
+use Rattle.pg_session.specs.States.{HandleState}
+
+-- one of two things moved
+pub one-or : (a b : Bool) → one_if (a || b) ≤ one_if a + one_if b
+one-or true b = omega arith
+one-or false b = omega arith
+
+-- ---- sums over places
+
+-- the sum at the first places
+abbrev pub total : (ℕ → ℕ) → ℕ → ℕ
+total f zero = 0
+total f (suc n) = f 0 + total (λ k. f (suc k)) n
+
+-- one place more
+pub total-more : (f : ℕ → ℕ) (n : ℕ) → total f (suc n) ≡ total f n + f n
+total-more f zero = omega arith
+total-more f (suc n) = let h = total-more (λ k. f (suc k)) n in omega (arith, h)
+
+-- less at each place
+pub total-less : (f g : ℕ → ℕ) (n : ℕ) → ((k : ℕ) → g k ≤ f k) → total g n ≤ total f n
+total-less f g zero h = omega arith
+total-less f g (suc n) h = let more = total-less (λ k. f (suc k)) (λ k. g (suc k)) n (λ k. h (suc k)) in omega (arith, more, h 0)
+
+-- one less at one place, and no more at any
+pub total-falls : (f g : ℕ → ℕ) (place n : ℕ) → place < n → ((k : ℕ) → k ≢ place → g k ≤ f k) → g place + 1 ≤ f place → total g n + 1 ≤ total f n
+total-falls f g place zero lt h one = absurd (omega (arith, lt))
+total-falls f g zero (suc n) lt h one =
+    let more = total-less (λ k. f (suc k)) (λ k. g (suc k)) n (λ k. h (suc k) (λ e. absurd cc)) in
+    omega (arith, more, one)
+total-falls f g (suc place) (suc n) lt h one =
+    let more = total-falls (λ k. f (suc k)) (λ k. g (suc k)) place n (omega (arith, lt)) (λ k apart. h (suc k) (λ e. apart (omega (arith, e)))) one in
+    omega (arith, more, h 0 (λ e. absurd cc))
+
+-- one more at one place, and no more at any other
+pub total-grows : (f g : ℕ → ℕ) (place n : ℕ) → ((k : ℕ) → k ≢ place → g k ≤ f k) → g place ≤ f place + 1 → total g n ≤ total f n + 1
+total-grows f g place zero h one = omega arith
+total-grows f g zero (suc n) h one =
+    let more = total-less (λ k. f (suc k)) (λ k. g (suc k)) n (λ k. h (suc k) (λ e. absurd cc)) in
+    omega (arith, more, one)
+total-grows f g (suc place) (suc n) h one =
+    let more = total-grows (λ k. f (suc k)) (λ k. g (suc k)) place n (λ k apart. h (suc k) (λ e. apart (omega (arith, e)))) one in
+    omega (arith, more, h 0 (λ e. absurd cc))
+
+-- the batches in mailboxes, mailbox by mailbox
+pub undelivered-total : (mail : List Mailbox) (f : ℕ → ℕ) → ((k : ℕ) → k < length mail → length (waits (at mail k)) ≡ f k) → undelivered_in mail ≡ total f (length mail)
+undelivered-total [] f h = refl
+undelivered-total (m ∷ mail) f h =
+    let more = undelivered-total mail (λ k. f (suc k)) (λ k lt. h (suc k) (omega (arith, lt))) in
+    let first : length (waits m) ≡ f 0 = h 0 (omega arith) in
+    omega (arith, more, first)
+
+-- ---- parts
+
+pub parts-joined : (ps qs : List (List ℕ)) → parts_left (ps ++ qs) ≡ parts_left ps + parts_left qs
+parts-joined [] qs = omega arith
+parts-joined (p ∷ ps) qs = let h = parts-joined ps qs in omega (arith, h)
+
+-- what is left behind the first ones grows by the parts that come behind, at most
+pub parts-behind : (n : ℕ) (ps qs : List (List ℕ)) → parts_left (drop n (ps ++ qs)) ≤ parts_left (drop n ps) + parts_left qs
+parts-behind zero ps qs = omega (arith, parts-joined ps qs)
+parts-behind (suc n) [] qs = let h = parts-dropped (suc n) qs in omega (arith, h)
+  where
+    parts-dropped : (n : ℕ) (ps : List (List ℕ)) → parts_left (drop n ps) ≤ parts_left ps
+    parts-dropped zero ps = omega arith
+    parts-dropped (suc n) [] = omega arith
+    parts-dropped (suc n) (p ∷ ps) = let h = parts-dropped n ps in omega (arith, h)
+parts-behind (suc n) (p ∷ ps) qs = parts-behind n ps qs
+
+-- ---- scripts
+
+-- the next command, and those behind it
+pub commands-next : (script : List Command) (answered : ℕ) (next : Command) → slice_get script answered ≡ Some next →
+    commands_left (drop answered script) ≡ command_left next + commands_left (drop (suc answered) script)
+commands-next [] answered next h = absurd cc
+commands-next (command ∷ script) zero next h = let same : command ≡ next = cc in ap (λ (c : Command). command_left c + commands_left script) same
+commands-next (command ∷ script) (suc answered) next h = commands-next script answered next h
+
+-- a handle's share changes, and with it all
+pub scripts-changed : (scripts : List (List Command)) (handles : List HandleState) (turn : ℕ) (script : List Command) (old new : HandleState) →
+    slice_get scripts turn ≡ Some script → slice_get handles turn ≡ Some old →
+    scripts_left scripts (slice_set handles turn new) + script_left script old.running (length old.answers)
+    ≡ scripts_left scripts handles + script_left script new.running (length new.answers)
+scripts-changed [] handles turn script old new is at = absurd cc
+scripts-changed (x ∷ scripts) [] turn script old new is at = absurd cc
+scripts-changed (x ∷ scripts) (h ∷ handles) zero script old new is at =
+    let same : x ≡ script = cc in
+    let here : h ≡ old = cc in
+    let there = ap (λ (s : List Command). script_left s new.running (length new.answers)) same in
+    let before = ap (λ (s : List Command). script_left s h.running (length h.answers)) same ∙ ap (λ (g : HandleState). script_left script g.running (length g.answers)) here in
+    omega (arith, there, before)
+scripts-changed (x ∷ scripts) (h ∷ handles) (suc turn) script old new is at =
+    let more = scripts-changed scripts handles turn script old new is at in omega (arith, more)
+
+-- ---- what runs
+
+pub read-at : (handles : List HandleState) (i : ℕ) (h : HandleState) → AllRead handles → slice_get handles i ≡ Some h → RunReads h.running
+read-at [] i h all e = absurd cc
+read-at (x ∷ handles) zero h all e = let same : x ≡ h = cc in subst (λ (g : HandleState). RunReads g.running) same all.0
+read-at (x ∷ handles) (suc i) h all e = read-at handles i h all.1 e
+
+pub read-set : (handles : List HandleState) (i : ℕ) (h : HandleState) → AllRead handles → RunReads h.running → AllRead (slice_set handles i h)
+read-set [] i h all q = tt
+read-set (x ∷ handles) zero h all q = (q, all.1)
+read-set (x ∷ handles) (suc i) h all q = (all.0, read-set handles i h all.1 q)

@@ -1,0 +1,245 @@
+-- What was sent where a session failed.
+use Rattle.std.proofs.Common.{◌≡◌, ℕ, zero, suc, ◌<◌, List, [], ◌∷◌, ◌++◌, length, map, Bool, true, false, Some, Ok, inl, inr, refl, sym, ap, subst, ◌∙◌, arith, append_assoc, append-nil, slice_get}
+use Rattle.std.specs.Prelude.{All, IsSome, take, drop}
+use Rattle.std.proofs.lemmas.List.{take-append-drop}
+use Rattle.std.proofs.lemmas.List.Elements.{All-nil, All-weaker}
+use Rattle.pg_spec.specs.Book as said
+use Rattle.pg_spec.specs.Causes.{Call, OfDialogue}
+use Rattle.pg_spec.specs.ConnectionStrings.{Means, only_user}
+use Rattle.pg_spec.specs.Frames.{ssl_request, terminate_frame}
+use Rattle.pg_spec.specs.Links.{LinkView}
+use Rattle.pg_spec.specs.Promises.{IsFront, InScriptOrder, SentInOrder}
+use Rattle.pg_spec.specs.RawMessages.{RawMessage, messages}
+use Rattle.pg_spec.specs.Report as told
+use Rattle.pg_spec.specs.Startup.{Done}
+use Rattle.pg_spec.specs.Turns.{entry_at}
+use Rattle.pg_errors.specs.declared.error.Error.{Error}
+use Rattle.pg_errors.specs.declared.error.Error.TheVariants as error
+use Rattle.pg_desk.specs.declared.event.Booking.{Booking}
+use Rattle.pg_desk.specs.declared.event.Event.{Event}
+use Rattle.pg_desk.specs.History.{State, start, after_all, wire, joined, IsFrontOf, IsLegal}
+use Rattle.pg_desk.specs.Kept.{legal-joined}
+use Rattle.pg_desk.proofs.Soundness.{legal-sound}
+use Rattle.pg_hub.specs.Becomes.{after-joined}
+use Rattle.pg_connect.specs.Answers.{fresh, left_open}
+use Rattle.pg_connect.specs.Passed.{AllEngineCalls, bytes_out_by}
+use Rattle.pg_connect.specs.Passes.{goodbye}
+use Rattle.pg_connect.specs.Polls.{ClosesBy}
+use Rattle.pg_connect.specs.Startups.{Ends, Failed, frame_of}
+use Rattle.pg_connect.specs.declared.startup.Startup.{Startup}
+use Rattle.pg_connect.specs.declared.streams.Streams.{Streams}
+use Rattle.pg_connect.proofs.Joining.{grew_same}
+use Rattle.pg_text.specs.Views.{command_of, scripts_of, booking_of}
+use Rattle.pg_text.specs.declared.command.Command.{Command}
+use Rattle.pg_session.specs.Failures.{StopsOpening, WasOpened, WasOver}
+use Rattle.pg_session.specs.States.{HandleState, SessionState}
+use Rattle.pg_session.proofs.CausedTurns.{Broke}
+use Rattle.pg_session.proofs.CrossedChain.{StoodIn, stood-all, stood-turn}
+use Rattle.pg_session.proofs.CrossedEnd.{joined-append, wire-bytes, whole-front}
+use Rattle.pg_session.proofs.CrossedHub.{Spent, no-more-spent, out-all, spent-all}
+use Rattle.pg_session.proofs.CrossedStart.{is-started, one-frame, stood-start}
+use Rattle.pg_session.proofs.LivesCalls.{calls-alone}
+use Rattle.pg_session.proofs.LivesHub.{engine-all}
+use Rattle.pg_session.proofs.LivesReached.{book_in}
+use Rattle.pg_session.proofs.LivesSession.{session-ends}
+use Rattle.pg_session.proofs.LivesTurns.{SessionStands}
+use Rattle.pg_session.proofs.SentOrder.{asked_by, asked-append, begun}
+use Rattle.pg_session.proofs.StalledStart.{rests-so}
+use Rattle.pg_session.proofs.StartCauses.{of_grown}
+
+-- ---- whose the requests are
+
+owner-within : (rows : List (List told.Command)) (i j : ℕ) → IsSome (entry_at rows i j) → i < length rows
+owner-within [] i j h = absurd (let no : false ≡ true = h in cc)
+owner-within (row ∷ rows) zero j h = omega arith
+owner-within (row ∷ rows) (suc i) j h = let lt = owner-within rows i j h in omega (arith, lt)
+
+pub script-of : (scripts : List (List Command)) (i : ℕ) (asked : List told.Command) → slice_get (scripts_of scripts) i ≡ Some asked →
+    (script : List Command) × (slice_get scripts i ≡ Some script) × (map command_of script ≡ asked)
+script-of [] i asked e = absurd cc
+script-of (script ∷ scripts) zero asked e = (script, refl, cc)
+script-of (script ∷ scripts) (suc i) asked e = script-of scripts i asked e
+
+pub handle-of : (scripts : List (List Command)) (handles : List HandleState) (i : ℕ) (script : List Command) → length handles ≡ length scripts → slice_get scripts i ≡ Some script →
+    (h : HandleState) × (slice_get handles i ≡ Some h)
+handle-of [] handles i script same e = absurd cc
+handle-of (s ∷ scripts) [] i script same e = absurd (omega (arith, same))
+handle-of (s ∷ scripts) (h ∷ handles) zero script same e = (h, refl)
+handle-of (s ∷ scripts) (h ∷ handles) (suc i) script same e = handle-of scripts handles i script (omega (arith, same)) e
+
+-- each handle's requests are in script order, from the front
+pub in-order : (scripts : List (List Command)) (s : SessionState) → SessionStands scripts s → InScriptOrder (scripts_of scripts) (book_in s.hub)
+in-order scripts s h i asked at =
+    let script = script-of scripts i asked at in
+    let handle = handle-of scripts s.handles i script.0 h.many script.1 in
+    let many = begun handle.0 in
+    let all = map command_of script.0 in
+    let own = (h.handles i script.0 handle.0 script.1 handle.1).requests in (
+      asked_by (drop many all),
+      ap (λ (l : List (List (List ℕ))). l ++ asked_by (drop many all)) own ∙ sym (asked-append (take many all) (drop many all))
+          ∙ ap asked_by (take-append-drop many all) ∙ ap asked_by script.2,
+    )
+
+pub owners : (scripts : List (List Command)) (s : SessionState) → SessionStands scripts s → All (λ b. b.stamp.owner < length (scripts_of scripts)) (book_in s.hub)
+owners scripts s h =
+    All-weaker (λ (b : said.Booking). IsSome (entry_at (scripts_of scripts) b.stamp.owner b.stamp.command)) (λ (b : said.Booking). b.stamp.owner < length (scripts_of scripts))
+    (λ b there. owner-within (scripts_of scripts) b.stamp.owner b.stamp.command there) (book_in s.hub) h.book.known
+
+-- ---- the bytes
+
+pub front-taken : (opening taken unsent : List ℕ) (closing : Bool) (es : List Event) (bookings : List Booking) → IsLegal (start 0 0) es →
+    (opening ++ bytes_out_by es) ++ goodbye false closing ≡ taken ++ unsent → (closing ≡ true → Spent (after_all (start 0 0) es)) → bookings ≡ (after_all (start 0 0) es).book →
+    IsFront taken (opening ++ said.wire (map booking_of bookings) ++ terminate_frame)
+front-taken opening taken unsent closing es bookings legal out spent same = by closing out spent
+  where
+    st : State
+    st = after_all (start 0 0) es
+
+    front : IsFrontOf st.gone_out (wire st.book)
+    front = (legal-sound 0 0 es legal).out_is_front
+
+    all : joined (wire st.book) ≡ said.wire (map booking_of bookings)
+    all = wire-bytes st.book ∙ ap (λ (bs : List Booking). said.wire (map booking_of bs)) (sym same)
+
+    by : (closing : Bool) → (opening ++ bytes_out_by es) ++ goodbye false closing ≡ taken ++ unsent → (closing ≡ true → Spent st) →
+        IsFront taken (opening ++ said.wire (map booking_of bookings) ++ terminate_frame)
+    by true out spent =
+        let bytes : bytes_out_by es ≡ said.wire (map booking_of bookings) =
+        sym (out-all (start 0 0) es) ∙ ap (λ (l : List (List ℕ)). joined l) (whole-front st.gone_out (wire st.book) front (spent refl).out) ∙ all in (
+          unsent,
+          sym out ∙ ap (λ (l : List ℕ). (opening ++ l) ++ terminate_frame) bytes,
+        )
+    by false out spent =
+        let later = joined front.0 ++ terminate_frame in
+        let bytes : bytes_out_by es ++ joined front.0 ≡ said.wire (map booking_of bookings) =
+        ap (λ (l : List ℕ). l ++ joined front.0) (sym (out-all (start 0 0) es)) ∙ sym (joined-append st.gone_out front.0) ∙ ap (λ (l : List (List ℕ)). joined l) front.1 ∙ all in (
+          unsent ++ later,
+          sym (append_assoc taken unsent later) ∙ ap (λ (l : List ℕ). l ++ later) (sym out ∙ append-nil (opening ++ bytes_out_by es))
+              ∙ sym (append_assoc (opening ++ bytes_out_by es) (joined front.0) terminate_frame)
+              ∙ ap (λ (l : List ℕ). l ++ terminate_frame) (append_assoc opening (bytes_out_by es) (joined front.0))
+              ∙ ap (λ (l : List ℕ). (opening ++ l) ++ terminate_frame) bytes,
+        )
+
+-- ---- behind the startup
+
+-- the requests are in order, and what was taken is a front of what the startup writes, of them and of Terminate
+pub sent-behind : (call : Call) (user opening : List ℕ) (first later : List RawMessage) (scripts : List (List Command)) (s : SessionState) (given taken : List ℕ) →
+    call.scripts ≡ scripts_of scripts → frame_of user ≡ Ok opening → Ends user call.nonce first (Done (length first)) → messages given ≡ first ++ later → SessionStands scripts s →
+    IsFront taken (opening ++ said.wire (book_in s.hub) ++ terminate_frame) → SentInOrder call (only_user user) given taken
+sent-behind call user opening first later scripts s given taken asked frame done came stands front =
+    let started = is-started user call.nonce opening first later (messages given) frame done came in
+    record {
+      book = book_in s.hub;
+      owners = subst (λ (x : List (List told.Command)). All (λ b. b.stamp.owner < length x) (book_in s.hub)) (sym asked) (owners scripts s stands);
+      order = subst (λ (x : List (List told.Command)). InScriptOrder x (book_in s.hub)) (sym asked) (in-order scripts s stands);
+      front = inr (inr (
+        (length first, started.outcome),
+        subst (λ (x : List ℕ). IsFront taken (x ++ said.wire (book_in s.hub) ++ terminate_frame)) (sym started.frames) front,
+      ));
+    }
+
+-- where a poll failed
+pub spent-polled : (s t : Streams) (former now : List Event) → IsLegal (after_all (start 0 0) former) now → (s.closing ≡ true → Spent (after_all (start 0 0) former)) →
+    ClosesBy (fresh s) (left_open t) now → t.closing ≡ true → Spent (after_all (start 0 0) (former ++ now))
+spent-polled s t former now legal before closes is =
+    subst Spent (sym (after-joined (start 0 0) former now)) (elim (closes is) [
+      | inl closing ↦ spent-all (after_all (start 0 0) former) now (before closing) legal
+      | inr last ↦ no-more-spent (after_all (start 0 0) former) now last legal
+    ])
+
+pub sent-polled : (call : Call) (user opening : List ℕ) (first : List RawMessage) (scripts : List (List Command)) (state : SessionState) (t : Streams) (former now : List Event) →
+    Means call.config (only_user user) → call.scripts ≡ scripts_of scripts → frame_of user ≡ Ok opening → Ends user call.nonce first (Done (length first)) → SessionStands scripts state →
+    (b : Broke opening first call.before former now t call.after) → state.hub.book ≡ (after_all (start 0 0) former).book → AllEngineCalls now →
+    (t.closing ≡ true → Spent (after_all (start 0 0) (former ++ now))) → OfDialogue call (λ s g t. SentInOrder call s g t)
+sent-polled call user opening first scripts state t former now means asked frame done stands b book calls spent =
+    let st = after_all (start 0 0) former in
+    let same : state.hub.book ≡ (after_all (start 0 0) (former ++ now)).book =
+    book ∙ sym (engine-all st now calls).book ∙ ap (λ (x : State). x.book) (sym (after-joined (start 0 0) former now)) in (
+      only_user user,
+      means,
+      of_grown call.before call.after b.given b.taken (λ g t. SentInOrder call (only_user user) g t) b.gave b.took
+          (sent-behind call user opening first (b.read ++ (b.lost ++ messages t.buffer.items)) scripts state b.given b.taken asked frame done
+          (b.came_off ∙ append_assoc first b.read (b.lost ++ messages t.buffer.items)) stands
+          (front-taken opening b.taken t.unsent t.closing (former ++ now) state.hub.book (legal-joined (start 0 0) former now b.legal b.legal_now) b.out spent same)),
+    )
+
+-- where nothing moved
+pub sent-paused : (call : Call) (user opening : List ℕ) (first : List RawMessage) (scripts : List (List Command)) (state : SessionState) (l : LinkView) →
+    Means call.config (only_user user) → call.scripts ≡ scripts_of scripts → frame_of user ≡ Ok opening → Ends user call.nonce first (Done (length first)) → SessionStands scripts state →
+    StoodIn opening first call.before state l → call.after.given ≡ l.given → call.after.taken ≡ l.taken → OfDialogue call (λ s g t. SentInOrder call s g t)
+sent-paused call user opening first scripts state l means asked frame done stands h given taken = (
+  only_user user,
+  means,
+  of_grown call.before call.after h.given h.taken (λ g t. SentInOrder call (only_user user) g t) (given ∙ h.gave) (taken ∙ h.took)
+      (sent-behind call user opening first (h.read ++ (h.lost ++ messages state.streams.buffer.items)) scripts state h.given h.taken asked frame done
+      (h.came_off ∙ append_assoc first h.read (h.lost ++ messages state.streams.buffer.items)) stands
+      (front-taken opening h.taken state.streams.unsent state.streams.closing h.events state.hub.book h.legal h.out h.spent h.fits.book)),
+)
+
+-- ---- in the startup
+
+none-order : (scripts : List (List told.Command)) → InScriptOrder scripts []
+none-order scripts i script at = (asked_by script, refl)
+
+-- a front of the startup's frame
+start-sent : (call : Call) (user opening given taken rest : List ℕ) → frame_of user ≡ Ok opening → taken ++ rest ≡ opening → SentInOrder call (only_user user) given taken
+start-sent call user opening given taken rest frame front = record {
+  book = [];
+  owners = All-nil (λ b. b.stamp.owner < length call.scripts);
+  order = none-order call.scripts;
+  front = inr (inl (rest, front ∙ sym (one-frame user call.nonce opening (messages given) frame)));
+}
+
+pub sent-failed : (call : Call) (user : List ℕ) (s : Startup) (e : Error) → Means call.config (only_user user) → Failed user call.nonce call.before call.after s e →
+    OfDialogue call (λ s g t. SentInOrder call s g t)
+sent-failed call user s e means f = (
+  only_user user,
+  means,
+  of_grown call.before call.after f.got f.sent (λ g t. SentInOrder call (only_user user) g t) f.given f.taken
+      (start-sent call user s.opening.items f.got f.sent f.front.0 f.frame f.front.1),
+)
+
+pub sent-stopped : (call : Call) (user : List ℕ) (s : Startup) (before after : ℕ) → Means call.config (only_user user) →
+    StopsOpening user call.nonce call.before call.after s (error.Stalled before after) → OfDialogue call (λ s g t. SentInOrder call s g t)
+sent-stopped call user s before after means h =
+    let rests = rests-so h.waited h.polled call.after h.fails.2 in
+    let o = h.opening in (
+      only_user user,
+      means,
+      of_grown call.before call.after o.got o.sent (λ g t. SentInOrder call (only_user user) g t) (rests.bytes.given ∙ o.given) (rests.bytes.taken ∙ o.taken)
+          (start-sent call user s.opening.items o.got o.sent s.unsent o.frame o.out),
+    )
+
+-- where no byte crossed
+pub sent-untouched : (call : Call) (user : List ℕ) → Means call.config (only_user user) → call.after ≡ call.before → OfDialogue call (λ s g t. SentInOrder call s g t)
+sent-untouched call user means same = (
+  only_user user,
+  means,
+  of_grown call.before call.after [] [] (λ g t. SentInOrder call (only_user user) g t) (grew_same call.before.given call.after.given (ap (λ (l : LinkView). l.given) same))
+      (grew_same call.before.taken call.after.taken (ap (λ (l : LinkView). l.taken) same))
+      (record { book = []; owners = All-nil (λ b. b.stamp.owner < length call.scripts); order = none-order call.scripts; front = inl (ssl_request, refl) }),
+)
+
+-- ---- around the turns
+
+-- where it was opened alone, the startup's frame was sent
+pub sent-opened : (call : Call) (user : List ℕ) → Means call.config (only_user user) → WasOpened user call.nonce call.before call.after → OfDialogue call (λ s g t. SentInOrder call s g t)
+sent-opened call user means w =
+    let o = w.opened in
+    let opening = w.startup.opening.items in (
+      only_user user,
+      means,
+      of_grown call.before call.after o.got opening (λ g t. SentInOrder call (only_user user) g t) o.given o.taken (start-sent call user opening o.got opening [] o.frame (append-nil opening)),
+    )
+
+pub sent-over : (call : Call) (user : List ℕ) (scripts : List (List Command)) → Means call.config (only_user user) → call.scripts ≡ scripts_of scripts →
+    WasOver user call.nonce scripts call.before call.after → OfDialogue call (λ s g t. SentInOrder call s g t)
+sent-over call user scripts means asked w =
+    let ends = w.plays.ends in
+    sent-paused call user w.opening w.opened.read scripts w.last call.after means asked (w.opened.frame ∙ ap (λ (l : List ℕ). Ok l) (sym w.fresh.frame)) w.opened.done
+    (session-ends scripts w.given w.new w.link w.last call.after w.is_new w.fresh.active w.fresh.delivered w.plays
+    (calls-alone scripts w.given w.new w.link w.last call.after w.plays)).stands
+    (stood-turn w.opening w.opened.read call.before ends.link call.after scripts w.plays.last ends.state w.last true
+    (stood-all w.opening w.opened.read call.before scripts w.plays.turns w.new w.link ends.state ends.link
+    (stood-start user call.nonce scripts call.before w.link w.startup w.opening w.new w.opened w.fresh w.is_new) ends.before) ends.over)
+    refl refl

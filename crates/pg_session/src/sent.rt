@@ -1,0 +1,35 @@
+//! What was sent where a session failed. Each body does nothing.
+
+ghost use Rattle.std.specs.Prelude.{◌≡◌, ℕ, List, Err};
+ghost use Rattle.pg_spec.specs.Causes.{Call, OfDialogue};
+ghost use Rattle.pg_spec.specs.ConnectionStrings.{only_user, Means};
+ghost use Rattle.pg_spec.specs.Faults as faults;
+ghost use Rattle.pg_spec.specs.Promises.{NoneKeptBack, SentInOrder};
+ghost use Rattle.pg_connect.specs.Startups.{Failed};
+ghost use Rattle.pg_connect.specs.declared.startup.Startup.{Startup};
+ghost use Rattle.pg_errors.specs.declared.error.Error.{Error};
+ghost use Rattle.pg_text.specs.Views.{scripts_of};
+ghost use Rattle.pg_text.specs.declared.command.Command.{Command};
+ghost use Rattle.pg_session.specs.Failures.{HasBroken, StopsOpening};
+
+/// Where a session failed in its startup, a front of the startup's frame was sent; where it failed behind it, the
+/// frame and then a front of requests and Terminate, each handle's requests in the order of its script.
+pub fn what_was_sent_where_it_failed()
+    ensures startup { (call : Call) (user : List ℕ) (s : Startup) (e : Error) → Means call.config (only_user user) →
+        Failed user call.nonce call.before call.after s e → OfDialogue call (λ s g t. SentInOrder call s g t) }
+    ensures stalled { (call : Call) (user : List ℕ) (s : Startup) (before after : ℕ) → Means call.config (only_user user) →
+        StopsOpening user call.nonce call.before call.after s (Error.Stalled before after) → OfDialogue call (λ s g t. SentInOrder call s g t) }
+    ensures later { (call : Call) (user : List ℕ) (scripts : List (List Command)) (e : Error) → Means call.config (only_user user) → call.scripts ≡ scripts_of scripts →
+        (b : HasBroken user call.nonce scripts call.before call.after e) → b.startup.max_bytes ≡ call.limit →
+        OfDialogue call (λ s g t. SentInOrder call s g t) }
+{}
+
+/// Over a steady link a session that stalled behind its startup had sent a request of each script that holds a
+/// command, where all are simple queries that are asked as they stand.
+pub fn what_was_asked_where_it_stalled()
+    ensures startup { (call : Call) (user : List ℕ) (s : Startup) (before after : ℕ) → Means call.config (only_user user) →
+        StopsOpening user call.nonce call.before call.after s (Error.Stalled before after) → NoneKeptBack call (Err (faults.Stalled before after)) }
+    ensures later { (call : Call) (user : List ℕ) (scripts : List (List Command)) (before after : ℕ) → Means call.config (only_user user) → call.scripts ≡ scripts_of scripts →
+        (b : HasBroken user call.nonce scripts call.before call.after (Error.Stalled before after)) → b.startup.max_bytes ≡ call.limit →
+        NoneKeptBack call (Err (faults.Stalled before after)) }
+{}
