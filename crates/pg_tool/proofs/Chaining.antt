@@ -1,12 +1,12 @@
 -- Turns one after another, as the loops of a session make them.
-use Rattle.std.proofs.Common.{◌≡◌, ℕ, suc, ◌+◌, ◌<◌, ◌≤◌, false, true, List, [], ◌∷◌, ◌++◌, length, take, drop, sym, ◌∙◌, ap, subst, append-nil, append_assoc, take-append-drop, take_all, Result, Ok, Err, OnOk, arith, inl, inr}
+use Rattle.std.proofs.Common.{◌≡◌, ℕ, suc, ◌+◌, ◌<◌, ◌≤◌, ◌||◌, Bool, false, true, Some, refl, List, [], ◌∷◌, ◌++◌, length, take, drop, sym, ◌∙◌, ap, subst, append-nil, append_assoc, take-append-drop, take_all, Result, Ok, Err, OnOk, arith, inl, inr}
 use Rattle.std.proofs.Math.ListN.{get_or}
 use Rattle.std.proofs.Math.Seq.{take-suc}
 use Rattle.pg_errors.specs.declared.error.Error.{Error}
 use Rattle.pg_spec.specs.Links.{LinkView}
-use Rattle.pg_session.specs.Sessions.{EndsWith, MakesAll, Plays, Rests, numbers, rounds}
+use Rattle.pg_session.specs.Sessions.{EndsWith, MakesAll, Plays, Rests, StaysAll, numbers, rounds}
 use Rattle.pg_session.specs.States.{SessionState}
-use Rattle.pg_session.specs.Turns.{Makes}
+use Rattle.pg_session.specs.Turns.{Makes, Turns}
 use Rattle.pg_session.proofs.Order.{makes_all_one, makes_all_then, makes_none, rests_none}
 use Rattle.pg_text.specs.declared.command.Command.{Command}
 use Rattle.pg_tool.specs.Plays.{RoundsEnd, RoundsMade}
@@ -20,6 +20,20 @@ pub round_more : (scripts : List (List Command)) (n : ℕ) (s : SessionState) (l
 round_more scripts n s l mid k t m before made =
     subst (λ turns. MakesAll scripts turns s l t m) (sym (numbers_next n))
     (makes_all_one scripts (numbers n) n s l mid k k t m before (rests_none k) made)
+
+stays_one : (scripts : List (List Command)) (turns : List ℕ) (turn : ℕ) (s : SessionState) (l : LinkView) (mid : SessionState) (k : LinkView) (t : SessionState) (m : LinkView) →
+    StaysAll scripts turns s l mid k → Turns scripts turn mid t k m (Some false) → StaysAll scripts (turns ++ turn ∷ []) s l t m
+stays_one scripts [] turn s l mid k t m before stays =
+    (t, m, subst (λ (x : SessionState). Turns scripts turn x t l m (Some false)) before.0 (subst (λ (y : LinkView). Turns scripts turn mid t y m (Some false)) before.1 stays), (refl, refl))
+stays_one scripts (x ∷ xs) turn s l mid k t m before stays = (before.0, before.1, before.2, stays_one scripts xs turn before.0 before.1 mid k t m before.3 stays)
+
+-- nothing moved in a round up to one of its turns, nor in that
+pub stays_more : (scripts : List (List Command)) (n : ℕ) (before more : Bool) (s : SessionState) (l : LinkView) (mid : SessionState) (k : LinkView) (t : SessionState) (m : LinkView) →
+    (before ≡ false → StaysAll scripts (numbers n) s l mid k) → Turns scripts n mid t k m (Some more) → (before || more) ≡ false → StaysAll scripts (numbers (n + 1)) s l t m
+stays_more scripts n true more s l mid k t m stays turns none = absurd (let no : true ≡ false = none in cc)
+stays_more scripts n false more s l mid k t m stays turns none =
+    subst (λ turns. StaysAll scripts turns s l t m) (sym (numbers_next n))
+    (stays_one scripts (numbers n) n s l mid k t m (stays refl) (subst (λ (b : Bool). Turns scripts n mid t k m (Some b)) none turns))
 
 -- one of the given turns more
 pub given_more : (scripts : List (List Command)) (given : List ℕ) (i turn d : ℕ) (s : SessionState) (l : LinkView) (mid : SessionState) (k : LinkView) (t : SessionState) (m : LinkView) →

@@ -1,19 +1,26 @@
 -- Turns one after another, the next of which fails.
-use Rattle.std.proofs.Common.{ℕ, ◌+◌, ◌≤◌, List, ◌++◌, length, Result, Ok, Err, IfErr, inl, inr, arith}
+use Rattle.std.proofs.Common.{◌≡◌, ◌≤◌, ℕ, Bool, true, false, List, ◌++◌, length, Option, Some, None, Result, Ok, Err, IfErr, inl, inr, refl}
+use Rattle.std.specs.Prelude.{IsTrue}
+use Rattle.futures.specs.declared.task.Poll.{Poll}
+use Rattle.futures.specs.declared.task.Poll.TheVariants.{Ready, Pending}
+use Rattle.pg_errors.specs.declared.async_message.AsyncMessage.{AsyncMessage}
 use Rattle.pg_errors.specs.declared.error.Error.{Error}
+use Rattle.pg_errors.specs.declared.error.Error.TheVariants as error
 use Rattle.pg_spec.specs.Links.{LinkView}
-use Rattle.pg_session.specs.Failures.{BreaksOff, GivesOut, HasFailed, PauseFails, TurnFails}
-use Rattle.pg_session.specs.Sessions.{MakesAll, numbers, rounds}
+use Rattle.pg_wire.specs.LinkCalls.{SameBytes}
+use Rattle.pg_session.specs.Failures.{BreaksOff, GivesOut, HasFailed, IsFine, PauseFails, RunsShort, TurnFails}
+use Rattle.pg_session.specs.Sessions.{MakesAll, rounds}
 use Rattle.pg_session.specs.States.{SessionState}
+use Rattle.pg_session.specs.Turns.{HandsOn}
 use Rattle.pg_session.proofs.Order.{makes_all_then}
 use Rattle.pg_text.specs.declared.command.Command.{Command}
-use Rattle.pg_tool.specs.Plays.{RoundFails, RoundsMade}
+use Rattle.pg_tool.specs.Plays.{ConnectionPolled, RoundFails, RoundWhole, RoundsMade, is_over}
 
 -- the next turn of a round failed
 pub round_fails : (scripts : List (List Command)) (turns : List ℕ) (s : SessionState) (l : LinkView) (mid : SessionState) (k m : LinkView) (e : Error) →
     MakesAll scripts turns s l mid k → TurnFails mid k m e → RoundFails scripts s l m e
 round_fails scripts turns s l mid k m e before fails = elim fails [
-  | inl memory ↦ inl memory
+  | inl lacks ↦ inl (record { turns = turns; state = mid; link = k; before = before; lacks = lacks })
   | inr poll ↦ inr (record { turns = turns; state = mid; link = k; before = before; fails = poll })
 ]
 
@@ -21,9 +28,20 @@ round_fails scripts turns s l mid k m e before fails = elim fails [
 pub given_fails : (scripts : List (List Command)) (turns : List ℕ) (s : SessionState) (l : LinkView) (mid : SessionState) (k m : LinkView) (e : Error) →
     MakesAll scripts turns s l mid k → TurnFails mid k m e → HasFailed scripts s l m e
 given_fails scripts turns s l mid k m e before fails = elim fails [
-  | inl memory ↦ inl memory
+  | inl lacks ↦ inl (record { turns = turns; state = mid; link = k; before = before; lacks = lacks })
   | inr poll ↦ inr (inl (record { turns = turns; state = mid; link = k; before = before; fails = poll }))
 ]
+
+-- where memory lacked in it
+short_behind : (scripts : List (List Command)) (turns : List ℕ) (s : SessionState) (l : LinkView) (mid : SessionState) (k m : LinkView) (e : Error) →
+    MakesAll scripts turns s l mid k → RunsShort scripts mid k m e → RunsShort scripts s l m e
+short_behind scripts turns s l mid k m e before b = record {
+  turns = turns ++ b.turns;
+  state = b.state;
+  link = b.link;
+  before = makes_all_then scripts turns b.turns s l mid k b.state b.link before b.before;
+  lacks = b.lacks;
+}
 
 breaks_behind : (scripts : List (List Command)) (turns : List ℕ) (s : SessionState) (l : LinkView) (mid : SessionState) (k m : LinkView) (e : Error) →
     MakesAll scripts turns s l mid k → BreaksOff scripts mid k m e → BreaksOff scripts s l m e
@@ -39,52 +57,79 @@ breaks_behind scripts turns s l mid k m e before b = record {
 pub rounds_fail : (scripts : List (List Command)) (s : SessionState) (l : LinkView) (mid : SessionState) (k m : LinkView) (e : Error) →
     RoundsMade scripts s l mid k → RoundFails scripts mid k m e → HasFailed scripts s l m e
 rounds_fail scripts s l mid k m e before fails = elim fails [
-  | inl memory ↦ inl memory
+  | inl short ↦ inl (short_behind scripts (rounds (length scripts) before.count) s l mid k m e before.made short)
   | inr breaks ↦ inr (inl (breaks_behind scripts (rounds (length scripts) before.count) s l mid k m e before.made breaks))
 ]
 
--- the link was waited for in vain behind a round
-pub pause_fails : (scripts : List (List Command)) (s : SessionState) (l : LinkView) (mid : SessionState) (k : LinkView) (t : SessionState) (n m : LinkView) (from to : ℕ) (e : Error) →
-    RoundsMade scripts s l mid k → MakesAll scripts (numbers (length scripts + 1)) mid k t n → l.quiet ≤ from → to ≤ m.quiet → PauseFails from to n m e →
+-- the pause behind a round in which nothing moved failed
+pub pause_fails : (scripts : List (List Command)) (s : SessionState) (l : LinkView) (mid : SessionState) (k : LinkView) (t : SessionState) (n m : LinkView) (moved waited : Bool) (e : Error) →
+    RoundsMade scripts s l mid k → RoundWhole scripts mid k t n moved → t.streams.given ≤ t.streams.max_bytes → SameBytes n m → moved ≡ false → (waited ≡ true → IsTrue k.promised) → PauseFails k.quiet n.quiet waited n m e →
     HasFailed scripts s l m e
-pause_fails scripts s l mid k t n m from to e before round counted_from counted_to fails = inr (inr (record {
-  turns = rounds (length scripts) before.count ++ numbers (length scripts + 1);
-  state = t;
-  link = n;
-  before = makes_all_then scripts (rounds (length scripts) before.count) (numbers (length scripts + 1)) s l mid k t n before.made round;
-  from = from;
-  to = to;
-  counted_from = counted_from;
-  counted_to = counted_to;
+pause_fails scripts s l mid k t n m moved waited e before round within bytes none promised fails = inr (inr (record {
+  turns = rounds (length scripts) before.count;
+  state = mid;
+  link = k;
+  before = before.made;
+  last = t;
+  passed = n;
+  round = round.stays none;
+  within = within;
+  bytes = bytes;
+  waited = waited;
+  promised = promised;
   fails = fails;
 }))
 
 gives_behind : (scripts : List (List Command)) (turns : List ℕ) (s : SessionState) (l : LinkView) (mid : SessionState) (k m : LinkView) (e : Error) →
-    MakesAll scripts turns s l mid k → l.quiet ≤ k.quiet → GivesOut scripts mid k m e → GivesOut scripts s l m e
-gives_behind scripts turns s l mid k m e before rose b = record {
+    MakesAll scripts turns s l mid k → GivesOut scripts mid k m e → GivesOut scripts s l m e
+gives_behind scripts turns s l mid k m e before b = record {
   turns = turns ++ b.turns;
   state = b.state;
   link = b.link;
   before = makes_all_then scripts turns b.turns s l mid k b.state b.link before b.before;
-  from = b.from;
-  to = b.to;
-  counted_from = omega (arith, rose, b.counted_from);
-  counted_to = b.counted_to;
+  last = b.last;
+  passed = b.passed;
+  round = b.round;
+  within = b.within;
+  bytes = b.bytes;
+  waited = b.waited;
+  promised = b.promised;
   fails = b.fails;
 }
 
 fails_behind : (scripts : List (List Command)) (turns : List ℕ) (s : SessionState) (l : LinkView) (mid : SessionState) (k m : LinkView) (e : Error) →
-    MakesAll scripts turns s l mid k → l.quiet ≤ k.quiet → HasFailed scripts mid k m e → HasFailed scripts s l m e
-fails_behind scripts turns s l mid k m e before rose fails = elim fails [
-  | inl memory ↦ inl memory
+    MakesAll scripts turns s l mid k → HasFailed scripts mid k m e → HasFailed scripts s l m e
+fails_behind scripts turns s l mid k m e before fails = elim fails [
+  | inl short ↦ inl (short_behind scripts turns s l mid k m e before short)
   | inr other ↦ elim other [
     | inl breaks ↦ inr (inl (breaks_behind scripts turns s l mid k m e before breaks))
-    | inr gives ↦ inr (inr (gives_behind scripts turns s l mid k m e before rose gives))
+    | inr gives ↦ inr (inr (gives_behind scripts turns s l mid k m e before gives))
   ]
 ]
 
 -- the rounds failed behind the given turns
 pub run_fails : (scripts : List (List Command)) (turns : List ℕ) (s : SessionState) (l : LinkView) (mid : SessionState) (k m : LinkView) (r : Result (Unit {0}) Error) →
-    MakesAll scripts turns s l mid k → l.quiet ≤ k.quiet → IfErr r (HasFailed scripts mid k m) → IfErr r (HasFailed scripts s l m)
-run_fails scripts turns s l mid k m (Ok x) before rose fails = tt
-run_fails scripts turns s l mid k m (Err e) before rose fails = fails_behind scripts turns s l mid k m e before rose fails
+    MakesAll scripts turns s l mid k → IfErr r (HasFailed scripts mid k m) → IfErr r (HasFailed scripts s l m)
+run_fails scripts turns s l mid k m (Ok x) before fails = tt
+run_fails scripts turns s l mid k m (Err e) before fails = fails_behind scripts turns s l mid k m e before fails
+
+-- ---- want of memory
+
+-- in a handle's turn
+pub handle_lacks : (s : SessionState) (l : LinkView) (r : Result (Option Bool) Error) → IfErr r (λ e. e ≡ error.OutOfMemory) → IfErr r (TurnFails s l l)
+handle_lacks s l (Ok moved) h = tt
+handle_lacks s l (Err e) h = inl (record { memory = h; crossed = inl refl })
+
+fine_so : (answer : Poll (Option (Result AsyncMessage Error))) (old new : List AsyncMessage) (over : Bool) → HandsOn answer old new over → IsFine answer
+fine_so Pending old new over h = tt
+fine_so (Ready None) old new over h = tt
+fine_so (Ready (Some (Ok message))) old new over h = tt
+fine_so (Ready (Some (Err e))) old new over h = h
+
+-- behind a poll of the connection
+pub mark_lacks : (s t : SessionState) (l m : LinkView) (moved : Option Bool) (r : Result (Option Bool) Error) → ConnectionPolled s t l m moved → IfErr r (λ e. e ≡ error.OutOfMemory) → IfErr r (TurnFails s l m)
+mark_lacks s t l m moved (Ok passed) p h = tt
+mark_lacks s t l m moved (Err e) p h = inl (record {
+  memory = h;
+  crossed = inr (record { hub = t.hub; streams = t.streams; answer = p.answer; polled = p.polled; fine = fine_so p.answer s.asynchronous t.asynchronous (is_over moved) p.hands });
+})

@@ -16,7 +16,7 @@ use Rattle.pg_connect.specs.declared.fault.ConnectionFault.TheVariants as fault
 use Rattle.pg_connect.specs.declared.streams.Streams.{Streams}
 use Rattle.pg_connect.specs.Answers.{PollAnswers}
 use Rattle.pg_connect.specs.Faults.{error_of}
-use Rattle.pg_connect.specs.Polls.{TurnEnds}
+use Rattle.pg_connect.specs.Polls.{TurnFails}
 use Rattle.pg_connect.specs.Reads.{IsUnasked}
 use Rattle.pg_tool.specs.Plays.{IsLater}
 
@@ -45,7 +45,7 @@ unasked_later : (batch : List RawMessage) (e : Error) → IsUnasked batch (fault
 unasked_later (first ∷ batch) e h = by_failure e (subst NotConfig (sym h) (read_not_config (message_of first)))
 unasked_later [] e h = absurd h
 
-fault_later : (old new : Streams) (before after : LinkView) (events : List Event) (f : ConnectionFault) → TurnEnds old new before after (Err f) events → IsLater (error_of f)
+fault_later : (old new : Streams) (before after : LinkView) (events : List Event) (f : ConnectionFault) → TurnFails old new before after f events → IsLater (error_of f)
 fault_later old new before after events (fault.Unasked e) h = unasked_later _ e h.1
 fault_later old new before after events _ h = tt
 
@@ -54,5 +54,5 @@ pub poll_later : {H : Type 0} (becomes : H → List Event → H → Type 0) (a b
     PollAnswers becomes a b old new before after (Ready (Some (Err e))) → IsLater e
 poll_later becomes a b old new before after e t = elim t.1 [
   | inl closed ↦ subst IsLater (sym closed.error) tt
-  | inr failed ↦ subst IsLater (sym failed.means) (fault_later _ _ before after _ failed.fault failed.turns.goes.ended)
+  | inr failed ↦ subst IsLater (sym failed.means) (fault_later _ _ before after _ failed.fault failed.turns.goes.ended.1)
 ]

@@ -4,7 +4,6 @@ pub mod Playing
 pub mod Telling
 pub mod Following
 pub mod Later
-pub mod NotBuilt
 pub mod Waiting
 pub mod Turned
 pub mod Counting
@@ -12,4 +11,8 @@ pub mod Made
 pub mod Chaining
 pub mod Played
 pub mod Failing
+pub mod Going
 pub mod Causing
+pub mod Limiting
+pub mod Sending
+pub mod Calming

@@ -1,20 +1,22 @@
 -- A turn of a handle, step by step.
-use Rattle.std.proofs.Common.{◌≡◌, ℕ, suc, List, take, None, option_map, arith, [], ◌∷◌, ◌++◌, length, map, Bool, Option, Some, IfOk, OnOk, Result, Ok, Err, slice_get, slice_set, refl, sym, ◌∙◌, ap, subst}
+use Rattle.std.proofs.Common.{◌≡◌, ◌≤◌, ◌<◌, ℕ, suc, inl, inr, List, take, None, option_map, arith, [], ◌∷◌, ◌++◌, length, map, Bool, Option, Some, IfOk, OnOk, Result, Ok, Err, slice_get, slice_set, refl, sym, ◌∙◌, ap, subst}
 use Rattle.std.proofs.Math.Seq.{take-append_seam}
 use Rattle.std.specs.List.{All}
 use Rattle.pg_errors.specs.declared.error.Error.{Error}
 use Rattle.pg_hub.specs.Fits.{HubBecomes}
 use Rattle.pg_hub.specs.Standing.{Standing}
 use Rattle.pg_session.specs.HandleTurns.{HandleTurns}
-use Rattle.pg_session.specs.Turns.{ClosesBehind, HandleMade, left_behind, untouched}
+use Rattle.pg_connect.specs.Answers.{PollAnswers}
+use Rattle.pg_spec.specs.Links.{LinkView}
+use Rattle.pg_session.specs.Turns.{ClosesBehind, ConnectionTurn, HandsOn, Turns, left_behind, moved_by, moved_in_poll, untouched}
 use Rattle.pg_session.specs.declared.handle_turn.Polling.{Polling}
 use Rattle.pg_text.specs.declared.command.Command.{Command}
 use Rattle.pg_tool.specs.declared.handle.Handle.{Handle}
 use Rattle.pg_tool.specs.declared.play.Play.{Play}
 use Rattle.pg_client.specs.Queries.{place_of_query}
-use Rattle.pg_session.specs.States.{idle_handle, new_handles}
+use Rattle.pg_session.specs.States.{SessionState, idle_handle, new_handles}
 use Rattle.pg_tool.specs.Handles.{IsIdleHandle, OneTurned, view_of}
-use Rattle.pg_tool.specs.Plays.{state_of}
+use Rattle.pg_tool.specs.Plays.{ConnectionPolled, HandlePolled, is_over, state_of}
 
 -- a slice that is written back whole
 pub written_back : {X : Type 0} (n : ℕ) (xs ys : List X) → n ≡ length xs → take n (xs ++ ys) ≡ xs
@@ -39,13 +41,15 @@ pub handle_made : (scripts : List (List Command)) (turn turns : ℕ) (p q u : Pl
     OneTurned HubBecomes script (λ old. record { owner = turn; command = length old.answers; turn = turns }) turn
     first (map view_of olds) hub (map view_of news) did →
     ClosesBehind did p.unanswered hub q.hub → q.handles.items ≡ news → q.streams ≡ p.streams → q.unanswered ≡ left_behind did p.unanswered →
-    q.asynchronous ≡ p.asynchronous → q.trace ≡ p.trace → u ≡ record q { trace = u.trace } →
+    q.asynchronous ≡ p.asynchronous → q.trace ≡ p.trace → u ≡ record q { trace = u.trace } → (moved : Bool) → moved ≡ moved_by did hub →
+    IfOk r (λ passed. passed ≡ Some moved) →
     OnOk r (u.trace.items ≡ q.trace.items ++ record { turn = turn; delivered = q.streams.delivered } ∷ []) →
-    IfOk r (λ moved. (x : Polling) × HandleMade scripts turn (state_of p) (state_of u) x)
-handle_made scripts turn turns p q u script first hub olds news did (Err e) at count touched old turned closes handles streams unanswered asynchronous trace same marks = tt
-handle_made scripts turn turns p q u script first hub olds news did (Ok moved) at count touched old turned closes handles streams unanswered asynchronous trace same marks = (
-  did,
-  record {
+    IfOk r (HandlePolled scripts turn (state_of p) (state_of u))
+handle_made scripts turn turns p q u script first hub olds news did (Err e) at count touched old turned closes handles streams unanswered asynchronous trace same moved says passes marks = tt
+handle_made scripts turn turns p q u script first hub olds news did (Ok passed) at count touched old turned closes handles streams unanswered asynchronous trace same moved says passes marks = record {
+  did = did;
+  says = passes ∙ ap (λ m. Some m) says;
+  made = record {
     script = script;
     script_at = at;
     old = turned.old;
@@ -61,10 +65,56 @@ handle_made scripts turn turns p q u script first hub olds news did (Ok moved) a
     asynchronous = ap (λ (x : Play). x.asynchronous.items) same ∙ ap (λ x. x.items) asynchronous;
     trace = marks ∙ ap (λ t. t.items ++ record { turn = turn; delivered = q.streams.delivered } ∷ []) trace
         ∙ ap (λ s. p.trace.items ++ record { turn = turn; delivered = s.delivered } ∷ []) streams;
-  },
-)
+  };
+}
 
 -- the answers of handles
 pub answers_view : (handles : List Handle) → map (λ h. h.answers.items) handles ≡ map (λ h. h.answers) (map view_of handles)
 answers_view [] = refl
 answers_view (h ∷ hs) = ap (λ rest. h.answers.items ∷ rest) (answers_view hs)
+
+some_is : (x y : Bool) → Some x ≡ Some y → y ≡ x
+some_is x y e = cc
+
+-- a handle's turn, by what it answers
+pub handle_turns : (scripts : List (List Command)) (turn : ℕ) (s t : SessionState) (l : LinkView) (r : Result (Option Bool) Error) → turn < length scripts →
+    IfOk r (HandlePolled scripts turn s t) → IfOk r (Turns scripts turn s t l l)
+handle_turns scripts turn s t l (Err e) own polled = tt
+handle_turns scripts turn s t l (Ok None) own polled = absurd (let no : None ≡ Some (moved_by polled.did polled.made.hub) = polled.says in cc)
+handle_turns scripts turn s t l (Ok (Some moved)) own polled = (
+  inl (record { own = own; did = polled.did; made = polled.made; link = refl; goes_on = refl }),
+  some_is moved (moved_by polled.did polled.made.hub) polled.says,
+)
+
+abbrev made_so : (scripts : List (List Command)) (turn : ℕ) (p q u : Play) (l m : LinkView) (moved : Option Bool) → length scripts ≤ turn →
+    ConnectionPolled (state_of p) (state_of q) l m moved → u ≡ record q { trace = u.trace } →
+    u.trace.items ≡ q.trace.items ++ record { turn = turn; delivered = q.streams.delivered } ∷ [] → ConnectionTurn scripts turn (state_of p) (state_of u) l m (is_over moved)
+made_so scripts turn p q u l m moved other polled same marks = record {
+  other = other;
+  made = record {
+    answer = polled.answer;
+    polled = subst (λ (x : Play). PollAnswers HubBecomes p.hub x.hub p.streams x.streams l m polled.answer) (sym same) polled.polled;
+    hands = subst (λ (x : Play). HandsOn polled.answer p.asynchronous.items x.asynchronous.items (is_over moved)) (sym same) polled.hands;
+    handles = ap (λ (x : Play). map view_of x.handles.items) same ∙ polled.handles;
+    unanswered = ap (λ (x : Play). x.unanswered) same ∙ polled.unanswered;
+    trace = marks ∙ ap (λ t. t ++ record { turn = turn; delivered = q.streams.delivered } ∷ []) polled.trace
+        ∙ ap (λ (x : Play). p.trace.items ++ record { turn = turn; delivered = x.streams.delivered } ∷ []) (sym same);
+  };
+}
+
+turns_so : (scripts : List (List Command)) (turn : ℕ) (p q u : Play) (l m : LinkView) (moved : Option Bool) → length scripts ≤ turn →
+    ConnectionPolled (state_of p) (state_of q) l m moved → u ≡ record q { trace = u.trace } →
+    u.trace.items ≡ q.trace.items ++ record { turn = turn; delivered = q.streams.delivered } ∷ [] → Turns scripts turn (state_of p) (state_of u) l m moved
+turns_so scripts turn p q u l m None other polled same marks = inr (made_so scripts turn p q u l m None other polled same marks)
+turns_so scripts turn p q u l m (Some moved) other polled same marks = (
+  inr (made_so scripts turn p q u l m (Some moved) other polled same marks),
+  ap (λ (x : Play). moved_in_poll polled.answer x.streams) same ∙ polled.says,
+)
+
+-- the connection's turn, by what it answers
+pub connection_turns : (scripts : List (List Command)) (turn : ℕ) (p q u : Play) (l m : LinkView) (moved : Option Bool) (r : Result (Option Bool) Error) → length scripts ≤ turn →
+    ConnectionPolled (state_of p) (state_of q) l m moved → u ≡ record q { trace = u.trace } → IfOk r (λ passed. passed ≡ moved) →
+    OnOk r (u.trace.items ≡ q.trace.items ++ record { turn = turn; delivered = q.streams.delivered } ∷ []) → IfOk r (Turns scripts turn (state_of p) (state_of u) l m)
+connection_turns scripts turn p q u l m moved (Err e) other polled same passes marks = tt
+connection_turns scripts turn p q u l m moved (Ok passed) other polled same passes marks =
+    subst (λ x. Turns scripts turn (state_of p) (state_of u) l m x) (sym passes) (turns_so scripts turn p q u l m moved other polled same marks)

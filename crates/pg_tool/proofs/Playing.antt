@@ -3,6 +3,7 @@ use Rattle.std.proofs.Common.{◌≡◌, ℕ, zero, suc, List, [], ◌∷◌, �
 use Rattle.std.specs.List.{concat}
 use Rattle.pg_spec.specs.Causes.{Call, HasCause, IsNotBuilt}
 use Rattle.pg_spec.specs.Links.{LinkView, Plan}
+use Rattle.pg_spec.specs.Promises.{NoneKeptBack}
 use Rattle.pg_spec.specs.Report as said
 use Rattle.pg_wire.specs.LinkCalls.{Continues}
 use Rattle.pg_wire.specs.declared.memory_link.MemoryLink.TheInside.{Inside}
@@ -13,13 +14,12 @@ use Rattle.pg_errors.specs.declared.cause.Cause.TheVariants as cause
 use Rattle.pg_errors.specs.declared.error.Error.{Error}
 use Rattle.pg_errors.specs.declared.error.Error.TheVariants as error
 use Rattle.pg_errors.specs.Views.{failure_of}
-use Rattle.pg_session.specs.FailureCauses.{IsNotStalled}
 use Rattle.pg_text.specs.declared.report.Report.{Report}
 use Rattle.pg_text.specs.declared.session.Session.{Session}
 use Rattle.pg_text.specs.Sessions.{IsNew, session_of}
 use Rattle.pg_text.specs.Views.{report_of, scripts_of}
-use Rattle.pg_tool.specs.SessionContract.{IsCaused, IsEndedWell, IsRun}
-use Rattle.pg_tool.specs.RunContract.{IsPlayed, call_of, default_nonce, new_link, result_of}
+use Rattle.pg_tool.specs.RunContract.{IsPlayed, call_of, default_nonce, new_link}
+use Rattle.pg_tool.specs.SessionContract.{IsEndedWell, IsRun, KeepsLimit, SendsInOrder, result_of}
 
 -- the bytes before a place are a front of the plan's
 front_of : (entries : List (List ℕ)) (entry at : ℕ) → (rest : List ℕ) × (bytes_before entries entry at ++ rest ≡ concat entries)
@@ -75,22 +75,21 @@ of_answer (Ok report) P h = h
 of_answer (Err e) P h = tt
 
 -- and of an error
-caused_in : (call : Call) (e : Error) → (IsNotStalled e → HasCause call (failure_of e)) → IsCaused call (failure_of e)
-caused_in call (error.Stalled before after) h = tt
-caused_in call _ h = h tt
-
-of_error : (call : Call) (r : Result Report Error) → IfErr r (λ e. IsNotStalled e → HasCause call (failure_of e)) → IfErr (result_of r) (IsCaused call)
+of_error : (call : Call) (r : Result Report Error) → IfErr r (λ e. HasCause call (failure_of e)) → IfErr (result_of r) (HasCause call)
 of_error call (Ok report) h = tt
-of_error call (Err e) h = caused_in call e h
+of_error call (Err e) h = h
 
 pub played_over : (config nonce turns : List ℕ) (s : Session) (m : Memory) (r : Result Report Error) → IsNew s →
     config ≡ s.config → nonce ≡ s.nonce → turns ≡ s.turns → Continues (link_of s.link) (link_of m) →
     IfOk r (λ report. IsEndedWell (asked config nonce turns s (link_of m)) (report_of report)) →
     IfOk r (λ report. IsRun (asked config nonce turns s (link_of m)) (report_of report)) →
-    IfErr r (λ e. IsNotStalled e → HasCause (asked config nonce turns s (link_of m)) (failure_of e)) →
+    IfErr r (λ e. HasCause (asked config nonce turns s (link_of m)) (failure_of e)) →
+    KeepsLimit (asked config nonce turns s (link_of m)) (result_of r) →
+    SendsInOrder (asked config nonce turns s (link_of m)) (result_of r) →
+    NoneKeptBack (asked config nonce turns s (link_of m)) (result_of r) →
     (IsNotBuilt (asked config nonce turns s (link_of m)) → (r ≡ Err (error.Config cause.NotBuilt)) × (link_of m ≡ link_of s.link)) →
     (rest : List ℕ) × (m.given ++ rest ≡ concat m.entries) → IsPlayed (session_of s) (result_of r)
-played_over config nonce turns s m r new config_is nonce_is turns_is link ended ran caused refused front = record {
+played_over config nonce turns s m r new config_is nonce_is turns_is link ended ran caused limit sent none_kept_back refused front = record {
   after = link_of m;
   given = m.given;
   taken = m.taken;
@@ -106,7 +105,10 @@ played_over config nonce turns s m r new config_is nonce_is turns_is link ended 
   has_run = of_answer r (IsRun (call_of (session_of s) (link_of m)))
       (subst (λ (call : Call). IfOk r (λ report. IsRun call (report_of report))) (asked_is config nonce turns s (link_of m) new config_is nonce_is turns_is) ran);
   cause = of_error (call_of (session_of s) (link_of m)) r
-      (subst (λ (call : Call). IfErr r (λ e. IsNotStalled e → HasCause call (failure_of e))) (asked_is config nonce turns s (link_of m) new config_is nonce_is turns_is) caused);
+      (subst (λ (call : Call). IfErr r (λ e. HasCause call (failure_of e))) (asked_is config nonce turns s (link_of m) new config_is nonce_is turns_is) caused);
+  limit = subst (λ (call : Call). KeepsLimit call (result_of r)) (asked_is config nonce turns s (link_of m) new config_is nonce_is turns_is) limit;
+  sent = subst (λ (call : Call). SendsInOrder call (result_of r)) (asked_is config nonce turns s (link_of m) new config_is nonce_is turns_is) sent;
+  none_kept_back = subst (λ (call : Call). NoneKeptBack call (result_of r)) (asked_is config nonce turns s (link_of m) new config_is nonce_is turns_is) none_kept_back;
   refused = λ asks. (ap result_of (answer asks).0, (answer asks).1 ∙ first);
 }
   where

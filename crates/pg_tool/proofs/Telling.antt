@@ -11,7 +11,8 @@ use Rattle.pg_errors.specs.declared.error.Error.{Error}
 use Rattle.pg_errors.specs.declared.error.Error.TheVariants as error
 use Rattle.pg_errors.specs.Views.{failure_of}
 use Rattle.pg_tool.specs.Reading.{longest_text, ReadWhole}
-use Rattle.pg_tool.specs.RunContract.{Answered, EndsWith, IsPlayed, IsRefused, NotPlayed, PlayedText, RefusedLine, Run, RunContract, SaysResult, SessionResult, StatusSays, Written, play, usage}
+use Rattle.pg_tool.specs.SessionContract.{SessionResult}
+use Rattle.pg_tool.specs.RunContract.{Answered, EndsWith, IsPlayed, IsRefused, NotPlayed, PlayedText, RefusedLine, Run, RunContract, SaysResult, StatusSays, Written, play, usage}
 
 -- ---- a session's result
 

@@ -1,55 +1,74 @@
 -- How a startup that is polled until it answers ends.
-use Rattle.std.proofs.Common.{◌≡◌, ℕ, Bool, List, Result, Ok, Err, refl, sym, subst}
-use Rattle.pg_spec.specs.Causes.{Call, HasCause}
-use Rattle.pg_spec.specs.ConnectionStrings.{Means, only_user}
-use Rattle.pg_spec.specs.Faults.{Config, NotBuilt}
-use Rattle.pg_spec.specs.Links.{LinkView, Rose}
+use Rattle.std.proofs.Common.{◌≡◌, ◌≤◌, ◌<◌, ℕ, ◌+◌, ◌*◌, Bool, true, false, not, if◌then◌else◌, List, Result, Ok, Err, refl, sym, subst, arith}
+use Rattle.std.specs.Prelude.{IsTrue}
+use Rattle.pg_spec.specs.Links.{LinkView}
 use Rattle.pg_wire.specs.LinkCalls.{Keeps, SameBytes, Continues}
 use Rattle.pg_errors.specs.declared.cause.Cause.TheVariants as cause
 use Rattle.pg_errors.specs.declared.error.Error.{Error}
 use Rattle.pg_errors.specs.declared.error.Error.TheVariants as error
 use Rattle.pg_connect.specs.declared.startup.Startup.{Startup}
+use Rattle.pg_connect.specs.StartupPolls.{GoesOn}
 use Rattle.pg_connect.specs.Startups.{Opening, Opened, Failed}
 use Rattle.pg_connect.proofs.Joining.{rose_later}
 use Rattle.pg_connect.proofs.Opening.{opening-failed}
 use Rattle.pg_tool.specs.Asked.{ConfigIsNotBuilt}
-use Rattle.pg_tool.specs.Openings.{WaitEnds, OpenEnds}
-use Rattle.pg_tool.proofs.NotBuilt.{not_built}
+use Rattle.pg_session.specs.Failures.{PauseFails}
+use Rattle.pg_session.proofs.StalledStart.{rests-so}
+use Rattle.pg_tool.specs.Openings.{OpenEnds}
 use Rattle.pg_tool.proofs.Following.{opening_waits, continues_grown, continues_then}
+
+-- Where something moved less is left to do, and else a pause may come once: the number falls.
+pub fewer_left : (moved next waited : Bool) (a b : ℕ) → b + (if moved then 1 else 0) ≤ a → next ≡ not moved → (next ≡ true → waited ≡ false) →
+    2 * b + (if next then 0 else 1) < 2 * a + (if waited then 0 else 1)
+fewer_left true next waited a b nearer is pauses =
+    subst (λ (x : Bool). 2 * b + (if x then 0 else 1) < 2 * a + (if waited then 0 else 1)) (sym is) (omega (arith, nearer))
+fewer_left false next waited a b nearer is pauses =
+    subst (λ (x : Bool). 2 * b + (if x then 0 else 1) < 2 * a + (if waited then 0 else 1)) (sym is)
+    (subst (λ (w : Bool). 2 * b + 0 < 2 * a + (if w then 0 else 1)) (sym (pauses is)) (omega (arith, nearer)))
+
+-- the counts that were read are the link's
+pub counted_so : (before from after to : ℕ) (waited : Bool) (l m : LinkView) (e : Error) → before ≡ from → after ≡ to → PauseFails before after waited l m e → PauseFails from to waited l m e
+counted_so before from after to waited l m e p q fails =
+    subst (λ (x : ℕ). PauseFails x to waited l m e) p (subst (λ (y : ℕ). PauseFails before y waited l m e) q fails)
 
 -- a poll failed
 pub open_fails : (name nonce : List ℕ) (begin now : LinkView) (s : Startup) (e : Error) → Failed name nonce begin now s e → OpenEnds name nonce begin now s (Err e)
 open_fails name nonce begin now s (error.Stalled before after) f = absurd f.fails
 open_fails name nonce begin now s _ f = f
 
--- behind a poll that met a link that wasn't ready, waiting ended it
-pub open_stops : (name nonce : List ℕ) (begin a b : LinkView) (s : Startup) (before after : ℕ) (e : Error) →
-    Opening name nonce begin a s → Rose before after → SameBytes a b → Keeps a b → WaitEnds {A = Bool} before after a b (Err e) → OpenEnds name nonce begin b s (Err e)
-open_stops name nonce begin a b s before after (error.Stalled x y) o rose bytes keeps ends = (
-  opening_waits name nonce begin a b s o bytes keeps,
-  subst (λ (n : ℕ). Rose n y) (sym ends.0) (subst (λ (n : ℕ). Rose before n) (sym ends.1) rose),
-)
-open_stops name nonce begin a b s before after (error.Io cause.Link) o rose bytes keeps ends =
+-- behind a poll that moved nothing, a pause ended it
+pub open_stops : (name nonce : List ℕ) (begin l a b : LinkView) (s : Startup) (waited : Bool) (e : Error) → Keeps begin l → Opening name nonce begin a s → s.given ≤ s.max_bytes → GoesOn s l a → s.moved ≡ false →
+    (waited ≡ true → IsTrue l.promised) → SameBytes a b → Keeps a b → PauseFails l.quiet a.quiet waited a b e → OpenEnds name nonce begin b s (Err e)
+open_stops name nonce begin l a b s waited (error.Stalled x y) keeps-l o within goes_on unmoved promised bytes keeps fails = record {
+  link = l;
+  keeps = keeps-l;
+  polled = a;
+  opening = o;
+  within = within;
+  goes_on = goes_on;
+  unmoved = unmoved;
+  waited = waited;
+  promised = promised;
+  fails = fails;
+}
+open_stops name nonce begin l a b s waited (error.Io cause.Link) keeps-l o within goes_on unmoved promised bytes keeps fails =
     opening-failed name nonce begin b s s (error.Io cause.Link) (opening_waits name nonce begin a b s o bytes keeps) refl
-    (rose_later begin.faults a.faults b.faults o.link.counts.faults ends)
-open_stops name nonce begin a b s before after _ o rose bytes keeps ends = absurd ends
+    (rose_later begin.faults a.faults b.faults o.link.counts.faults fails) (subst (λ (n : ℕ). n ≤ s.max_bytes) (opening_waits name nonce begin a b s o bytes keeps).count within)
+open_stops name nonce begin l a b s waited _ keeps-l o within goes_on unmoved promised bytes keeps fails = absurd fails
 
 -- however it ends, the link goes on from where it stood
 pub open_continues : (name nonce : List ℕ) (begin now : LinkView) (s : Startup) (r : Result (Unit {0}) Error) → OpenEnds name nonce begin now s r → Continues begin now
 open_continues name nonce begin now s (Ok x) o = continues_grown begin now o.got s.opening.items o.given o.taken o.link
-open_continues name nonce begin now s (Err (error.Stalled before after)) o = continues_grown begin now o.0.got o.0.sent o.0.given o.0.taken o.0.link
+open_continues name nonce begin now s (Err (error.Stalled before after)) h =
+    let rests = rests-so h.waited h.polled now h.fails.2 in
+    let o = opening_waits name nonce begin h.polled now s h.opening rests.bytes rests.keeps in
+    continues_grown begin now o.got o.sent o.given o.taken o.link
 open_continues name nonce begin now s (Err _) o = continues_grown begin now o.got o.sent o.given o.taken o.link
 
 -- and where it is done, so does what follows
 pub opened_continues : (name nonce : List ℕ) (begin mid now : LinkView) (s : Startup) → Opened name nonce begin mid s → Continues mid now → Continues begin now
-opened_continues name nonce begin mid now s o then =
-    continues_then begin mid now (continues_grown begin mid o.got s.opening.items o.given o.taken o.link) then
-
--- where it answers that this version isn't built for a message, one came
-pub open_not_built : (call : Call) (name : List ℕ) (s : Startup) (e : Error) → Means call.config (only_user name) →
-    OpenEnds name call.nonce call.before call.after s (Err e) → e ≡ error.Config cause.NotBuilt → HasCause call (Config NotBuilt)
-open_not_built call name s e means ends is =
-    not_built call name s means (subst (λ (x : Error). OpenEnds name call.nonce call.before call.after s (Err x)) is ends)
+opened_continues name nonce begin mid now s o later =
+    continues_then begin mid now (continues_grown begin mid o.got s.opening.items o.given o.taken o.link) later
 
 -- it doesn't answer Config for another cause
 pub open_config : (name nonce : List ℕ) (begin now : LinkView) (s : Startup) (e : Error) → OpenEnds name nonce begin now s (Err e) → ConfigIsNotBuilt e

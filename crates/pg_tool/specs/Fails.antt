@@ -5,8 +5,10 @@ use Rattle.pg_connect.specs.Startups.{Made}
 use Rattle.pg_connect.specs.declared.startup.Startup.{Startup}
 use Rattle.pg_errors.specs.declared.error.Error.{Error}
 use Rattle.pg_errors.specs.declared.error.Error.TheVariants.{OutOfMemory}
-use Rattle.pg_session.specs.Failures.{HasBroken}
+use Rattle.pg_session.specs.Failures.{HasBroken, WasOpened, WasOver}
 use Rattle.pg_text.specs.declared.command.Command.{Command}
+use Rattle.pg_text.specs.declared.report.Report.{Report}
+use Rattle.pg_session.specs.Sessions.{HasPlayed}
 use Rattle.pg_tool.specs.Openings.{OpenEnds}
 
 -- its startup failed, over a link that may give so many bytes
@@ -20,7 +22,16 @@ pub record BreaksLater (user nonce : List ℕ) (scripts : List (List Command)) (
   pub broken : HasBroken user nonce scripts before after e
   pub limited : broken.startup.max_bytes ≡ limit
 
--- memory ran out, or the startup's frame can't be written, or one of the two
+-- or memory lacked between its startup and its first turn, or behind its last
+pub record LacksAround (user nonce : List ℕ) (scripts : List (List Command)) (before after : LinkView) (e : Error) : Type 0 where
+  pub memory : e ≡ OutOfMemory
+  pub crossed : WasOpened user nonce before after ⊎ WasOver user nonce scripts before after
+
+-- one of these, or the startup's frame can't be made
 abbrev pub SessionFails : (user nonce : List ℕ) (scripts : List (List Command)) (limit : ℕ) (before after : LinkView) → Error → Type 0
 SessionFails user nonce scripts limit before after e =
-    (e ≡ OutOfMemory) ⊎ (Made user (Err e) ⊎ (StartFails user nonce limit before after e ⊎ BreaksLater user nonce scripts limit before after e))
+    LacksAround user nonce scripts before after e ⊎ ((Made user (Err e) × (after ≡ before)) ⊎ (StartFails user nonce limit before after e ⊎ BreaksLater user nonce scripts limit before after e))
+
+-- it was opened under this limit, and ended well
+abbrev pub PlaysWithin : (user nonce : List ℕ) (scripts : List (List Command)) (given : List ℕ) (limit : ℕ) (before after : LinkView) → Report → Type 0
+PlaysWithin user nonce scripts given limit before after report = (p : HasPlayed user nonce scripts given before after report) × (p.startup.max_bytes ≡ limit)

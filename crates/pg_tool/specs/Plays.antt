@@ -1,17 +1,19 @@
 -- What stands between two turns of a session, and what its steps do.
-use Rattle.std.specs.Prelude.{◌≡◌, ◌⊎◌, ℕ, ◌^◌, ◌<◌, ◌≤◌, Bool, true, false, List, ◌++◌, ◌+◌, length, map, Option, Some, None, Result}
+use Rattle.std.specs.Prelude.{◌≡◌, ◌⊎◌, ℕ, ◌^◌, ◌<◌, ◌≤◌, Bool, true, false, List, ◌++◌, ◌+◌, ◌*◌, if◌then◌else◌, length, map, Option, Some, None, IfSome, Result}
 use Rattle.std.specs.List.{All}
 use Rattle.pg_errors.specs.declared.error.Error.{Error}
 use Rattle.pg_errors.specs.declared.error.Error.TheVariants as error
 use Rattle.pg_spec.specs.Links.{LinkView}
-use Rattle.pg_connect.specs.Answers.{PollAnswers}
+use Rattle.pg_connect.specs.Answers.{IsWithinPoll, PollAnswers}
 use Rattle.pg_hub.specs.Fits.{HubBecomes}
 use Rattle.futures.specs.declared.task.Poll.{Poll}
 use Rattle.pg_errors.specs.declared.async_message.AsyncMessage.{AsyncMessage}
-use Rattle.pg_session.specs.Failures.{BreaksOff}
-use Rattle.pg_session.specs.Sessions.{EndsWith, MakesAll, numbers, rounds}
+use Rattle.pg_session.specs.Failures.{BreaksOff, RunsShort}
+use Rattle.pg_session.specs.Sessions.{EndsWith, MakesAll, StaysAll, numbers, rounds}
+use Rattle.pg_session.specs.Measure.{IsUnderWay, left_to_do}
 use Rattle.pg_session.specs.States.{SessionState}
-use Rattle.pg_session.specs.Turns.{HandsOn}
+use Rattle.pg_session.specs.Turns.{HandleMade, HandsOn, moved_by, moved_in_poll}
+use Rattle.pg_session.specs.declared.handle_turn.Polling.{Polling}
 use Rattle.pg_text.specs.declared.command.Command.{Command}
 use Rattle.pg_tool.specs.declared.play.Play.{Play}
 use Rattle.pg_tool.specs.Handles.{IsLiveHandle, view_of}
@@ -24,11 +26,6 @@ pub record IsReady (scripts : List (List Command)) (p : Play) : Type 0 where
   pub handles : length p.handles.items ≡ length scripts
   pub live : All IsLiveHandle p.handles.items
 
--- an error of a session behind its startup: none that speaks of what was asked for
-abbrev pub IsLater : Error → Type 0
-IsLater (error.Config cause) = ⊥
-IsLater _ = Unit {0}
-
 -- what a session stands for
 abbrev pub state_of : Play → SessionState
 state_of p = record {
@@ -40,28 +37,60 @@ state_of p = record {
   asynchronous = p.asynchronous.items;
 }
 
+-- A session in which the connection isn't over: its hub stands for what was done to it, each command that runs has
+-- booked its request, and the link gave no more bytes than it may.
+pub record IsGoing (p : Play) : Type 0 where
+  pub under_way : IsUnderWay (state_of p)
+  pub within : p.streams.given ≤ p.streams.max_bytes
+
+-- the link gave no more bytes than it may, and the limit is as before
+abbrev pub IsLimited : (old new : Play) → Type 0
+IsLimited old new = (new.streams.given ≤ new.streams.max_bytes) × (new.streams.max_bytes ≡ old.streams.max_bytes)
+
+-- what is left to do, and whether a pause may come yet: the number falls with each round that ends nothing
+abbrev pub rounds_left : List (List Command) → (waited : Bool) → Play → ℕ
+rounds_left scripts waited p = 2 * left_to_do scripts (state_of p) + (if waited then 0 else 1)
+
+-- an error of a session behind its startup: none that speaks of what was asked for
+abbrev pub IsLater : Error → Type 0
+IsLater (error.Config cause) = ⊥
+IsLater _ = Unit {0}
+
 -- the connection was shut down
 abbrev pub is_over : Option Bool → Bool
 is_over None = true
 is_over (Some moved) = false
 
--- the connection was polled, and the turn isn't noted yet
-pub record ConnectionPolled (s t : SessionState) (before after : LinkView) (over : Bool) : Type 0 where
+-- a handle made its turn, and says whether that moved anything
+pub record HandlePolled (scripts : List (List Command)) (turn : ℕ) (s t : SessionState) (moved : Option Bool) : Type 0 where
+  pub did : Polling
+  pub made : HandleMade scripts turn s t did
+  pub says : moved ≡ Some (moved_by did made.hub)
+
+-- the connection was polled, and says whether that moved anything; the turn isn't noted yet
+pub record ConnectionPolled (s t : SessionState) (before after : LinkView) (moved : Option Bool) : Type 0 where
   pub answer : Poll (Option (Result AsyncMessage Error))
   pub polled : PollAnswers HubBecomes s.hub t.hub s.streams t.streams before after answer
-  pub hands : HandsOn answer s.asynchronous t.asynchronous over
+  pub hands : HandsOn answer s.asynchronous t.asynchronous (is_over moved)
+  pub says : IfSome moved (λ m. moved_in_poll answer t.streams ≡ m)
+  pub kept : s.streams.ended ≡ false → IsWithinPoll t.streams answer
   pub handles : t.handles ≡ s.handles
   pub unanswered : t.unanswered ≡ s.unanswered
   pub trace : t.trace ≡ s.trace
 
+-- a round was made whole, and where it says so nothing moved in it
+pub record RoundWhole (scripts : List (List Command)) (s : SessionState) (l : LinkView) (t : SessionState) (m : LinkView) (moved : Bool) : Type 0 where
+  pub made : MakesAll scripts (numbers (length scripts + 1)) s l t m
+  pub stays : moved ≡ false → StaysAll scripts (numbers (length scripts + 1)) s l t m
+
 -- a round was made whole, or the connection was shut down in it
 abbrev pub RoundMade : (scripts : List (List Command)) (s : SessionState) (l : LinkView) (t : SessionState) (m : LinkView) → Option Bool → Type 0
-RoundMade scripts s l t m (Some moved) = MakesAll scripts (numbers (length scripts + 1)) s l t m
+RoundMade scripts s l t m (Some moved) = RoundWhole scripts s l t m moved
 RoundMade scripts s l t m None = (last : ℕ) × (last ≤ length scripts) × EndsWith scripts (numbers last) last s l t m
 
 -- some turns of a round were made, and the next one failed, or memory ran out
 abbrev pub RoundFails : List (List Command) → SessionState → (before after : LinkView) → Error → Type 0
-RoundFails scripts s l m e = (e ≡ error.OutOfMemory) ⊎ BreaksOff scripts s l m e
+RoundFails scripts s l m e = RunsShort scripts s l m e ⊎ BreaksOff scripts s l m e
 
 -- whole rounds were made
 pub record RoundsMade (scripts : List (List Command)) (s : SessionState) (l : LinkView) (t : SessionState) (m : LinkView) : Type 0 where

@@ -1,30 +1,17 @@
 -- The contract of the program: what it writes, and its exit status.
 use Rattle.std.specs.Prelude.{◌≡◌, ◌≢◌, ℕ, ◌<◌, ◌≤◌, ◌⊎◌, true, false, List, [], ◌∷◌, ◌++◌, length, Result, Ok, Err, Option, Some, None, IfSome, IfOk, IfErr, codes, decimal}
 use Rattle.std.specs.List.{concat}
-use Rattle.pg_spec.specs.Causes.{Call, IsNotBuilt}
+use Rattle.pg_spec.specs.Causes.{Call, HasCause, IsNotBuilt}
 use Rattle.pg_spec.specs.Faults.{Failure, OutOfMemory, Config, NotBuilt}
 use Rattle.pg_spec.specs.Links.{LinkView, Rose, Grew}
-use Rattle.pg_spec.specs.Report.{Report}
+use Rattle.pg_spec.specs.Promises.{NoneKeptBack}
 use Rattle.pg_spec.specs.ReportText.{report_text, error_text}
 use Rattle.pg_spec.specs.SessionText.{SessionText, IsSessionText, IsRefusedAt}
 use Rattle.pg_wire.specs.LinkCalls.{Tells, Continues}
 use Rattle.pg_wire.specs.Streams.{SourceView, SinkView}
-use Rattle.pg_errors.specs.declared.error.Error.{Error}
-use Rattle.pg_errors.specs.Views.{failure_of}
-use Rattle.pg_text.specs.declared.report.Report as told
-use Rattle.pg_text.specs.Views.{report_of}
-use Rattle.pg_tool.specs.SessionContract.{IsCaused, IsEndedWell, IsRun}
+use Rattle.pg_tool.specs.SessionContract.{IsEndedWell, IsRun, KeepsLimit, SendsInOrder, SessionResult}
 use Rattle.pg_tool.specs.Reading.{longest_text}
 use Rattle.pg_tool.specs.Writing as writing
-
--- what a session answered
-abbrev pub SessionResult : Type 0
-SessionResult = Result Report Failure
-
--- the same of what `run_session` answers
-abbrev pub result_of : Result told.Report Error → SessionResult
-result_of (Ok report) = Ok (report_of report)
-result_of (Err error) = Err (failure_of error)
 
 -- one run of the program: its words, and the source and the sink before and after
 pub record Run : Type 0 where
@@ -85,7 +72,10 @@ pub record IsPlayed (text : SessionText) (result : SessionResult) : Type 0 where
   -- where the session answered Ok, the main theorem
   pub ended_well : IfOk result (IsEndedWell (call_of text after))
   pub has_run : IfOk result (IsRun (call_of text after))
-  pub cause : IfErr result (IsCaused (call_of text after))
+  pub cause : IfErr result (HasCause (call_of text after))
+  pub limit : KeepsLimit (call_of text after) result
+  pub sent : SendsInOrder (call_of text after) result
+  pub none_kept_back : NoneKeptBack (call_of text after) result
   pub refused : IsNotBuilt (call_of text after) → (result ≡ Err (Config NotBuilt)) × (after ≡ new_link text)
 
 -- With the status that is due the text was written whole, with 4 or 5 a front of it; and nothing else was.

@@ -1,11 +1,26 @@
 -- What a session that ended well is, by what was asked.
-use Rattle.std.specs.Prelude.{ℕ, List}
-use Rattle.pg_spec.specs.Causes.{Call, HasCause, OfDialogue}
+use Rattle.std.specs.Prelude.{◌≡◌, ◌<◌, ℕ, List, length, Result, Ok, Err, ⊤}
+use Rattle.pg_spec.specs.Causes.{Call, OfDialogue, Unless, WithSettings}
+use Rattle.pg_spec.specs.Links.{OfBytes}
+use Rattle.pg_errors.specs.Views.{failure_of}
+use Rattle.pg_errors.specs.declared.error.Error.{Error}
+use Rattle.pg_text.specs.Views.{report_of}
+use Rattle.pg_text.specs.declared.report.Report as told
 use Rattle.pg_spec.specs.EndedWell.{Session, HasRun, EndedWell}
-use Rattle.pg_spec.specs.Faults.{Failure, Stalled}
+use Rattle.pg_spec.specs.Faults.{Failure, LimitReached}
+use Rattle.pg_spec.specs.Promises.{SentInOrder}
 use Rattle.pg_spec.specs.Report.{Report}
 use Rattle.pg_spec.specs.Settings.{Settings}
 use Rattle.pg_spec.specs.Turns.{Times}
+
+-- what a session answers
+abbrev pub SessionResult : Type 0
+SessionResult = Result Report Failure
+
+-- the same of what `run_session` answers
+abbrev pub result_of : Result told.Report Error → SessionResult
+result_of (Ok report) = Ok (report_of report)
+result_of (Err error) = Err (failure_of error)
 
 -- a call that ended with this report, where the server gave these bytes
 abbrev pub session_of : Call → Settings → List ℕ → Report → Session
@@ -16,11 +31,16 @@ session_of call s g report = record { settings = s; nonce = call.nonce; scripts 
 abbrev pub IsEndedWell : Call → Report → Type 0
 IsEndedWell call report = OfDialogue call (λ s g t. EndedWell (session_of call s g report) t)
 
+-- More bytes than the limit are given only where the session fails for that, and tells how many, or memory lacks.
+abbrev pub KeepsLimit : Call → SessionResult → Type 0
+KeepsLimit call result = OfBytes call.before call.after (λ g t. call.limit < length g → Unless (λ failure. failure ≡ LimitReached (length g) call.limit) result)
+
 -- what can be said of it over every link
 abbrev pub IsRun : Call → Report → Type 0
 IsRun call report = (schedule : List (List Times)) × HasRun call.scripts call.turns report schedule
 
--- a failure other than that nothing moves any more has its cause in the call
-abbrev pub IsCaused : Call → Failure → Type 0
-IsCaused call (Stalled before after) = Unit {0}
-IsCaused call failure = HasCause call failure
+-- Where a session fails, what was sent is in order: a front of what the startup writes, or, once that is done, of
+-- it, of requests in script order, and of Terminate. A connection string that means nothing has no startup.
+abbrev pub SendsInOrder : Call → SessionResult → Type 0
+SendsInOrder call (Ok report) = ⊤
+SendsInOrder call (Err failure) = WithSettings call (λ s. ⊤) → OfDialogue call (λ s g t. SentInOrder call s g t)

@@ -1,11 +1,12 @@
 //! The startup of a session.
 
-ghost use Rattle.std.specs.Prelude.{◌≡◌, ◌^◌, ◌<◌, ◌≤◌, ℕ, List, not, IfOk};
+ghost use Rattle.std.specs.Prelude.{◌≡◌, ◌^◌, ◌<◌, ◌≤◌, ℕ, List, OnOk};
 ghost use Rattle.pg_spec.specs.Links.{LinkView};
 ghost use Rattle.pg_wire.specs.LinkCalls.{SameBytes, Keeps};
+ghost use Rattle.pg_connect.specs.Calm.{StaysCalm};
 ghost use Rattle.pg_connect.specs.Startups.{Opening};
 ghost use Rattle.pg_connect.specs.StartupPolls.{SameStart};
-ghost use Rattle.pg_tool.specs.Openings.{Steps, GoesOn, WaitEnds, OpenEnds};
+ghost use Rattle.pg_tool.specs.Openings.{Steps, GoesOn, WaitEnds, PauseEnds, OpenEnds};
 
 use futures::task::Poll;
 use pg_connect::Startup;
@@ -18,8 +19,9 @@ fn poll_once<L: Link>(startup: &mut Startup, link: &mut L) -> Result<Option<bool
     requires given { startup.old.given ≤ startup.old.max_bytes }
     ensures answer { (name nonce : List ℕ) (begin : LinkView) → Opening name nonce begin (L.view link.old) startup.old →
         Steps name nonce begin (L.view link.new) startup.new result }
-    ensures waits { GoesOn (L.view link.old) (L.view link.new) startup.new result }
+    ensures waits { GoesOn (L.view link.old) (L.view link.new) startup.old startup.new result }
     ensures same { SameStart startup.old startup.new }
+    ensures calm { StaysCalm (L.view link.old) (L.view link.new) }
 {
     match startup.poll(link) {
         Poll::Ready(Ok(())) => Ok(None),
@@ -34,6 +36,7 @@ pub(crate) fn wait_for<L: Link>(link: &mut L, before: u64, after: u64) -> Result
     ensures end { WaitEnds before after (L.view link.old) (L.view link.new) result }
     ensures bytes { SameBytes (L.view link.old) (L.view link.new) }
     ensures keeps { Keeps (L.view link.old) (L.view link.new) }
+    ensures calm { OnOk result (StaysCalm (L.view link.old) (L.view link.new)) }
 {
     match link.wait() {
         LinkWait::Ready => Ok(()),
@@ -44,6 +47,7 @@ pub(crate) fn wait_for<L: Link>(link: &mut L, before: u64, after: u64) -> Result
 
 /// Behind a round of turns or a poll: where nothing moved the link is waited for, and where nothing moved
 /// behind a wait either, the session is stalled. The answer says whether the next one comes behind a wait.
+#[tactic(auto, using(crate::proofs::Calming::calm_none))]
 pub(crate) fn pause<L: Link>(
     link: &mut L,
     moved: bool,
@@ -51,10 +55,10 @@ pub(crate) fn pause<L: Link>(
     before: u64,
     after: u64,
 ) -> Result<bool, Error>
-    ensures end { WaitEnds before after (L.view link.old) (L.view link.new) result }
-    ensures next { IfOk result (λ next. next ≡ not moved) }
+    ensures end { PauseEnds moved before after waited (L.view link.old) (L.view link.new) result }
     ensures bytes { SameBytes (L.view link.old) (L.view link.new) }
     ensures keeps { Keeps (L.view link.old) (L.view link.new) }
+    ensures calm { OnOk result (StaysCalm (L.view link.old) (L.view link.new)) }
 {
     if moved {
         return Ok(false);
@@ -69,16 +73,18 @@ pub(crate) fn pause<L: Link>(
 }
 
 /// Polls the startup until it answers. Where a poll moved nothing the link is waited for, and where the
-/// next one moves nothing either, the session is stalled.
+/// next one moves nothing either, the session is stalled. Each other poll leaves less to do.
+#[tactic(auto, using(crate::proofs::Calming::calm_none))]
 pub(crate) fn open<L: Link>(startup: &mut Startup, link: &mut L) -> Result<(), Error>
     requires limit { startup.old.max_bytes < 2 ^ 63 }
     requires given { startup.old.given ≤ startup.old.max_bytes }
     ensures answer { (name nonce : List ℕ) (begin : LinkView) → Opening name nonce begin (L.view link.old) startup.old →
         OpenEnds name nonce begin (L.view link.new) startup.new result }
     ensures same { SameStart startup.old startup.new }
+    ensures calm { OnOk result (StaysCalm (L.view link.old) (L.view link.new)) }
 {
     let mut waited = false;
-    'polls: for _ in 0..u64::MAX {
+    'polls: loop {
         let before = link.quiet();
         let moved = match poll_once(startup, link) {
             Ok(None) => return Ok(()),
@@ -91,5 +97,4 @@ pub(crate) fn open<L: Link>(startup: &mut Startup, link: &mut L) -> Result<(), E
             Err(error) => return Err(error),
         }
     }
-    Err(Error::OutOfMemory)
 }

@@ -1,13 +1,15 @@
 //! A session behind its startup: handles and the connection take turns on one hub.
 
-ghost use Rattle.std.specs.Prelude.{◌≡◌, ◌^◌, ◌<◌, ◌≤◌, ◌++◌, ◌∷◌, [], length, slice_get, Some, false, IfOk, IfErr, OnOk};
+ghost use Rattle.std.specs.Prelude.{◌≡◌, ◌^◌, ◌<◌, ◌≤◌, ◌++◌, ◌∷◌, [], length, slice_get, Some, false, IfOk, IfErr, IfSome, OnOk};
+ghost use Rattle.pg_connect.specs.Calm.{StaysCalm};
 ghost use Rattle.pg_session.specs.Failures.{HasFailed, TurnFails};
+ghost use Rattle.pg_session.specs.Measure.{IsNearer};
 ghost use Rattle.pg_session.specs.Sessions.{IsNewSession, Plays};
 ghost use Rattle.pg_session.specs.States.{commands_in};
-ghost use Rattle.pg_session.specs.Turns.{Closes, ClosesBehind, HandleMade, Makes, left_behind};
+ghost use Rattle.pg_session.specs.Turns.{Closes, ClosesBehind, Turns, left_behind, moved_by};
 ghost use Rattle.pg_text.specs.Scripts.{AreScripts};
 ghost use Rattle.pg_wire.specs.LinkCalls.{Continues};
-ghost use Rattle.pg_tool.specs.Plays.{ConnectionPolled, IsLater, IsReady, RoundFails, RoundMade, RoundsEnd, is_over, state_of};
+ghost use Rattle.pg_tool.specs.Plays.{ConnectionPolled, HandlePolled, IsGoing, IsLater, IsLimited, IsReady, RoundFails, RoundMade, RoundsEnd, state_of};
 
 use crate::handle::{Handle, new_handles, turn_at};
 use crate::opening::pause;
@@ -41,6 +43,7 @@ impl Play {
         ensures ready { IfOk result (λ p. IsReady scripts.now p) }
         ensures fresh { IfOk result (λ p. IsNewSession scripts.now (state_of p)) }
         ensures streams { IfOk result (λ p. p.streams ≡ streams) }
+        ensures going { IfOk result IsGoing }
         ensures error { IfErr result (λ e. e ≡ Error.OutOfMemory) }
     {
         let handles = match new_handles(alloc, scripts.as_slice().len()) {
@@ -77,6 +80,7 @@ impl Play {
     }
 
     /// Makes the turns that were given, then whole rounds, until the connection is shut down.
+    #[tactic(auto, using(crate::proofs::Calming::calm_none))]
     pub(crate) fn run<L: Link>(
         &mut self,
         alloc: Global,
@@ -85,10 +89,13 @@ impl Play {
         turns: &[u32],
     ) -> Result<(), Error>
         requires ready { IsReady scripts.now self.old }
+        requires going { IsGoing self.old }
         ensures fails { IfErr result (HasFailed scripts.now (state_of self.old) (L.view link.old) (L.view link.new)) }
+        ensures limited { OnOk result (IsLimited self.old self.new) }
         ensures plays { OnOk result (Plays scripts.now turns.now (state_of self.old) (L.view link.old) (state_of self.new) (L.view link.new)) }
         ensures link { Continues (L.view link.old) (L.view link.new) }
         ensures error { IfErr result IsLater }
+        ensures calm { OnOk result (StaysCalm (L.view link.old) (L.view link.new)) }
     {
         'turns: for turn in turns {
             match self.turn(alloc, link, scripts, *turn) {
@@ -101,7 +108,8 @@ impl Play {
     }
 
     /// Makes whole rounds. Where one moved nothing the link is waited for, and where the next one moves
-    /// nothing either, the session is stalled.
+    /// nothing either, the session is stalled. Each other round leaves less to do.
+    #[tactic(auto, using(crate::proofs::Calming::calm_none))]
     fn rounds<L: Link>(
         &mut self,
         alloc: Global,
@@ -109,13 +117,16 @@ impl Play {
         scripts: &Scripts,
     ) -> Result<(), Error>
         requires ready { IsReady scripts.now self.old }
+        requires going { IsGoing self.old }
         ensures fails { IfErr result (HasFailed scripts.now (state_of self.old) (L.view link.old) (L.view link.new)) }
+        ensures limited { OnOk result (IsLimited self.old self.new) }
         ensures ends { OnOk result (RoundsEnd scripts.now (state_of self.old) (L.view link.old) (state_of self.new) (L.view link.new)) }
         ensures link { Continues (L.view link.old) (L.view link.new) }
         ensures error { IfErr result IsLater }
+        ensures calm { OnOk result (StaysCalm (L.view link.old) (L.view link.new)) }
     {
         let mut waited = false;
-        'rounds: for _ in 0..u64::MAX {
+        'rounds: loop {
             let before = link.quiet();
             let moved = match self.round(alloc, link, scripts) {
                 Ok(None) => return Ok(()),
@@ -128,7 +139,6 @@ impl Play {
                 Err(error) => return Err(error),
             }
         }
-        Err(Error::OutOfMemory)
     }
 
     /// Each handle once, in order, and then the connection. `None`: the connection is shut down; else
@@ -140,11 +150,16 @@ impl Play {
         scripts: &Scripts,
     ) -> Result<Option<bool>, Error>
         requires ready { IsReady scripts.now self.old }
+        requires going { IsGoing self.old }
         ensures ready { IsReady scripts.now self.new }
+        ensures going { IfOk result (λ moved. IfSome moved (λ m. IsGoing self.new)) }
+        ensures nearer { IfOk result (λ moved. IfSome moved (λ m. IsNearer scripts.now m (state_of self.old) (state_of self.new))) }
+        ensures limited { IfOk result (λ moved. IsLimited self.old self.new) }
         ensures fails { IfErr result (RoundFails scripts.now (state_of self.old) (L.view link.old) (L.view link.new)) }
         ensures made { IfOk result (RoundMade scripts.now (state_of self.old) (L.view link.old) (state_of self.new) (L.view link.new)) }
         ensures link { Continues (L.view link.old) (L.view link.new) }
         ensures error { IfErr result IsLater }
+        ensures calm { StaysCalm (L.view link.old) (L.view link.new) }
     {
         let mut moved = false;
         let connection = scripts.as_slice().len() as u32;
@@ -168,11 +183,16 @@ impl Play {
         turn: u32,
     ) -> Result<Option<bool>, Error>
         requires ready { IsReady scripts.now self.old }
+        requires going { IsGoing self.old }
         ensures ready { IsReady scripts.now self.new }
+        ensures going { IfOk result (λ moved. IfSome moved (λ m. IsGoing self.new)) }
+        ensures nearer { IfOk result (λ moved. IfSome moved (λ m. IsNearer scripts.now m (state_of self.old) (state_of self.new))) }
+        ensures limited { IfOk result (λ moved. IsLimited self.old self.new) }
         ensures fails { IfErr result (TurnFails (state_of self.old) (L.view link.old) (L.view link.new)) }
-        ensures made { IfOk result (λ moved. Makes scripts.now turn (state_of self.old) (state_of self.new) (L.view link.old) (L.view link.new) (is_over moved)) }
+        ensures made { IfOk result (Turns scripts.now turn (state_of self.old) (state_of self.new) (L.view link.old) (L.view link.new)) }
         ensures link { Continues (L.view link.old) (L.view link.new) }
         ensures error { IfErr result IsLater }
+        ensures calm { StaysCalm (L.view link.old) (L.view link.new) }
     {
         if (turn as usize) < scripts.as_slice().len() {
             return self.handle_turn(alloc, scripts, turn);
@@ -217,8 +237,7 @@ impl Play {
         requires ready { IsReady scripts.now self.old }
         requires place { turn < length scripts.now }
         ensures ready { IsReady scripts.now self.new }
-        ensures made { IfOk result (λ moved. (did : Polling) × HandleMade scripts.now turn (state_of self.old) (state_of self.new) did) }
-        ensures goes_on { IfOk result (λ moved. is_over moved ≡ false) }
+        ensures made { IfOk result (HandlePolled scripts.now turn (state_of self.old) (state_of self.new)) }
         ensures error { IfErr result (λ e. e ≡ Error.OutOfMemory) }
     {
         let script = script_at(scripts, turn);
@@ -237,6 +256,7 @@ impl Play {
     /// Closes requests behind the last answer, and says whether a handle's turn moved anything.
     fn behind_poll(&mut self, polling: Polling) -> Result<bool, Error>
         ensures closes { OnOk result (ClosesBehind polling self.old.unanswered self.old.hub self.new.hub) }
+        ensures moved { IfOk result (λ moved. moved ≡ moved_by polling self.old.hub) }
         ensures unanswered { OnOk result (self.new.unanswered ≡ left_behind polling self.old.unanswered) }
         ensures same { self.new ≡ record self.old { hub = self.new.hub; unanswered = self.new.unanswered } }
         ensures error { IfErr result (λ e. e ≡ Error.OutOfMemory) }
@@ -264,12 +284,13 @@ impl Play {
         requires limit { self.old.streams.max_bytes < 2 ^ 63 }
         requires within { self.old.streams.ended ≡ false → self.old.streams.given ≤ self.old.streams.max_bytes }
         ensures fails { IfErr result (TurnFails (state_of self.old) (L.view link.old) (L.view link.new)) }
-        ensures polled { IfOk result (λ moved. ConnectionPolled (state_of self.old) (state_of self.new) (L.view link.old) (L.view link.new) (is_over moved)) }
+        ensures polled { IfOk result (ConnectionPolled (state_of self.old) (state_of self.new) (L.view link.old) (L.view link.new)) }
         ensures limit { self.new.streams.max_bytes ≡ self.old.streams.max_bytes }
         ensures within { self.new.streams.ended ≡ false → self.new.streams.given ≤ self.new.streams.max_bytes }
         ensures handles { self.new.handles ≡ self.old.handles }
         ensures link { Continues (L.view link.old) (L.view link.new) }
         ensures error { IfErr result IsLater }
+        ensures calm { StaysCalm (L.view link.old) (L.view link.new) }
     {
         match self.streams.poll_message(alloc, link, &mut self.hub) {
             Poll::Pending => Ok(Some(self.streams.moved)),

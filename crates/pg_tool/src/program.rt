@@ -3,7 +3,8 @@
 ghost use Rattle.std.specs.Prelude.{◌≡◌, ◌<◌, ◌^◌, ◌↔◌, ℕ, List, None, Err, IfOk, IfSome, IsSome, IsTrue, map, option_map, string_bytes};
 ghost use Rattle.pg_errors.specs.Views.{failure_of};
 ghost use Rattle.pg_text.specs.Sessions.{IsNew, session_of};
-ghost use Rattle.pg_tool.specs.RunContract.{Answered, PlayedSession, PlayedText, RefusedLine, RunContract, Written, play, result_of};
+ghost use Rattle.pg_tool.specs.RunContract.{Answered, PlayedSession, PlayedText, RefusedLine, RunContract, Written, play};
+ghost use Rattle.pg_tool.specs.SessionContract.{result_of};
 
 use crate::reading::{ReadFault, read_all};
 use crate::session::run_session;

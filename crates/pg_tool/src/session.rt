@@ -1,16 +1,16 @@
 //! A session: the startup, the turns, and the report.
 
-ghost use Rattle.std.specs.Prelude.{◌≡◌, ◌<◌, ◌^◌, ℕ, List, Err, IfErr, IfOk};
+ghost use Rattle.std.specs.Prelude.{◌≡◌, ◌<◌, ◌^◌, ℕ, List, Err, IfErr, IfOk, OnOk};
 ghost use Rattle.pg_spec.specs.Causes.{IsNotBuilt, HasCause};
 ghost use Rattle.pg_spec.specs.ConnectionStrings.{Means, only_user};
-ghost use Rattle.pg_spec.specs.Faults as faults;
+ghost use Rattle.pg_spec.specs.Promises.{NoneKeptBack};
+ghost use Rattle.pg_connect.specs.Calm.{StaysCalm};
 ghost use Rattle.pg_errors.specs.Views.{failure_of};
-ghost use Rattle.pg_session.specs.FailureCauses.{IsNotStalled};
 ghost use Rattle.pg_session.specs.Sessions.{HasPlayed};
 ghost use Rattle.pg_wire.specs.LinkCalls.{Continues};
 ghost use Rattle.pg_text.specs.Views.{report_of};
-ghost use Rattle.pg_tool.specs.SessionContract.{IsEndedWell, IsRun};
-ghost use Rattle.pg_tool.specs.Fails.{SessionFails};
+ghost use Rattle.pg_tool.specs.SessionContract.{IsEndedWell, IsRun, KeepsLimit, SendsInOrder, result_of};
+ghost use Rattle.pg_tool.specs.Fails.{PlaysWithin, SessionFails};
 ghost use Rattle.pg_tool.specs.Asked.{call_of, ConfigIsNotBuilt};
 
 use crate::asked::{is_in_form, user_of};
@@ -47,13 +47,16 @@ pub fn run_session<L: Link>(
     ensures played { IfOk result (λ report. (user : List ℕ) × Means config.now (only_user user)
         × HasPlayed user nonce.now scripts.now turns.now (L.view link.old) (L.view link.new) report) }
     ensures link { Continues (L.view link.old) (L.view link.new) }
-    ensures cause { IfErr result (λ e. IsNotStalled e → HasCause
+    ensures cause { IfErr result (λ e. HasCause
         (call_of config.now nonce.now scripts.now turns.now max_bytes (L.view link.old) (L.view link.new)) (failure_of e)) }
+    ensures limit { KeepsLimit
+        (call_of config.now nonce.now scripts.now turns.now max_bytes (L.view link.old) (L.view link.new)) (result_of result) }
+    ensures sent { SendsInOrder
+        (call_of config.now nonce.now scripts.now turns.now max_bytes (L.view link.old) (L.view link.new)) (result_of result) }
+    ensures none_kept_back { NoneKeptBack
+        (call_of config.now nonce.now scripts.now turns.now max_bytes (L.view link.old) (L.view link.new)) (result_of result) }
     ensures refused { IsNotBuilt (call_of config.now nonce.now scripts.now turns.now max_bytes (L.view link.old) (L.view link.new)) →
         (result ≡ Err (Error.Config Cause.NotBuilt)) × (L.view link.new ≡ L.view link.old) }
-    ensures not_built { result ≡ Err (Error.Config Cause.NotBuilt) →
-        HasCause (call_of config.now nonce.now scripts.now turns.now max_bytes (L.view link.old) (L.view link.new))
-        (faults.Config faults.NotBuilt) }
     ensures config { IfErr result ConfigIsNotBuilt }
 {
     let Some(user) = user_of(config) else {
@@ -76,13 +79,10 @@ fn play_as<L: Link>(
 ) -> Result<Report, Error>
     requires { max_bytes < 2 ^ 63 }
     ensures fails { (nonce : List ℕ) → IfErr result (SessionFails user.now nonce scripts.now max_bytes (L.view link.old) (L.view link.new)) }
-    ensures played { (nonce : List ℕ) → IfOk result (HasPlayed user.now nonce scripts.now turns.now (L.view link.old) (L.view link.new)) }
+    ensures played { (nonce : List ℕ) → IfOk result (PlaysWithin user.now nonce scripts.now turns.now max_bytes (L.view link.old) (L.view link.new)) }
     ensures link { Continues (L.view link.old) (L.view link.new) }
-    ensures not_built { (config nonce : List ℕ) → Means config (only_user user.now) →
-        result ≡ Err (Error.Config Cause.NotBuilt) →
-        HasCause (call_of config nonce scripts.now turns.now max_bytes (L.view link.old) (L.view link.new))
-        (faults.Config faults.NotBuilt) }
     ensures config { IfErr result ConfigIsNotBuilt }
+    ensures calm { OnOk result (StaysCalm (L.view link.old) (L.view link.new)) }
 {
     let mut startup = match Startup::new(alloc, user, max_bytes) {
         Ok(startup) => startup,

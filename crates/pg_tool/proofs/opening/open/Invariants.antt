@@ -1,7 +1,11 @@
-use Rattle.std.proofs.Common.{◌≤◌, ℕ, List}
+use Rattle.std.proofs.Common.{◌≡◌, ◌≤◌, ℕ, List, true}
+use Rattle.std.specs.Prelude.{IsTrue}
 use Rattle.pg_spec.specs.Links.{LinkView}
+use Rattle.pg_wire.specs.LinkCalls.{Keeps}
+use Rattle.pg_connect.specs.Calm.{StaysCalm}
 use Rattle.pg_connect.specs.Startups.{Opening}
 use Rattle.pg_connect.specs.StartupPolls.{SameStart}
+use Rattle.pg_tool.specs.Openings.{open_left}
 use Rattle.pg_tool.proofs.opening.open.Given as goal
 
 abbrev pub invariant-polls : goal.invariant-polls
@@ -10,4 +14,10 @@ invariant-polls g l = record {
   within : l.startup.given ≤ l.startup.max_bytes;
   opening : (name nonce : List ℕ) (begin : LinkView) → Opening name nonce begin (g.L.Link.view l.initial.link) l.initial.startup →
       Opening name nonce begin (g.L.Link.view l.link) l.startup;
+  link : Keeps (g.L.Link.view l.initial.link) (g.L.Link.view l.link);
+  promised : l.waited ≡ true → IsTrue (g.L.Link.view l.link).promised;
+  calm : StaysCalm (g.L.Link.view l.initial.link) (g.L.Link.view l.link);
 }
+
+abbrev pub decreases-polls : goal.decreases-polls
+decreases-polls g l = open_left l.waited l.startup

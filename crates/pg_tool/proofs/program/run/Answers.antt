@@ -1,6 +1,7 @@
 use Rattle.std.proofs.Common.{ℕ, List, refl, subst, ap}
 use Rattle.std.specs.Prelude.{option_map}
-use Rattle.pg_tool.specs.RunContract.{Written, result_of}
+use Rattle.pg_tool.specs.RunContract.{Written}
+use Rattle.pg_tool.specs.SessionContract.{result_of}
 use Rattle.pg_tool.proofs.Telling.{run_text, run_usage}
 use Rattle.pg_tool.proofs.program.run.Goals as goal
 

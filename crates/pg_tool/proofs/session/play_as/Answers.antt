@@ -1,7 +1,8 @@
-use Rattle.std.proofs.Common.{Ok, Err, [], inl, inr, ◌∙◌}
+use Rattle.std.proofs.Common.{Ok, Err, [], inl, inr, refl, ◌∙◌}
 use Rattle.pg_tool.specs.Asked.{call_of}
-use Rattle.pg_tool.proofs.Waiting.{open_config, open_continues, opened_continues, open_not_built}
-use Rattle.pg_tool.proofs.Played.{breaks_later, has_played}
+use Rattle.pg_tool.proofs.Waiting.{open_config, open_continues, opened_continues}
+use Rattle.pg_tool.proofs.Calming.{calm_on}
+use Rattle.pg_tool.proofs.Played.{breaks_later, has_played, lacks_behind}
 use Rattle.pg_tool.proofs.session.play_as.Goals as goal
 
 pub returns-in-Err-open-clause-link : goal.returns-in-Err-open-clause-link
@@ -9,13 +10,6 @@ returns-in-Err-open-clause-link g c =
     let begin = g.L.Link.view c.args.link.now in
     open_continues c.args.user.now [] begin (g.L.Link.view c.open.new.link) c.open.new.startup (Err c.in-Err-open.error)
     (c.in-Err-open.ensures.answer c.args.user.now [] begin (c.in-Ok.ensures.fresh [] begin))
-
-pub returns-in-Err-open-clause-not_built : goal.returns-in-Err-open-clause-not_built
-returns-in-Err-open-clause-not_built g c config nonce means is =
-    let begin = g.L.Link.view c.args.link.now in
-    let call = call_of config nonce c.args.scripts.now c.args.turns.now c.args.max_bytes begin (g.L.Link.view c.open.new.link) in
-    open_not_built call c.args.user.now c.open.new.startup c.in-Err-open.error means
-    (c.in-Err-open.ensures.answer c.args.user.now nonce begin (c.in-Ok.ensures.fresh nonce begin)) cc
 
 pub returns-in-Err-open-clause-config : goal.returns-in-Err-open-clause-config
 returns-in-Err-open-clause-config g c =
@@ -50,13 +44,13 @@ returns-clause-link g c =
 pub returns-clause-played : goal.returns-clause-played
 returns-clause-played g c nonce =
     let begin = g.L.Link.view c.args.link.now in
-    has_played c.args.user.now nonce c.args.scripts.now c.args.turns.now begin (g.L.Link.view c.open.new.link) (g.L.Link.view c.run.new.link) c.open.new.startup _ _
-    c.in-Ok-new.play c.run.new.self c.into_report.result
+    has_played c.args.user.now nonce c.args.scripts.now c.args.turns.now c.args.max_bytes begin (g.L.Link.view c.open.new.link) (g.L.Link.view c.run.new.link) c.open.new.startup _ _
+    c.in-Ok-new.play c.run.new.self c.into_report.result (c.in-Ok-open.ensures.same.limit ∙ c.in-Ok.ensures.limit.0) c.in-Ok-run.ensures.limited
     (c.in-Ok-open.ensures.answer c.args.user.now nonce begin (c.in-Ok.ensures.fresh nonce begin)) c.into_streams-opening.ensures c.in-Ok-new.ensures.streams c.in-Ok-new.ensures.fresh
     c.in-Ok-run.ensures.plays c.into_report.ensures.report c.into_report.ensures.counted
 
 pub returns-in-Err-clause-fails : goal.returns-in-Err-clause-fails
-returns-in-Err-clause-fails g c nonce = inr (inl c.in-Err.ensures.made)
+returns-in-Err-clause-fails g c nonce = inr (inl (c.in-Err.ensures.made, refl))
 
 pub returns-in-Err-open-clause-fails : goal.returns-in-Err-open-clause-fails
 returns-in-Err-open-clause-fails g c nonce =
@@ -74,3 +68,22 @@ returns-in-Err-run-clause-fails g c nonce =
     inr (inr (inr (breaks_later c.args.user.now nonce c.args.scripts.now c.args.max_bytes begin (g.L.Link.view c.open.new.link) (g.L.Link.view c.run.new.link) c.open.new.startup _ _
     c.in-Ok-new.play c.in-Err-run.error (c.in-Ok-open.ensures.same.limit ∙ c.in-Ok.ensures.limit.0) opened c.into_streams-opening.ensures c.in-Ok-new.ensures.streams c.in-Ok-new.ensures.fresh
     c.in-Err-run.ensures.fails)))
+
+pub returns-in-Err-new-clause-fails : goal.returns-in-Err-new-clause-fails
+returns-in-Err-new-clause-fails g c nonce =
+    let begin = g.L.Link.view c.args.link.now in
+    inl (record {
+      memory = c.in-Err-new.ensures.error;
+      crossed = inl (record { startup = c.open.new.startup; opened = c.in-Ok-open.ensures.answer c.args.user.now nonce begin (c.in-Ok.ensures.fresh nonce begin) });
+    })
+
+pub returns-clause-fails : goal.returns-clause-fails
+returns-clause-fails g c nonce =
+    let begin = g.L.Link.view c.args.link.now in
+    lacks_behind c.args.user.now nonce c.args.scripts.now c.args.turns.now c.args.max_bytes begin (g.L.Link.view c.open.new.link) (g.L.Link.view c.run.new.link) c.open.new.startup _ _
+    c.in-Ok-new.play c.run.new.self c.into_report.result (c.in-Ok-open.ensures.answer c.args.user.now nonce begin (c.in-Ok.ensures.fresh nonce begin)) c.into_streams-opening.ensures
+    c.in-Ok-new.ensures.streams c.in-Ok-new.ensures.fresh c.in-Ok-run.ensures.plays c.into_report.ensures.error
+
+pub returns-clause-calm : goal.returns-clause-calm
+returns-clause-calm g c =
+    calm_on c.into_report.result (g.L.Link.view c.args.link.now) (g.L.Link.view c.open.new.link) (g.L.Link.view c.run.new.link) c.in-Ok-open.ensures.calm c.in-Ok-run.ensures.calm

@@ -1,12 +1,13 @@
-use Rattle.std.proofs.Common.{inl, inr, ◌∙◌}
+use Rattle.std.proofs.Common.{inl, inr, refl, ◌∙◌}
 use Rattle.std.proofs.lemmas.Bool.{true≢false}
 use Rattle.pg_spec.specs.ConnectionStrings.{only_user}
+use Rattle.pg_tool.specs.Asked.{call_of}
 use Rattle.pg_tool.proofs.Causing.{caused}
+use Rattle.pg_tool.proofs.Limiting.{ended_within, holds_all, keeps_limit}
+use Rattle.pg_session.proofs.SentSoFar.{sent-untouched}
+use Rattle.pg_tool.proofs.Sending.{asks_all, sends_all}
 use Rattle.pg_tool.proofs.Played.{ended_well, has_run, played_as}
 use Rattle.pg_tool.proofs.session.run_session.Goals as goal
-
-pub returns-in_default-clause-not_built : goal.returns-in_default-clause-not_built
-returns-in_default-clause-not_built g c is = inl (inl (λ w. c.in_default.ensures w.0 w.1))
 
 pub returns-clause-refused : goal.returns-clause-refused
 returns-clause-refused g c why = elim why [
@@ -14,11 +15,8 @@ returns-clause-refused g c why = elim why [
   | inr other ↦ absurd (true≢false (c.if-not-is_in_form.ensures ∙ other))
 ]
 
-pub returns-clause-not_built : goal.returns-clause-not_built
-returns-clause-not_built g c is = c.play_as.ensures.not_built c.args.config.now c.args.nonce.now c.in-Some.ensures is
-
 pub returns-clause-played : goal.returns-clause-played
-returns-clause-played g c = played_as c.args.config.now c.in-Some.user.now c.args.nonce.now c.args.scripts.now c.args.turns.now
+returns-clause-played g c = played_as c.args.config.now c.in-Some.user.now c.args.nonce.now c.args.scripts.now c.args.turns.now c.args.max_bytes
     (g.L.Link.view c.args.link.now) (g.L.Link.view c.play_as.new.link) c.play_as.result c.in-Some.ensures (c.play_as.ensures.played c.args.nonce.now)
 
 pub returns-clause-ended_well : goal.returns-clause-ended_well
@@ -30,8 +28,38 @@ returns-clause-has_run g c = has_run c.args.config.now c.in-Some.user.now c.args
     (g.L.Link.view c.args.link.now) (g.L.Link.view c.play_as.new.link) c.play_as.result (c.play_as.ensures.played c.args.nonce.now)
 
 pub returns-in_default-clause-cause : goal.returns-in_default-clause-cause
-returns-in_default-clause-cause g c moves = inl (inl (λ w. c.in_default.ensures w.0 w.1))
+returns-in_default-clause-cause g c = inl (inl (λ w. c.in_default.ensures w.0 w.1))
 
 pub returns-clause-cause : goal.returns-clause-cause
 returns-clause-cause g c = caused c.args.config.now c.in-Some.user.now c.args.nonce.now c.args.scripts.now c.args.turns.now c.args.max_bytes
     (g.L.Link.view c.args.link.now) (g.L.Link.view c.play_as.new.link) c.play_as.result c.in-Some.ensures (c.play_as.ensures.fails c.args.nonce.now)
+
+pub returns-clause-limit : goal.returns-clause-limit
+returns-clause-limit g c =
+    let config = c.args.config.now in
+    let user = c.in-Some.user.now in
+    let nonce = c.args.nonce.now in
+    let scripts = c.args.scripts.now in
+    let turns = c.args.turns.now in
+    let before = g.L.Link.view c.args.link.now in
+    let after = g.L.Link.view c.play_as.new.link in
+    keeps_limit (call_of config nonce scripts turns c.args.max_bytes before after) c.play_as.result
+    (ended_within user nonce scripts turns c.args.max_bytes before after c.play_as.result (c.play_as.ensures.played nonce))
+    (holds_all config user nonce scripts turns c.args.max_bytes before after c.play_as.result c.in-Some.ensures (c.play_as.ensures.fails nonce))
+    (returns-clause-cause g c)
+
+pub returns-in_default-clause-sent : goal.returns-in_default-clause-sent
+returns-in_default-clause-sent g c w = absurd (c.in_default.ensures w.0 w.1)
+
+pub returns-then-not-is_in_form-clause-sent : goal.returns-then-not-is_in_form-clause-sent
+returns-then-not-is_in_form-clause-sent g c w =
+    let link = g.L.Link.view c.args.link.now in
+    sent-untouched (call_of c.args.config.now c.args.nonce.now c.args.scripts.now c.args.turns.now c.args.max_bytes link link) c.in-Some.user.now c.in-Some.ensures refl
+
+pub returns-clause-sent : goal.returns-clause-sent
+returns-clause-sent g c = sends_all c.args.config.now c.in-Some.user.now c.args.nonce.now c.args.scripts.now c.args.turns.now c.args.max_bytes
+    (g.L.Link.view c.args.link.now) (g.L.Link.view c.play_as.new.link) c.play_as.result c.in-Some.ensures (c.play_as.ensures.fails c.args.nonce.now)
+
+pub returns-clause-none_kept_back : goal.returns-clause-none_kept_back
+returns-clause-none_kept_back g c = asks_all c.args.config.now c.in-Some.user.now c.args.nonce.now c.args.scripts.now c.args.turns.now c.args.max_bytes
+    (g.L.Link.view c.args.link.now) (g.L.Link.view c.play_as.new.link) c.play_as.result c.in-Some.ensures c.play_as.ensures.calm (c.play_as.ensures.fails c.args.nonce.now)

@@ -13,4 +13,4 @@ returns-in-Ok-behind_poll-clause-made c =
     c.in-Ok-behind_poll.ensures.unanswered
     (ap (λ (x : Play). x.asynchronous) c.behind_poll.ensures.same)
     (ap (λ (x : Play). x.trace) c.behind_poll.ensures.same)
-    c.mark.ensures.same c.mark.ensures.trace
+    c.mark.ensures.same c.in-Ok-behind_poll.moved c.in-Ok-behind_poll.ensures.moved c.mark.ensures.moved c.mark.ensures.trace

@@ -1,8 +1,10 @@
-use Rattle.std.proofs.Common.{map, length, ap, ◌∙◌, subst}
+use Rattle.std.proofs.Common.{◌≤◌, map, length, ap, sym, ◌∙◌, subst}
 use Rattle.pg_session.specs.States.{commands_in}
 use Rattle.pg_session.specs.Turns.{Closes}
 use Rattle.pg_tool.specs.declared.play.Play.{Play}
 use Rattle.pg_tool.specs.Handles.{view_of}
+use Rattle.pg_session.proofs.Nearer.{new-under-way}
+use Rattle.pg_tool.specs.Plays.{state_of}
 use Rattle.pg_tool.proofs.Made.{idle_views}
 use Rattle.pg_tool.proofs.play.Play.new.Goals as goal
 
@@ -20,3 +22,9 @@ returns-in-Ok-close_if_answered-clause-fresh c =
       trace = ap (λ (p : Play). p.trace.items) same ∙ c.new-2.ensures.items;
       asynchronous = ap (λ (p : Play). p.asynchronous.items) same ∙ c.new-3.ensures.items;
     }
+
+pub returns-in-Ok-close_if_answered-clause-going : goal.returns-in-Ok-close_if_answered-clause-going
+returns-in-Ok-close_if_answered-clause-going c = record {
+  under_way = new-under-way c.args.scripts.now (state_of c.close_if_answered.new.self) (returns-in-Ok-close_if_answered-clause-fresh c);
+  within = subst (λ (p : Play). p.streams.given ≤ p.streams.max_bytes) (sym c.close_if_answered.ensures.same) c.requires.within;
+}

@@ -1,9 +1,12 @@
-use Rattle.std.proofs.Common.{◌≤◌, length, ap, arith}
+use Rattle.std.proofs.Common.{◌≤◌, length, refl, ap, ◌∙◌, arith}
+use Rattle.pg_session.proofs.Nearer.{nearer-joined}
+use Rattle.pg_session.proofs.Order.{makes_none, rests_none}
 use Rattle.pg_session.specs.Sessions.{numbers}
 use Rattle.pg_tool.specs.Plays.{state_of}
-use Rattle.pg_tool.proofs.Chaining.{round_more}
+use Rattle.pg_connect.proofs.Calm.{calm_same, calm_then}
+use Rattle.pg_tool.proofs.Chaining.{round_more, stays_more}
 use Rattle.pg_tool.proofs.Failing.{round_fails}
-use Rattle.pg_tool.proofs.Following.{continues_then}
+use Rattle.pg_tool.proofs.Following.{continues_same, continues_then}
 use Rattle.pg_tool.proofs.play.Play.round.Goals as goal
 
 pub returns-in-Ok-None-clause-made : goal.returns-in-Ok-None-clause-made
@@ -23,15 +26,61 @@ pub returns-in-Ok-None-clause-link : goal.returns-in-Ok-None-clause-link
 returns-in-Ok-None-clause-link g c =
     continues_then (g.L.Link.view c.args.link.now) (g.L.Link.view c.turns.link) (g.L.Link.view c.turn.new.link) c.turns.invariant.link c.turn.ensures.link
 
+pub returns-in-Ok-None-clause-limited : goal.returns-in-Ok-None-clause-limited
+returns-in-Ok-None-clause-limited g c = (c.in-Ok-None.ensures.limited.0, c.in-Ok-None.ensures.limited.1 ∙ c.turns.invariant.limited)
+
+pub returns-clause-limited : goal.returns-clause-limited
+returns-clause-limited g c = (c.turns.invariant.going.within, c.turns.invariant.limited)
+
+pub turns-init : goal.turns-init
+turns-init g c =
+    let l = g.L.Link.view c.args.link.now in
+    record {
+      ready = c.requires.ready;
+      made = makes_none c.args.scripts.now (state_of c.args.self.now) l l (rests_none l);
+      stays = λ none. (refl, refl);
+      going = c.requires.going;
+      limited = refl;
+      nearer = omega arith;
+      link = continues_same l;
+      calm = calm_same l;
+    }
+
 pub turns-preserved : goal.turns-preserved
-turns-preserved g c = record {
-  ready = c.turn.ensures.ready;
-  made = round_more c.args.scripts.now c.turns.turn (state_of c.args.self.now) (g.L.Link.view c.args.link.now) (state_of c.turns.self) (g.L.Link.view c.turns.link)
-      (state_of c.turn.new.self) (g.L.Link.view c.turn.new.link) c.turns.invariant.made (rw c.in-Ok-Some.field-0-is at c.in-Ok-Some.ensures.made);
-  link = continues_then (g.L.Link.view c.args.link.now) (g.L.Link.view c.turns.link) (g.L.Link.view c.turn.new.link) c.turns.invariant.link c.turn.ensures.link;
-}
+turns-preserved g c =
+    let scripts = c.args.scripts.now in
+    let s = state_of c.args.self.now in
+    let mid = state_of c.turns.self in
+    let t = state_of c.turn.new.self in
+    let l = g.L.Link.view c.args.link.now in
+    let k = g.L.Link.view c.turns.link in
+    let m = g.L.Link.view c.turn.new.link in
+    let was = c.turns.invariant in
+    let now = rw c.in-Ok-Some.field-0-is at c.in-Ok-Some.ensures.made in
+    record {
+      ready = c.turn.ensures.ready;
+      made = round_more scripts c.turns.turn s l mid k t m was.made now.0;
+      stays = stays_more scripts c.turns.turn c.turns.moved c.in-Ok-Some.more s l mid k t m was.stays now;
+      going = rw c.in-Ok-Some.field-0-is at c.in-Ok-Some.ensures.going;
+      limited = c.in-Ok-Some.ensures.limited.1 ∙ was.limited;
+      nearer = nearer-joined scripts c.turns.moved c.in-Ok-Some.more s mid t was.nearer (rw c.in-Ok-Some.field-0-is at c.in-Ok-Some.ensures.nearer);
+      link = continues_then l k m was.link c.turn.ensures.link;
+      calm = calm_then l k m was.calm c.turn.ensures.calm;
+    }
 
 pub returns-in-Err-clause-fails : goal.returns-in-Err-clause-fails
 returns-in-Err-clause-fails g c =
     round_fails c.args.scripts.now (numbers c.turns.turn) (state_of c.args.self.now) (g.L.Link.view c.args.link.now) (state_of c.turns.self) (g.L.Link.view c.turns.link)
     (g.L.Link.view c.turn.new.link) c.in-Err.error c.turns.invariant.made c.in-Err.ensures.fails
+
+pub returns-in-Err-clause-link : goal.returns-in-Err-clause-link
+returns-in-Err-clause-link g c =
+    continues_then (g.L.Link.view c.args.link.now) (g.L.Link.view c.turns.link) (g.L.Link.view c.turn.new.link) c.turns.invariant.link c.turn.ensures.link
+
+pub returns-in-Ok-None-clause-calm : goal.returns-in-Ok-None-clause-calm
+returns-in-Ok-None-clause-calm g c =
+    calm_then (g.L.Link.view c.args.link.now) (g.L.Link.view c.turns.link) (g.L.Link.view c.turn.new.link) c.turns.invariant.calm c.turn.ensures.calm
+
+pub returns-in-Err-clause-calm : goal.returns-in-Err-clause-calm
+returns-in-Err-clause-calm g c =
+    calm_then (g.L.Link.view c.args.link.now) (g.L.Link.view c.turns.link) (g.L.Link.view c.turn.new.link) c.turns.invariant.calm c.turn.ensures.calm

@@ -1,8 +1,11 @@
-use Rattle.std.proofs.Common.{◌<◌, ◌≤◌, length, take, refl, arith}
+use Rattle.std.proofs.Common.{◌<◌, ◌≤◌, length, take, refl, ◌∙◌, arith}
 use Rattle.pg_tool.specs.Plays.{state_of}
+use Rattle.pg_connect.proofs.Calm.{calm_then}
+use Rattle.pg_tool.proofs.Calming.{calm_map}
 use Rattle.pg_tool.proofs.Chaining.{given_more, plays_given, plays_after}
 use Rattle.pg_tool.proofs.Failing.{given_fails, run_fails}
 use Rattle.pg_tool.proofs.Following.{continues_then}
+use Rattle.pg_tool.proofs.Going.{limited_then}
 use Rattle.pg_tool.proofs.play.Play.run.Goals as goal
 
 pub returns-in-Ok-None-clause-plays : goal.returns-in-Ok-None-clause-plays
@@ -20,9 +23,12 @@ turns-preserved g c =
     let within : c.turns.turn-index < length c.args.turns.now = omega arith in
     record {
       ready = c.turn.ensures.ready;
+      going = rw c.in-Ok-Some.field-0-is at c.in-Ok-Some.ensures.going;
+      limited = c.in-Ok-Some.ensures.limited.1 ∙ c.turns.invariant.limited;
       made = given_more c.args.scripts.now c.args.turns.now c.turns.turn-index _ 0 (state_of c.args.self.now) (g.L.Link.view c.args.link.now) (state_of c.turns.self) (g.L.Link.view c.turns.link)
-          (state_of c.turn.new.self) (g.L.Link.view c.turn.new.link) within refl c.turns.invariant.made (rw c.in-Ok-Some.field-0-is at c.in-Ok-Some.ensures.made);
+          (state_of c.turn.new.self) (g.L.Link.view c.turn.new.link) within refl c.turns.invariant.made (rw c.in-Ok-Some.field-0-is at c.in-Ok-Some.ensures.made).0;
       link = continues_then (g.L.Link.view c.args.link.now) (g.L.Link.view c.turns.link) (g.L.Link.view c.turn.new.link) c.turns.invariant.link c.turn.ensures.link;
+      calm = calm_then (g.L.Link.view c.args.link.now) (g.L.Link.view c.turns.link) (g.L.Link.view c.turn.new.link) c.turns.invariant.calm c.turn.ensures.calm;
     }
 
 pub returns-clause-plays : goal.returns-clause-plays
@@ -43,4 +49,22 @@ returns-in-Err-clause-fails g c =
 pub returns-clause-fails : goal.returns-clause-fails
 returns-clause-fails g c =
     run_fails c.args.scripts.now (take c.turns.turn-index c.args.turns.now) (state_of c.args.self.now) (g.L.Link.view c.args.link.now) (state_of c.turns.self) (g.L.Link.view c.turns.link)
-    (g.L.Link.view c.rounds.new.link) c.rounds.result c.turns.invariant.made c.turns.invariant.link.keeps.counts.quiet c.rounds.ensures.fails
+    (g.L.Link.view c.rounds.new.link) c.rounds.result c.turns.invariant.made c.rounds.ensures.fails
+
+pub returns-in-Ok-None-clause-limited : goal.returns-in-Ok-None-clause-limited
+returns-in-Ok-None-clause-limited g c = (c.in-Ok-None.ensures.limited.0, c.in-Ok-None.ensures.limited.1 ∙ c.turns.invariant.limited)
+
+pub returns-clause-limited : goal.returns-clause-limited
+returns-clause-limited g c = limited_then c.args.self.now c.turns.self c.rounds.new.self c.rounds.result c.turns.invariant.limited c.rounds.ensures.limited
+
+pub returns-in-Err-clause-link : goal.returns-in-Err-clause-link
+returns-in-Err-clause-link g c =
+    continues_then (g.L.Link.view c.args.link.now) (g.L.Link.view c.turns.link) (g.L.Link.view c.turn.new.link) c.turns.invariant.link c.turn.ensures.link
+
+pub returns-in-Ok-None-clause-calm : goal.returns-in-Ok-None-clause-calm
+returns-in-Ok-None-clause-calm g c =
+    calm_then (g.L.Link.view c.args.link.now) (g.L.Link.view c.turns.link) (g.L.Link.view c.turn.new.link) c.turns.invariant.calm c.turn.ensures.calm
+
+pub returns-clause-calm : goal.returns-clause-calm
+returns-clause-calm g c =
+    calm_map c.rounds.result (g.L.Link.view c.args.link.now) (g.L.Link.view c.turns.link) (g.L.Link.view c.rounds.new.link) c.turns.invariant.calm c.rounds.ensures.calm

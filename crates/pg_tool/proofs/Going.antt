@@ -1,0 +1,102 @@
+-- A session goes on, and each turn and round leaves less to do where something moved.
+use Rattle.std.proofs.Common.{◌≡◌, ◌≤◌, ◌||◌, ℕ, Bool, true, false, List, Option, Some, None, Result, Ok, Err, IfOk, OnOk, inl, inr, refl, sym, ap, subst, ◌∙◌}
+use Rattle.std.specs.Prelude.{IfSome, is_some}
+use Rattle.futures.specs.declared.task.Poll.{Poll}
+use Rattle.futures.specs.declared.task.Poll.TheVariants.{Ready, Pending}
+use Rattle.pg_spec.specs.Links.{LinkView}
+use Rattle.pg_connect.specs.Answers.{IsWithinPoll, PollAnswers}
+use Rattle.pg_connect.specs.declared.streams.Streams.{Streams}
+use Rattle.pg_errors.specs.declared.async_message.AsyncMessage.{AsyncMessage}
+use Rattle.pg_errors.specs.declared.error.Error.{Error}
+use Rattle.pg_hub.specs.Fits.{HubBecomes}
+use Rattle.pg_hub.specs.Standing.{Standing}
+use Rattle.pg_text.specs.declared.command.Command.{Command}
+use Rattle.pg_session.specs.Measure.{IsNearer}
+use Rattle.pg_session.specs.States.{SessionState}
+use Rattle.pg_session.specs.Turns.{HandsOn, Makes, Turns}
+use Rattle.pg_session.proofs.Nearer.{answered-nearer}
+use Rattle.pg_tool.specs.declared.play.Play.{Play}
+use Rattle.pg_tool.specs.Plays.{ConnectionPolled, HandlePolled, IsGoing, IsLimited, is_over, state_of}
+
+first_false : (a b : Bool) → (a || b) ≡ false → a ≡ false
+first_false true b e = absurd cc
+first_false false b e = refl
+
+-- a poll behind which the connection isn't over left it open
+left_so : (a b : Standing) (old new : Streams) (l m : LinkView) (answer : Poll (Option (Result AsyncMessage Error))) (was now : List AsyncMessage) →
+    PollAnswers HubBecomes a b old new l m answer → HandsOn answer was now false → new.ended ≡ false
+left_so a b old new l m Pending was now p hands = first_false new.ended new.at_end (first_false _ (is_some new.unread) p.stands)
+left_so a b old new l m (Ready None) was now p hands = absurd (let no : false ≡ true = hands.1 in cc)
+left_so a b old new l m (Ready (Some (Ok message))) was now p hands = first_false new.ended new.at_end (first_false _ (is_some new.unread) p.stands)
+left_so a b old new l m (Ready (Some (Err e))) was now p hands = absurd hands
+
+-- the link gave no more than it may, up to the end of a turn that ends nothing
+within_so : (scripts : List (List Command)) (turn : ℕ) (s t : SessionState) (l m : LinkView) → Makes scripts turn s t l m false → s.streams.given ≤ s.streams.max_bytes →
+    (t.streams.ended ≡ false → t.streams.given ≤ t.streams.max_bytes) → t.streams.given ≤ t.streams.max_bytes
+within_so scripts turn s t l m (inl handle) was open_ = subst (λ (x : Streams). x.given ≤ x.max_bytes) (sym handle.made.streams) was
+within_so scripts turn s t l m (inr connection) was open_ =
+    let made = connection.made in open_ (left_so s.hub t.hub s.streams t.streams l m made.answer s.asynchronous t.asynchronous made.polled made.hands)
+
+-- the session goes on, and less is left to do where something moved
+pub record GoesOn (scripts : List (List Command)) (p u : Play) (moved : Bool) : Type 0 where
+  pub going : IsGoing u
+  pub nearer : IsNearer scripts moved (state_of p) (state_of u)
+
+goes_so : (scripts : List (List Command)) (turn : ℕ) (p u : Play) (l m : LinkView) (moved : Option Bool) → IsGoing p →
+    (u.streams.ended ≡ false → u.streams.given ≤ u.streams.max_bytes) → Turns scripts turn (state_of p) (state_of u) l m moved → IfSome moved (GoesOn scripts p u)
+goes_so scripts turn p u l m None going within turns = tt
+goes_so scripts turn p u l m (Some moved) going within turns =
+    let limited = within_so scripts turn (state_of p) (state_of u) l m turns.0 going.within within in
+    let so = answered-nearer scripts turn (state_of p) (state_of u) l m moved turns going.under_way limited in
+    record { going = record { under_way = so.under_way; within = limited }; nearer = so.nearer }
+
+-- the same by what the turn answered
+pub turn_goes : (scripts : List (List Command)) (turn : ℕ) (p u : Play) (l m : LinkView) (r : Result (Option Bool) Error) → IsGoing p →
+    (u.streams.ended ≡ false → u.streams.given ≤ u.streams.max_bytes) → IfOk r (Turns scripts turn (state_of p) (state_of u) l m) → IfOk r (λ moved. IfSome moved (GoesOn scripts p u))
+turn_goes scripts turn p u l m (Err e) going within turns = tt
+turn_goes scripts turn p u l m (Ok moved) going within turns = goes_so scripts turn p u l m moved going within turns
+
+-- its two parts
+pub then_going : (scripts : List (List Command)) (p u : Play) (r : Result (Option Bool) Error) → IfOk r (λ moved. IfSome moved (GoesOn scripts p u)) → IfOk r (λ moved. IfSome moved (λ m. IsGoing u))
+then_going scripts p u (Err e) goes = tt
+then_going scripts p u (Ok None) goes = tt
+then_going scripts p u (Ok (Some moved)) goes = goes.going
+
+pub then_nearer : (scripts : List (List Command)) (p u : Play) (r : Result (Option Bool) Error) → IfOk r (λ moved. IfSome moved (GoesOn scripts p u)) →
+    IfOk r (λ moved. IfSome moved (λ m. IsNearer scripts m (state_of p) (state_of u)))
+then_nearer scripts p u (Err e) goes = tt
+then_nearer scripts p u (Ok None) goes = tt
+then_nearer scripts p u (Ok (Some moved)) goes = goes.nearer
+
+-- ---- the limit
+
+-- a poll that didn't fail gave no more than it may
+kept_so : (a b : Standing) (old new : Streams) (l m : LinkView) (answer : Poll (Option (Result AsyncMessage Error))) (was now : List AsyncMessage) (over : Bool) →
+    PollAnswers HubBecomes a b old new l m answer → HandsOn answer was now over → (old.ended ≡ false → IsWithinPoll new answer) → new.given ≤ new.max_bytes
+kept_so a b old new l m Pending was now over p hands kept = kept (first_false old.ended old.at_end (first_false _ (is_some old.unread) p.was_open))
+kept_so a b old new l m (Ready None) was now over p hands kept = kept (first_false old.ended old.at_end (first_false _ (is_some old.unread) p.was_open))
+kept_so a b old new l m (Ready (Some (Ok message))) was now over p hands kept = kept (first_false old.ended old.at_end (first_false _ (is_some old.unread) p.was_open))
+kept_so a b old new l m (Ready (Some (Err e))) was now over p hands kept = absurd hands
+
+-- a connection's turn
+pub connection_limited : (p q u : Play) (l m : LinkView) (moved : Option Bool) (r : Result (Option Bool) Error) → ConnectionPolled (state_of p) (state_of q) l m moved →
+    q.streams.max_bytes ≡ p.streams.max_bytes → u ≡ record q { trace = u.trace } → IfOk r (λ x. IsLimited p u)
+connection_limited p q u l m moved (Err e) polled limit same = tt
+connection_limited p q u l m moved (Ok x) polled limit same =
+    subst (λ (y : Play). IsLimited p y) (sym same)
+    (kept_so p.hub q.hub p.streams q.streams l m polled.answer p.asynchronous.items q.asynchronous.items (is_over moved) polled.polled polled.hands polled.kept, limit)
+
+handle_so : (scripts : List (List Command)) (turn : ℕ) (p u : Play) (moved : Option Bool) → IsGoing p → HandlePolled scripts turn (state_of p) (state_of u) moved → IsLimited p u
+handle_so scripts turn p u moved going polled =
+    (subst (λ (x : Streams). x.given ≤ x.max_bytes) (sym polled.made.streams) going.within, ap (λ (x : Streams). x.max_bytes) polled.made.streams)
+
+-- a handle's turn
+pub handle_limited : (scripts : List (List Command)) (turn : ℕ) (p u : Play) (r : Result (Option Bool) Error) → IsGoing p → IfOk r (HandlePolled scripts turn (state_of p) (state_of u)) →
+    IfOk r (λ x. IsLimited p u)
+handle_limited scripts turn p u (Err e) going polled = tt
+handle_limited scripts turn p u (Ok moved) going polled = handle_so scripts turn p u moved going polled
+
+-- behind others under the same limit
+pub limited_then : (p q u : Play) (r : Result (Unit {0}) Error) → q.streams.max_bytes ≡ p.streams.max_bytes → OnOk r (IsLimited q u) → OnOk r (IsLimited p u)
+limited_then p q u (Err e) same limited = tt
+limited_then p q u (Ok x) same limited = (limited.0, limited.1 ∙ same)

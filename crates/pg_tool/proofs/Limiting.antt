@@ -1,0 +1,99 @@
+-- More bytes than the limit are given only where a session fails for that.
+use Rattle.std.proofs.Common.{◌≡◌, ◌<◌, ◌≤◌, ℕ, List, length, Option, Some, None, Result, Ok, Err, IfOk, IfErr, inl, inr, sym, ap, subst, ◌∙◌, arith}
+use Rattle.std.specs.Prelude.{IfSome}
+use Rattle.pg_spec.specs.Causes.{Call, HasCause, Unless}
+use Rattle.pg_spec.specs.ConnectionStrings.{Means, only_user}
+use Rattle.pg_spec.specs.Faults.{LimitReached}
+use Rattle.pg_spec.specs.Links.{LinkView, OfBytes, added}
+use Rattle.pg_spec.specs.Report as told
+use Rattle.pg_errors.specs.Views.{failure_of}
+use Rattle.pg_errors.specs.declared.error.Error.{Error}
+use Rattle.pg_errors.specs.declared.error.Error.TheVariants as error
+use Rattle.pg_connect.specs.declared.startup.Startup.{Startup}
+use Rattle.pg_session.proofs.Caused.{broken-limit}
+use Rattle.pg_session.proofs.LimitsKept.{HoldsLimit, holds-ended, holds-failed, holds-stopped, holds-untouched}
+use Rattle.pg_text.specs.declared.command.Command.{Command}
+use Rattle.pg_text.specs.declared.report.Report.{Report}
+use Rattle.pg_tool.specs.Asked.{call_of}
+use Rattle.pg_tool.specs.Fails.{PlaysWithin, SessionFails}
+use Rattle.pg_tool.specs.Openings.{OpenEnds}
+use Rattle.pg_tool.specs.SessionContract.{KeepsLimit, SessionResult, result_of}
+
+-- what follows of told bytes
+map_some : {X : Type 0} (o : Option X) (P Q : X → Type 0) → ((x : X) → P x → Q x) → IfSome o P → IfSome o Q
+map_some None P Q f p = tt
+map_some (Some x) P Q f p = f x p
+
+map_bytes : (a b : LinkView) (P Q : List ℕ → List ℕ → Type 0) → ((g t : List ℕ) → P g t → Q g t) → OfBytes a b P → OfBytes a b Q
+map_bytes a b P Q f p =
+    map_some (added a.given b.given) (λ g. IfSome (added a.taken b.taken) (λ t. P g t)) (λ g. IfSome (added a.taken b.taken) (λ t. Q g t))
+    (λ g. map_some (added a.taken b.taken) (λ t. P g t) (λ t. Q g t) (f g)) p
+
+any_bytes : (a b : LinkView) (Q : List ℕ → List ℕ → Type 0) → ((g t : List ℕ) → Q g t) → OfBytes a b Q
+any_bytes a b Q f = by (added a.given b.given)
+  where
+    all : (g : List ℕ) (o : Option (List ℕ)) → IfSome o (λ t. Q g t)
+    all g None = tt
+    all g (Some t) = f g t
+
+    by : (o : Option (List ℕ)) → IfSome o (λ g. IfSome (added a.taken b.taken) (λ t. Q g t))
+    by None = tt
+    by (Some g) = all g (added a.taken b.taken)
+
+-- no more were given
+within_so : (call : Call) (r : SessionResult) → OfBytes call.before call.after (λ g t. length g ≤ call.limit) → KeepsLimit call r
+within_so call r within =
+    map_bytes call.before call.after (λ g t. length g ≤ call.limit) (λ g t. call.limit < length g → Unless {R = told.Report} (λ failure. failure ≡ LimitReached (length g) call.limit) r)
+    (λ g t less more. absurd (omega (arith, less, more))) within
+
+failed_so : (call : Call) (e : Error) → HoldsLimit call e → HasCause call (failure_of e) → KeepsLimit call (Err (failure_of e))
+failed_so call (error.LimitReached given limit) holds cause =
+    map_bytes call.before call.after (λ g t. length g ≡ given) (λ g t. call.limit < length g → Unless {R = told.Report} (λ failure. failure ≡ LimitReached (length g) call.limit) (Err (LimitReached given limit)))
+    (λ g t count more. ap (λ (n : ℕ). LimitReached n limit) (sym count) ∙ ap (λ (n : ℕ). LimitReached (length g) n) cause.asked) cause.counted
+failed_so call error.OutOfMemory holds cause =
+    any_bytes call.before call.after (λ g t. call.limit < length g → Unless {R = told.Report} (λ failure. failure ≡ LimitReached (length g) call.limit) (Err (failure_of error.OutOfMemory))) (λ g t more. tt)
+failed_so call (error.Io c) holds cause = within_so call (Err (failure_of (error.Io c))) holds
+failed_so call error.UnexpectedMessage holds cause = within_so call (Err (failure_of error.UnexpectedMessage)) holds
+failed_so call (error.Tls c) holds cause = within_so call (Err (failure_of (error.Tls c))) holds
+failed_so call error.Closed holds cause = within_so call (Err (failure_of error.Closed)) holds
+failed_so call (error.Db fields) holds cause = within_so call (Err (failure_of (error.Db fields))) holds
+failed_so call (error.Parse c) holds cause = within_so call (Err (failure_of (error.Parse c))) holds
+failed_so call (error.Encode c) holds cause = within_so call (Err (failure_of (error.Encode c))) holds
+failed_so call (error.Authentication c) holds cause = within_so call (Err (failure_of (error.Authentication c))) holds
+failed_so call (error.ConfigParse c) holds cause = within_so call (Err (failure_of (error.ConfigParse c))) holds
+failed_so call (error.Config c) holds cause = within_so call (Err (failure_of (error.Config c))) holds
+failed_so call (error.Stalled before after) holds cause = within_so call (Err (failure_of (error.Stalled before after))) holds
+
+-- by what a session answered
+pub keeps_limit : (call : Call) (r : Result Report Error) → IfOk r (λ report. OfBytes call.before call.after (λ g t. length g ≤ call.limit)) → IfErr r (HoldsLimit call) →
+    IfErr r (λ e. HasCause call (failure_of e)) → KeepsLimit call (result_of r)
+keeps_limit call (Ok report) ended holds causes = within_so call (result_of (Ok report)) ended
+keeps_limit call (Err e) ended holds causes = failed_so call e holds causes
+
+-- ---- a session that ended well
+
+pub ended_within : (user nonce : List ℕ) (scripts : List (List Command)) (given : List ℕ) (limit : ℕ) (before after : LinkView) (r : Result Report Error) →
+    IfOk r (PlaysWithin user nonce scripts given limit before after) → IfOk r (λ report. OfBytes before after (λ g t. length g ≤ limit))
+ended_within user nonce scripts given limit before after (Err e) played = tt
+ended_within user nonce scripts given limit before after (Ok report) played = holds-ended user nonce scripts given before after report limit played.0 played.1
+
+-- ---- a session that failed
+
+start_holds : (call : Call) (user : List ℕ) (s : Startup) (e : Error) → s.max_bytes ≡ call.limit → OpenEnds user call.nonce call.before call.after s (Err e) → HoldsLimit call e
+start_holds call user s (error.Stalled before after) limit ends = holds-stopped call user s before after limit ends
+start_holds call user s _ limit ends = holds-failed call user s _ limit ends
+
+holds_by : (config user nonce : List ℕ) (scripts : List (List Command)) (turns : List ℕ) (limit : ℕ) (before after : LinkView) (e : Error) → Means config (only_user user) →
+    SessionFails user nonce scripts limit before after e → HoldsLimit (call_of config nonce scripts turns limit before after) e
+holds_by config user nonce scripts turns limit before after e means (inl lacks) =
+    subst (λ (x : Error). HoldsLimit (call_of config nonce scripts turns limit before after) x) (sym lacks.memory) tt
+holds_by config user nonce scripts turns limit before after e means (inr (inl made)) = holds-untouched (call_of config nonce scripts turns limit before after) e made.1
+holds_by config user nonce scripts turns limit before after e means (inr (inr (inl start))) =
+    start_holds (call_of config nonce scripts turns limit before after) user start.startup e start.limited start.ends
+holds_by config user nonce scripts turns limit before after e means (inr (inr (inr later))) =
+    broken-limit (call_of config nonce scripts turns limit before after) user scripts e means later.broken later.limited
+
+pub holds_all : (config user nonce : List ℕ) (scripts : List (List Command)) (turns : List ℕ) (limit : ℕ) (before after : LinkView) (r : Result Report Error) → Means config (only_user user) →
+    IfErr r (SessionFails user nonce scripts limit before after) → IfErr r (HoldsLimit (call_of config nonce scripts turns limit before after))
+holds_all config user nonce scripts turns limit before after (Ok report) means fails = tt
+holds_all config user nonce scripts turns limit before after (Err e) means fails = holds_by config user nonce scripts turns limit before after e means fails

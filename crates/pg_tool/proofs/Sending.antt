@@ -1,0 +1,91 @@
+-- What was sent where a session failed.
+use Rattle.std.proofs.Common.{◌≡◌, ℕ, List, IfErr, Result, Ok, Err, inl, inr, refl}
+use Rattle.std.specs.Prelude.{OnOk}
+use Rattle.pg_spec.specs.Causes.{Call, OfDialogue}
+use Rattle.pg_spec.specs.ConnectionStrings.{Means, only_user}
+use Rattle.pg_spec.specs.Links.{LinkView}
+use Rattle.pg_spec.specs.Promises.{NoneKeptBack, SentInOrder}
+use Rattle.pg_connect.specs.Calm.{StaysCalm}
+use Rattle.pg_connect.specs.declared.startup.Startup.{Startup}
+use Rattle.pg_errors.specs.Views.{failure_of}
+use Rattle.pg_errors.specs.declared.error.Error.{Error}
+use Rattle.pg_errors.specs.declared.error.Error.TheVariants as error
+use Rattle.pg_session.proofs.Caused.{broken-kept, broken-sent}
+use Rattle.pg_session.proofs.NoneKept.{stopped-kept}
+use Rattle.pg_session.proofs.SentSoFar.{sent-failed, sent-opened, sent-over, sent-stopped, sent-untouched}
+use Rattle.pg_text.specs.declared.command.Command.{Command}
+use Rattle.pg_text.specs.declared.report.Report.{Report}
+use Rattle.pg_tool.specs.Asked.{call_of}
+use Rattle.pg_tool.specs.Fails.{SessionFails}
+use Rattle.pg_tool.specs.Openings.{OpenEnds}
+use Rattle.pg_tool.specs.SessionContract.{SendsInOrder, result_of}
+
+-- what was sent is in order
+abbrev IsInOrder : Call → Type 0
+IsInOrder call = OfDialogue call (λ s g t. SentInOrder call s g t)
+
+sent_then : (call : Call) (e : Error) → IsInOrder call → SendsInOrder call (Err (failure_of e))
+sent_then call (error.Io cause) sent = λ w. sent
+sent_then call error.UnexpectedMessage sent = λ w. sent
+sent_then call (error.Tls cause) sent = λ w. sent
+sent_then call error.Closed sent = λ w. sent
+sent_then call (error.Db fields) sent = λ w. sent
+sent_then call (error.Parse cause) sent = λ w. sent
+sent_then call (error.Encode cause) sent = λ w. sent
+sent_then call (error.Authentication cause) sent = λ w. sent
+sent_then call (error.ConfigParse cause) sent = λ w. sent
+sent_then call (error.Config cause) sent = λ w. sent
+sent_then call (error.Stalled before after) sent = λ w. sent
+sent_then call (error.LimitReached given limit) sent = λ w. sent
+sent_then call error.OutOfMemory sent = λ w. sent
+
+start_sent : (call : Call) (user : List ℕ) (s : Startup) (e : Error) → Means call.config (only_user user) → OpenEnds user call.nonce call.before call.after s (Err e) → IsInOrder call
+start_sent call user s (error.Stalled a b) means ends = sent-stopped call user s a b means ends
+start_sent call user s _ means ends = sent-failed call user s _ means ends
+
+sent_by : (config user nonce : List ℕ) (scripts : List (List Command)) (turns : List ℕ) (limit : ℕ) (before after : LinkView) (e : Error) → Means config (only_user user) →
+    SessionFails user nonce scripts limit before after e → IsInOrder (call_of config nonce scripts turns limit before after)
+sent_by config user nonce scripts turns limit before after e means (inl lacks) = elim lacks.crossed [
+  | inl opened ↦ sent-opened (call_of config nonce scripts turns limit before after) user means opened
+  | inr over ↦ sent-over (call_of config nonce scripts turns limit before after) user scripts means refl over
+]
+sent_by config user nonce scripts turns limit before after e means (inr (inl made)) = sent-untouched (call_of config nonce scripts turns limit before after) user means made.1
+sent_by config user nonce scripts turns limit before after e means (inr (inr (inl start))) =
+    start_sent (call_of config nonce scripts turns limit before after) user start.startup e means start.ends
+sent_by config user nonce scripts turns limit before after e means (inr (inr (inr later))) =
+    broken-sent (call_of config nonce scripts turns limit before after) user scripts e means later.broken later.limited refl
+
+-- by what a session answered
+pub sends_all : (config user nonce : List ℕ) (scripts : List (List Command)) (turns : List ℕ) (limit : ℕ) (before after : LinkView) (r : Result Report Error) → Means config (only_user user) →
+    IfErr r (SessionFails user nonce scripts limit before after) → SendsInOrder (call_of config nonce scripts turns limit before after) (result_of r)
+sends_all config user nonce scripts turns limit before after (Ok report) means fails = tt
+sends_all config user nonce scripts turns limit before after (Err e) means fails =
+    sent_then (call_of config nonce scripts turns limit before after) e (sent_by config user nonce scripts turns limit before after e means fails)
+
+-- ---- where it ended well or stalled
+
+asks_by : (config user nonce : List ℕ) (scripts : List (List Command)) (turns : List ℕ) (limit : ℕ) (before after : LinkView) (e : Error) → Means config (only_user user) →
+    SessionFails user nonce scripts limit before after e → NoneKeptBack (call_of config nonce scripts turns limit before after) (Err (failure_of e))
+asks_by config user nonce scripts turns limit before after (error.Stalled a b) means (inl lacks) = absurd (let no : error.Stalled a b ≡ error.OutOfMemory = lacks.memory in cc)
+asks_by config user nonce scripts turns limit before after (error.Stalled a b) means (inr (inl made)) = absurd made.0
+asks_by config user nonce scripts turns limit before after (error.Stalled a b) means (inr (inr (inl start))) =
+    stopped-kept (call_of config nonce scripts turns limit before after) user start.startup a b means start.ends
+asks_by config user nonce scripts turns limit before after (error.Stalled a b) means (inr (inr (inr later))) =
+    broken-kept (call_of config nonce scripts turns limit before after) user scripts (error.Stalled a b) means later.broken later.limited a b refl refl
+asks_by config user nonce scripts turns limit before after (error.Io cause) means fails = tt
+asks_by config user nonce scripts turns limit before after error.UnexpectedMessage means fails = tt
+asks_by config user nonce scripts turns limit before after (error.Tls cause) means fails = tt
+asks_by config user nonce scripts turns limit before after error.Closed means fails = tt
+asks_by config user nonce scripts turns limit before after (error.Db fields) means fails = tt
+asks_by config user nonce scripts turns limit before after (error.Parse cause) means fails = tt
+asks_by config user nonce scripts turns limit before after (error.Encode cause) means fails = tt
+asks_by config user nonce scripts turns limit before after (error.Authentication cause) means fails = tt
+asks_by config user nonce scripts turns limit before after (error.ConfigParse cause) means fails = tt
+asks_by config user nonce scripts turns limit before after (error.Config cause) means fails = tt
+asks_by config user nonce scripts turns limit before after (error.LimitReached given most) means fails = tt
+asks_by config user nonce scripts turns limit before after error.OutOfMemory means fails = tt
+
+pub asks_all : (config user nonce : List ℕ) (scripts : List (List Command)) (turns : List ℕ) (limit : ℕ) (before after : LinkView) (r : Result Report Error) → Means config (only_user user) →
+    OnOk r (StaysCalm before after) → IfErr r (SessionFails user nonce scripts limit before after) → NoneKeptBack (call_of config nonce scripts turns limit before after) (result_of r)
+asks_all config user nonce scripts turns limit before after (Ok report) means calm fails = calm.no_lull
+asks_all config user nonce scripts turns limit before after (Err e) means calm fails = asks_by config user nonce scripts turns limit before after e means fails
