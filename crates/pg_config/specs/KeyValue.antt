@@ -14,11 +14,12 @@ use Rattle.pg_config.specs.Settings.{defaults}
 abbrev pub is_key_character : ℕ → Bool
 is_key_character c = not (is_whitespace c) && not (c == byte "=")
 
--- the longest front of such characters, and what stands behind it
+-- the longest front whose characters all meet p
 abbrev pub front_while : (ℕ → Bool) → List ℕ → List ℕ
 front_while p [] = []
 front_while p (c ∷ rest) = if p c then c ∷ front_while p rest else []
 
+-- what stands behind that front
 abbrev pub behind_while : (ℕ → Bool) → List ℕ → List ℕ
 behind_while p [] = []
 behind_while p (c ∷ rest) = if p c then behind_while p rest else c ∷ rest

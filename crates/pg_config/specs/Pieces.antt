@@ -12,11 +12,12 @@ abbrev pub IsCut : (mark : ℕ) (text front : List ℕ) (behind : Option (List �
 IsCut mark text front None = Lacks mark front × (text ≡ front)
 IsCut mark text front (Some rest) = Lacks mark front × (text ≡ front ++ mark ∷ rest)
 
--- the same as functions
+-- what stands before the first mark, or the whole text where there is none
 abbrev pub before : (mark : ℕ) → List ℕ → List ℕ
 before mark [] = []
 before mark (b ∷ rest) = if b == mark then [] else b ∷ before mark rest
 
+-- what stands behind the first mark; None: there is no mark
 abbrev pub behind : (mark : ℕ) → List ℕ → Option (List ℕ)
 behind mark [] = None
 behind mark (b ∷ rest) = if b == mark then Some rest else behind mark rest

@@ -1,11 +1,12 @@
--- A link of known course: it told all bytes from the beginning, gave a front of what its plan lets it give, and
--- neither failed nor ended. Each turn but the first was given by a request.
+-- What a link of known course does in a call.
 use Rattle.std.specs.Prelude.{◌≡◌, ℕ, ◌+◌, ◌≤◌, IsTrue, List, [], ◌++◌, length, take, Some}
 use Rattle.std.specs.List.{concat}
 use Rattle.pg_spec.specs.Causes.{Call}
 use Rattle.pg_spec.specs.Links.{Plan, Rose, due_by}
 use Rattle.pg_spec.specs.Sent.{turns_given, units}
 
+-- A link of known course: it told all bytes from the beginning, gave a front of what its plan lets it give, and
+-- neither failed nor ended. Each turn but the first was given by a request.
 pub record HoldsCourse (call : Call) (plan : Plan) (given taken : List ℕ) : Type 0 where
   pub none_given : call.before.given ≡ Some []
   pub none_taken : call.before.taken ≡ Some []

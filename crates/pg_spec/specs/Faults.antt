@@ -76,8 +76,8 @@ pub data Failure : Type 0 where
   LimitReached : (given limit : ℕ) → Failure
   OutOfMemory : Failure
 
--- the first fault decides
 infixl 10 ◌>>=◌
+-- one step behind another; the first fault decides
 abbrev pub ◌>>=◌ : {A B E : Type 0} → Result A E → (A → Result B E) → Result B E
 (Ok x) >>= f = f x
 (Err e) >>= f = Err e

@@ -22,19 +22,24 @@ use Rattle.pg_types.specs.declared.held.Held.TheView.{view, invariant}
 use Rattle.pg_types.specs.contracts.held.Held as C
 use Rattle.pg_types.specs.contracts.held.Held.TheInside as I
 
+-- what it holds of a type: one value
 abbrev pub the_former : Former {0} → Former {0}
 the_former g = g
 
+-- which weighs what that value weighs
 abbrev pub the_weighed : {g : Former {0}} → Weighed g → Weighed (the_former g)
 the_weighed w = w
 
+-- its field: a box, seen as where it points and what stands there
 abbrev fields : Former {0}
 fields = via (pair (const (Ptr × Global)) this) Inside (λ X a. ((a.inner.ptr, a.inner.alloc), a.inner.value))
     (λ X v. record { inner = record { ptr = v.0.0; alloc = v.0.1; value = v.1 } }) (λ X a. refl) (λ X v. refl)
 
+-- the same box over another value
 abbrev with_value : {X Y : Type 0} → Box X Global → Y → Box Y Global
 with_value b y = record { ptr = b.ptr; alloc = b.alloc; value = y }
 
+-- the type of such a box
 abbrev box_of : RattleType → RattleType
 box_of R = box.the_row R heap.the_row ghosts
 

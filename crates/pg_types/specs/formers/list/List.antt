@@ -19,21 +19,27 @@ use Rattle.pg_types.specs.declared.list.List.TheView.{view, invariant}
 use Rattle.pg_types.specs.contracts.list.List as C
 use Rattle.pg_types.specs.contracts.list.List.TheInside as I
 
+-- what it holds of a type: a list of values
 abbrev pub the_former : Former {0} → Former {0}
 the_former g = list g
 
+-- which weighs what its items weigh
 abbrev pub the_weighed : {g : Former {0}} → Weighed g → Weighed (the_former g)
 the_weighed w = w_list w
 
+-- a list of nothing
 pub the_empty : List ⊥
 the_empty = []
 
+-- its items, as they stand
 abbrev pub the_items : (X : Type 0) → List X → List X
 the_items X d = d
 
+-- they are the ones that the former lists
 pub the_items_listed : (X : Type 0) (d : List X) → listed _ (children (the_former this) X d) ≡ the_items X d
 the_items_listed X d = list-listed X d
 
+-- its field: a vector, seen as its items
 abbrev fields : Former {0}
 fields = via (vec.the_former this Global) Inside (λ X a. a.items) (λ X v. record { items = v }) (λ X a. refl) (λ X v. refl)
 
