@@ -21,6 +21,7 @@ impl Model for Blob {
 }
 
 impl Blob {
+    /// These bytes. It takes no memory.
     pub fn new(bytes: Vec<u8>) -> Blob
         ensures { result ≡ bytes.items }
     {
@@ -37,12 +38,14 @@ impl Blob {
         }
     }
 
+    /// The bytes.
     pub fn as_slice(&self) -> &[u8]
         ensures { result.now ≡ self.now }
     {
         self.bytes.as_slice()
     }
 
+    /// The bytes, to be kept.
     pub fn into_vec(self) -> Vec<u8>
         ensures { result.items ≡ self }
     {

@@ -29,6 +29,7 @@ impl<T: Drop> Drop for List<T> {
 }
 
 impl<T> List<T> {
+    /// These items. It takes no memory.
     pub fn new(items: Vec<T>) -> List<T>
         ensures { result ≡ items.items }
     {
@@ -44,12 +45,14 @@ impl<T> List<T> {
         }
     }
 
+    /// The items.
     pub fn as_slice(&self) -> &[T]
         ensures { result.now ≡ self.now }
     {
         self.items.as_slice()
     }
 
+    /// The items, to be kept.
     pub fn into_vec(self) -> Vec<T>
         ensures { result.items ≡ self }
     {

@@ -75,18 +75,21 @@ impl PgType {
         built_ins::built_in(alloc, oid)
     }
 
+    /// The name of the type.
     pub fn name(&self) -> &str
         ensures { result.now ≡ self.now.name }
     {
         self.name.as_str()
     }
 
+    /// The object identifier of the type.
     pub fn oid(&self) -> Oid
         ensures { result ≡ self.now.oid }
     {
         self.oid
     }
 
+    /// What kind of type it is.
     pub fn kind(&self) -> &Kind
         ensures { result.now ≡ self.now.kind }
     {
@@ -109,6 +112,7 @@ impl PgType {
         })
     }
 
+    /// The schema that the type stands in.
     pub fn schema(&self) -> &str
         ensures { result.now ≡ self.now.schema }
     {
@@ -160,18 +164,21 @@ fn copy_fields(fields: &[Field], alloc: Global) -> Result<List<Field>, OutOfMemo
 }
 
 impl Field {
+    /// A field of a composite type.
     pub fn new(name: Text, type_: Type) -> Field
         ensures { result ≡ record { name = name; type_ = type_ } }
     {
         Field { name, type_ }
     }
 
+    /// The name of the field.
     pub fn name(&self) -> &str
         ensures { result.now ≡ self.now.name }
     {
         self.name.as_str()
     }
 
+    /// The type of the field.
     pub fn type_(&self) -> &Type
         ensures { result.now ≡ self.now.type_ }
     {

@@ -21,6 +21,7 @@ impl Model for Text {
 }
 
 impl Text {
+    /// This text. It takes no memory.
     pub fn new(string: String) -> Text
         ensures { result ≡ string_bytes string }
     {
@@ -37,12 +38,14 @@ impl Text {
         }
     }
 
+    /// The text.
     pub fn as_str(&self) -> &str
         ensures { result.now ≡ self.now }
     {
         self.string.as_str()
     }
 
+    /// The text, to be kept.
     pub fn into_string(self) -> String
         ensures { string_bytes result ≡ self }
     {

@@ -1,15 +1,18 @@
 -- What a link in memory does is what a link may do.
-use Rattle.std.proofs.Common.{◌≡◌, ℕ, ◌+◌, ◌≤◌, Bool, true, false, not, ◌||◌, ◌&&◌, List, [], ◌++◌, length, take, drop, Some, refl, sym, ap, subst, ◌∙◌, arith}
+use Rattle.std.proofs.Common.{◌≡◌, ℕ, zero, suc, ◌+◌, ◌≤◌, Bool, true, false, not, ◌||◌, ◌&&◌, List, [], ◌∷◌, ◌++◌, length, take, drop, Some, Result, Ok, Err, refl, sym, ap, subst, ◌∙◌, append_assoc, arith, if◌then◌else◌}
 use Rattle.std.specs.List.{concat}
-use Rattle.std.specs.Prelude.{◌==◌}
-use Rattle.std.proofs.lemmas.List.{length-append, length-take, drop-drop}
+use Rattle.std.specs.Prelude.{◌==◌, is_ok, is_err}
+use Rattle.std.proofs.Math.Seq.{drop-append_seam}
+use Rattle.std.proofs.lemmas.List.{length-append, length-take, drop-drop, take-append-drop}
 use Rattle.std.proofs.lemmas.Bool.{false≢true}
 use Rattle.pg_spec.specs.Batches.{is_nothing}
 use Rattle.pg_spec.specs.Links.{Rose}
 use Rattle.pg_spec.specs.Sent.{turns_given}
-use Rattle.pg_wire.specs.LinkCalls.{SameBytes, Gives, ReadAnswers, Keeps, KeepsPromise, gave}
+use Rattle.pg_wire.specs.LinkCalls.{SameBytes, Gives, IsInPlan, ReadAnswers, Keeps, KeepsPromise, gave}
 use Rattle.pg_wire.specs.declared.link.LinkRead.{LinkRead}
 use Rattle.pg_wire.specs.declared.link.LinkRead.TheVariants as reads
+use Rattle.pg_wire.specs.Turning.{Counts}
+use Rattle.pg_wire.specs.declared.turning.Turning.{Turning}
 use Rattle.pg_wire.specs.Memory.{Memory, due_in, link_of, rise, is_over, is_ready, GivesFront, Reads, IsKept}
 
 -- ---- what is due
@@ -24,6 +27,52 @@ due-given m n promised enough =
 -- where nothing is due and the end isn't reached, a read isn't ready
 pub not-ready : (m : Memory) → due_in m ≡ [] → is_over m ≡ false → is_ready m ≡ false
 not-ready m none open_ = ap (λ (l : List ℕ). not (is_nothing l) || is_over m) none ∙ open_
+
+-- ---- what was given stands in the plan
+
+-- the bytes of the first entries are a front of those of more entries
+concat-more : (k n : ℕ) (xs : List (List ℕ)) → k ≤ n → (more : List ℕ) × (concat (take k xs) ++ more ≡ concat (take n xs))
+concat-more zero n xs less = (concat (take n xs), refl)
+concat-more (suc k) zero xs less = absurd (omega (arith, less))
+concat-more (suc k) (suc n) [] less = ([], refl)
+concat-more (suc k) (suc n) (x ∷ xs) less =
+    let r = concat-more k n xs (omega (arith, less)) in
+    (r.0, append_assoc x (concat (take k xs)) r.0 ∙ ap (λ (l : List ℕ). x ++ l) r.1)
+
+-- as what is due is given
+in-plan-given : (m : Memory) (n : ℕ) → IsInPlan (link_of m) → IsInPlan (link_of (record m { given = m.given ++ take n (due_in m); promised = false }))
+in-plan-given m n (rest, is) =
+    let due : due_in m ≡ rest = ap (λ (l : List ℕ). drop (length m.given) l) (sym is) ∙ drop-append_seam m.given rest in (
+      drop n (due_in m),
+      append_assoc m.given (take n (due_in m)) (drop n (due_in m)) ∙ ap (λ (l : List ℕ). m.given ++ l) (take-append-drop n (due_in m) ∙ due) ∙ is,
+    )
+
+-- as bytes are taken, which give no fewer turns
+in-plan-taken : (m : Memory) (taken : List ℕ) → turns_given m.taken ≤ turns_given taken → IsInPlan (link_of m) →
+    IsInPlan (link_of (record m { taken = taken; promised = false }))
+in-plan-taken m taken less (rest, is) =
+    let more = concat-more (turns_given m.taken) (turns_given taken) m.entries less in
+    (rest ++ more.0, sym (append_assoc m.given rest more.0) ∙ ap (λ (l : List ℕ). l ++ more.0) is ∙ more.1)
+
+-- more bytes give no fewer turns
+turns-grow : (sent more : List ℕ) (turning : Turning) → Counts sent turning → turning.turns ≡ turns_given sent → turns_given sent ≤ turns_given (sent ++ more)
+turns-grow sent more turning counts all = let later = counts.turns more in omega (arith, later, all)
+
+-- bytes were added
+added : {U E : Type 0} (r : Result U E) (new more old : List ℕ) → is_err r ≡ false → new ≡ (if is_ok r then more else old) → new ≡ more
+added (Ok done) new more old fine is = is
+added (Err e) new more old fine is = absurd cc
+
+-- bytes were taken
+pub write-keeps : {U E : Type 0} (m : Memory) (taken more : List ℕ) (turning : Turning) (r : Result U E) → Counts m.taken turning → turning.turns ≡ turns_given m.taken →
+    is_err r ≡ false → taken ≡ (if is_ok r then m.taken ++ more else m.taken) → Keeps (link_of m) (link_of (record m { taken = taken; promised = false }))
+write-keeps m taken more turning r counts all fine is = record {
+  counts = record { faults = omega arith; quiet = omega arith; dry = omega arith; blocked = omega arith; lulls = omega arith; ends = omega arith };
+  plan = refl;
+  steady = λ steady. refl;
+  in_plan = in-plan-taken m taken (subst (λ (l : List ℕ). turns_given m.taken ≤ turns_given l) (sym (added r taken (m.taken ++ more) m.taken fine is))
+      (turns-grow m.taken more turning counts all));
+}
 
 -- ---- reads
 
@@ -64,17 +113,21 @@ read-answers m m' out (reads.Got n) k g =
         counts = record { faults = omega arith; quiet = omega arith; dry = omega arith; blocked = omega arith; lulls = omega arith; ends = omega arith };
         plan = refl;
         steady = λ steady. refl;
+        in_plan = in-plan-given m n;
       }),
       record { kept = λ moved. absurd (false≢true (sym moved)); no_lull = λ steady. ap (λ (x : Memory). x.lulls) new },
     )
 read-answers m m' out reads.End k (none, over, new) =
     let e = k.ended in
+    let before : (if m.ends then m.ended else 0) ≡ m.ended = ap (λ (b : Bool). if b then m.ended else 0) (ends_there m.ends _ over) in
+    let after : (if m.ends then rise m.ended else 0) ≡ rise m.ended = ap (λ (b : Bool). if b then rise m.ended else 0) (ends_there m.ends _ over) in
     subst (λ (x : Memory). ReadAnswers (link_of m) (link_of x) out reads.End × Keeps (link_of m) (link_of x) × KeepsPromise (link_of m) (link_of x) false) (sym new) (
-      (rose m.ended, ends_there m.ends _ over, same-bytes m (record m { ended = rise m.ended }) refl refl refl),
+      (omega (arith, before, after, rose m.ended), ends_there m.ends _ over, same-bytes m (record m { ended = rise m.ended }) refl refl refl),
       record {
-        counts = record { faults = omega arith; quiet = omega arith; dry = omega arith; blocked = omega arith; lulls = omega arith; ends = omega arith };
+        counts = record { faults = omega arith; quiet = omega arith; dry = omega arith; blocked = omega arith; lulls = omega arith; ends = omega (arith, before, after) };
         plan = refl;
         steady = λ steady. refl;
+        in_plan = λ within. within;
       },
       record { kept = λ moved. refl; no_lull = λ steady. refl },
     )
@@ -95,6 +148,7 @@ read-answers m m' out reads.NotReady k (none, open_, new) =
         counts = record { faults = omega arith; quiet = omega arith; dry = omega arith; blocked = omega arith; lulls = omega arith; ends = omega arith };
         plan = refl;
         steady = λ steady. refl;
+        in_plan = λ within. within;
       },
       record { kept = λ moved. refl; no_lull = λ steady. refl },
     )

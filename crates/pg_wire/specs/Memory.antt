@@ -1,5 +1,6 @@
 -- A link in memory: what it will give is known, it never fails, and no call is held back.
-use Rattle.std.specs.Prelude.{◌≡◌, ℕ, ◌+◌, ◌-◌, ◌^◌, ◌<◌, ◌==◌, ◌||◌, ◌&&◌, Bool, true, false, not, List, [], ◌++◌, length, take, min, Some, refl}
+use Rattle.std.specs.Prelude.{◌≡◌, ℕ, ◌+◌, ◌-◌, ◌^◌, ◌<◌, ◌==◌, ◌||◌, ◌&&◌, Bool, true, false, not, List, [], ◌++◌, length, take, min, Some, refl, if◌then◌else◌}
+use Rattle.std.proofs.Common.{ap}
 use Rattle.std.specs.List.{concat}
 use Rattle.pg_spec.specs.Batches.{is_nothing}
 use Rattle.pg_spec.specs.Links.{Plan, LinkView, due_by}
@@ -54,7 +55,7 @@ link_of m = record {
   dry = m.dry;
   blocked = 0;
   lulls = m.lulls;
-  ends = m.ended;
+  ends = if m.ends then m.ended else 0;
 }
 
 -- one more, but for a count at its last value
@@ -111,4 +112,9 @@ pub record IsKept (m : Memory) : Type 0 where
 
 -- what it tells fits together
 pub tells : (m : Memory) → Tells (link_of m)
-tells m = record { by_plan = (refl, λ calm. refl); steady = λ steady. (due_in m, refl) }
+tells m = record {
+  by_plan = (refl, λ calm. refl);
+  steady = λ steady. (due_in m, refl);
+  no_fault = λ calm. refl;
+  no_end = λ never. ap (λ (ends : Bool). if ends then m.ended else 0) never;
+}

@@ -30,6 +30,7 @@ impl Header {
         Ok(Some(Header { tag, len }))
     }
 
+    /// The byte that tells the kind of message.
     pub fn tag(&self) -> u8
         ensures { result ≡ tag_of self.now }
     {

@@ -27,6 +27,7 @@ impl Model for MemorySource {
 }
 
 impl MemorySource {
+    /// A source that gives these bytes, and then the end.
     pub fn new(bytes: Vec<u8>) -> MemorySource
         ensures { result ≡ bytes.items }
     {

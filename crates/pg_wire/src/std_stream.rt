@@ -67,12 +67,14 @@ pub struct ReadSource<R> {
 }
 
 impl<R: Read> ReadSource<R> {
+    /// A source over this reader, which hasn't failed yet.
     pub fn new(reader: R) -> ReadSource<R>
         ensures { result ≡ record { reader = reader; faults = 0 } }
     {
         ReadSource { reader, faults: 0 }
     }
 
+    /// The reader.
     pub fn into_inner(self) -> R
         ensures { result ≡ self.reader }
     {
@@ -108,12 +110,14 @@ pub struct WriteSink<W> {
 }
 
 impl<W: Write> WriteSink<W> {
+    /// A sink over this writer, which hasn't failed yet.
     pub fn new(writer: W) -> WriteSink<W>
         ensures { result ≡ record { writer = writer; faults = 0 } }
     {
         WriteSink { writer, faults: 0 }
     }
 
+    /// The writer.
     pub fn into_inner(self) -> W
         ensures { result ≡ self.writer }
     {

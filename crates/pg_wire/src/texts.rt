@@ -39,12 +39,14 @@ impl TextPair {
         Some(TextPair { bytes, middle })
     }
 
+    /// The bytes of the first text.
     pub fn first(&self) -> &[u8]
         ensures { result.now ≡ self.now.first }
     {
         &self.bytes.as_slice()[..self.middle]
     }
 
+    /// The bytes of the second text.
     pub fn second(&self) -> &[u8]
         ensures { result.now ≡ self.now.second }
     {
