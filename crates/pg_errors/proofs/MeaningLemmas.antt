@@ -2,6 +2,7 @@
 use Rattle.std.proofs.Common.{◌≡◌, ◌≢◌, Option, Some, None, option_map, refl, ap}
 use Rattle.pg_spec.specs.DbErrors as db
 use Rattle.pg_spec.specs.Faults as spec
+use Rattle.pg_spec.specs.ValueFaults as values
 use Rattle.pg_wire.specs.Faults.{wire_fault, frame_fault}
 use Rattle.pg_wire.specs.declared.fault.WireFault.{WireFault}
 use Rattle.pg_wire.specs.declared.fault.WireFault.TheVariants as wire
@@ -12,8 +13,8 @@ use Rattle.pg_errors.specs.declared.db_error.ErrorPosition.TheVariants as place
 use Rattle.pg_errors.specs.declared.db_error.DbError.{DbError}
 use Rattle.pg_errors.specs.declared.severity.Severity.{Severity}
 use Rattle.pg_errors.specs.declared.severity.Severity.TheVariants as severity
-use Rattle.pg_errors.specs.Views.{severity_of, position_of, db_error, cause_of}
-use Rattle.pg_errors.specs.Meanings.{wire_of, frame_of, severity_from, position_from, db_error_from, cause_from}
+use Rattle.pg_errors.specs.Views.{rust_type, value_fault, severity_of, position_of, db_error, cause_of}
+use Rattle.pg_errors.specs.Meanings.{wire_of, frame_of, rust_type_of, value_fault_of, severity_from, position_from, db_error_from, cause_from}
 
 -- the fault that stands for what is wrong
 pub wire-by : (fault : WireFault) (cause : spec.WireFault) → wire_fault fault ≡ Some cause → fault ≡ wire_of cause
@@ -86,16 +87,37 @@ scram-there spec.BadIterations = refl
 scram-there spec.BadSignature = refl
 scram-there (spec.ServerError text) = refl
 
+rust-type-there : (t : values.RustType) → rust_type (rust_type_of t) ≡ t
+rust-type-there values.Bool = refl
+rust-type-there values.I8 = refl
+rust-type-there values.I16 = refl
+rust-type-there values.I32 = refl
+rust-type-there values.I64 = refl
+rust-type-there values.U32 = refl
+rust-type-there values.Str = refl
+rust-type-there values.Text = refl
+rust-type-there values.Slice = refl
+rust-type-there values.Blob = refl
+rust-type-there values.Value = refl
+rust-type-there values.Other = refl
+
+value-there : (fault : values.ValueFault) → cause_of (cause_from (spec.Value fault)) ≡ spec.Value fault
+value-there (values.WrongType oid given) = ap (λ t. spec.Value (values.WrongType oid t)) (rust-type-there given)
+value-there values.WasNull = refl
+value-there values.BadValue = refl
+
 -- a cause stands for itself
 pub cause-there : (c : spec.Cause) → c ≢ spec.NoCause → cause_of (cause_from c) ≡ c
 cause-there (spec.Wire fault) h = wire-there fault
 cause-there (spec.Frame fault) h = frame-there fault
 cause-there (spec.Scram fault) h = scram-there fault
+cause-there (spec.Value fault) h = value-there fault
 cause-there spec.NoCause h = absurd (h refl)
 cause-there spec.Link h = refl
 cause-there spec.Ended h = refl
 cause-there spec.Fields h = refl
 cause-there spec.FieldCount h = refl
+cause-there spec.BinaryCopy h = refl
 cause-there spec.NotText h = refl
 cause-there spec.Counter h = refl
 cause-there spec.NoUser h = refl
@@ -115,3 +137,5 @@ cause-there spec.NotAscii h = refl
 cause-there spec.Syntax h = refl
 cause-there (spec.UnknownOption key) h = refl
 cause-there (spec.InvalidValue key) h = refl
+cause-there (spec.ReadOnly answer) h = refl
+cause-there (spec.NotReadOnly answer) h = refl

@@ -2,6 +2,11 @@
 use Rattle.std.specs.Prelude.{option_map}
 use Rattle.pg_spec.specs.DbErrors as db
 use Rattle.pg_spec.specs.Faults as spec
+use Rattle.pg_spec.specs.ValueFaults as values
+use Rattle.pg_types.specs.declared.fault.RustType.{RustType}
+use Rattle.pg_types.specs.declared.fault.RustType.TheVariants as rust
+use Rattle.pg_types.specs.declared.fault.ValueFault.{ValueFault}
+use Rattle.pg_types.specs.declared.fault.ValueFault.TheVariants as value
 use Rattle.pg_wire.specs.declared.fault.WireFault.{WireFault}
 use Rattle.pg_wire.specs.declared.fault.WireFault.TheVariants as wire
 use Rattle.pg_wire.specs.declared.fault.FrameFault.{FrameFault}
@@ -31,6 +36,27 @@ frame_of spec.ZeroByte = frame.ZeroByte
 frame_of spec.TooMany = frame.TooMany
 frame_of spec.TooLong = frame.TooLong
 
+-- a type of Rust
+abbrev pub rust_type_of : values.RustType → RustType
+rust_type_of values.Bool = rust.Bool
+rust_type_of values.I8 = rust.I8
+rust_type_of values.I16 = rust.I16
+rust_type_of values.I32 = rust.I32
+rust_type_of values.I64 = rust.I64
+rust_type_of values.U32 = rust.U32
+rust_type_of values.Str = rust.Str
+rust_type_of values.Text = rust.Text
+rust_type_of values.Slice = rust.Slice
+rust_type_of values.Blob = rust.Blob
+rust_type_of values.Value = rust.Value
+rust_type_of values.Other = rust.Other
+
+-- what is wrong with a value, or with its bytes
+abbrev pub value_fault_of : values.ValueFault → ValueFault
+value_fault_of (values.WrongType oid given) = value.WrongType (record { postgres = oid; rust = rust_type_of given })
+value_fault_of values.WasNull = value.WasNull
+value_fault_of values.BadValue = value.BadValue
+
 -- what is wrong with a message of the SCRAM dialogue
 abbrev pub scram_of : spec.ScramFault → ScramFault
 scram_of spec.BadMessage = scram.BadMessage
@@ -47,9 +73,11 @@ cause_from spec.Ended = cause.Ended
 cause_from (spec.Wire fault) = cause.Wire (wire_of fault)
 cause_from spec.Fields = cause.Fields
 cause_from spec.FieldCount = cause.FieldCount
+cause_from spec.BinaryCopy = cause.BinaryCopy
 cause_from spec.NotText = cause.NotUtf8
 cause_from (spec.Frame fault) = cause.Frame (frame_of fault)
 cause_from spec.Counter = cause.Counter
+cause_from (spec.Value fault) = cause.Value (value_fault_of fault)
 cause_from spec.NoUser = cause.NoUser
 cause_from spec.Nonce = cause.Nonce
 cause_from spec.NoPassword = cause.NoPassword
@@ -68,6 +96,8 @@ cause_from (spec.Scram fault) = cause.Scram (scram_of fault)
 cause_from spec.Syntax = cause.Syntax
 cause_from (spec.UnknownOption key) = cause.UnknownOption key
 cause_from (spec.InvalidValue key) = cause.InvalidValue key
+cause_from (spec.ReadOnly answer) = cause.ReadOnly answer
+cause_from (spec.NotReadOnly answer) = cause.NotReadOnly answer
 cause_from spec.NoCause = cause.NotBuilt
 
 -- a severity
@@ -112,6 +142,11 @@ abbrev pub error_of : spec.Failure → Error
 error_of (spec.Io c) = error.Io (cause_from c)
 error_of spec.UnexpectedMessage = error.UnexpectedMessage
 error_of (spec.Tls c) = error.Tls (cause_from c)
+error_of (spec.ToSql place c) = error.ToSql place (cause_from c)
+error_of (spec.FromSql place c) = error.FromSql place (cause_from c)
+error_of (spec.Column column) = error.Column column
+error_of spec.ColumnCount = error.ColumnCount
+error_of (spec.Parameters given expected) = error.Parameters given expected
 error_of spec.Closed = error.Closed
 error_of (spec.Db e) = error.Db (db_error_from e)
 error_of (spec.Parse c) = error.Parse (cause_from c)
@@ -119,6 +154,9 @@ error_of (spec.Encode c) = error.Encode (cause_from c)
 error_of (spec.Authentication c) = error.Authentication (cause_from c)
 error_of (spec.ConfigParse c) = error.ConfigParse (cause_from c)
 error_of (spec.Config c) = error.Config (cause_from c)
+error_of spec.RowCount = error.RowCount
+error_of (spec.Connect c) = error.Connect (cause_from c)
 error_of (spec.Stalled before after) = error.Stalled before after
 error_of (spec.LimitReached given limit) = error.LimitReached given limit
+error_of spec.Missing = error.Missing
 error_of spec.OutOfMemory = error.OutOfMemory

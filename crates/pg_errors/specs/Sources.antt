@@ -20,10 +20,13 @@ is_closed_error _ = false
 abbrev pub source_in : Error → Option Source
 source_in (error.Io c) = Some (source.Cause c)
 source_in (error.Tls c) = Some (source.Cause c)
+source_in (error.ToSql place c) = Some (source.Cause c)
+source_in (error.FromSql place c) = Some (source.Cause c)
 source_in (error.Db e) = Some (source.Db e)
 source_in (error.Parse c) = Some (source.Cause c)
 source_in (error.Encode c) = Some (source.Cause c)
 source_in (error.Authentication c) = Some (source.Cause c)
 source_in (error.ConfigParse c) = Some (source.Cause c)
 source_in (error.Config c) = Some (source.Cause c)
+source_in (error.Connect c) = Some (source.Cause c)
 source_in _ = None

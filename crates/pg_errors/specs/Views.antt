@@ -2,7 +2,12 @@
 use Rattle.std.specs.Prelude.{Option, Some, None, option_map}
 use Rattle.pg_spec.specs.DbErrors as db
 use Rattle.pg_spec.specs.Faults as spec
+use Rattle.pg_spec.specs.ValueFaults as values
 use Rattle.pg_spec.specs.Report as said
+use Rattle.pg_types.specs.declared.fault.RustType.{RustType}
+use Rattle.pg_types.specs.declared.fault.RustType.TheVariants as rust
+use Rattle.pg_types.specs.declared.fault.ValueFault.{ValueFault}
+use Rattle.pg_types.specs.declared.fault.ValueFault.TheVariants as value
 use Rattle.pg_wire.specs.Faults.{wire_fault, frame_fault}
 use Rattle.pg_errors.specs.declared.cause.ScramFault.{ScramFault}
 use Rattle.pg_errors.specs.declared.cause.ScramFault.TheVariants as scram
@@ -33,6 +38,28 @@ scram_fault scram.BadSignature = Some spec.BadSignature
 scram_fault (scram.ServerError text) = Some (spec.ServerError text)
 scram_fault scram.OutOfMemory = None
 
+-- a type of Rust
+abbrev pub rust_type : RustType → values.RustType
+rust_type rust.Bool = values.Bool
+rust_type rust.I8 = values.I8
+rust_type rust.I16 = values.I16
+rust_type rust.I32 = values.I32
+rust_type rust.I64 = values.I64
+rust_type rust.U32 = values.U32
+rust_type rust.Str = values.Str
+rust_type rust.Text = values.Text
+rust_type rust.Slice = values.Slice
+rust_type rust.Blob = values.Blob
+rust_type rust.Value = values.Value
+rust_type rust.Other = values.Other
+
+-- what is wrong with a value, None for want of memory
+abbrev pub value_fault : ValueFault → Option values.ValueFault
+value_fault (value.WrongType wrong) = Some (values.WrongType wrong.postgres (rust_type wrong.rust))
+value_fault value.WasNull = Some values.WasNull
+value_fault value.BadValue = Some values.BadValue
+value_fault value.OutOfMemory = None
+
 -- a cause
 abbrev pub cause_of : Cause → spec.Cause
 cause_of cause.Link = spec.Link
@@ -40,9 +67,11 @@ cause_of cause.Ended = spec.Ended
 cause_of (cause.Wire fault) = or_no_cause spec.Wire (wire_fault fault)
 cause_of cause.Fields = spec.Fields
 cause_of cause.FieldCount = spec.FieldCount
+cause_of cause.BinaryCopy = spec.BinaryCopy
 cause_of cause.NotUtf8 = spec.NotText
 cause_of (cause.Frame fault) = or_no_cause spec.Frame (frame_fault fault)
 cause_of cause.Counter = spec.Counter
+cause_of (cause.Value fault) = or_no_cause spec.Value (value_fault fault)
 cause_of cause.NoUser = spec.NoUser
 cause_of cause.Nonce = spec.Nonce
 cause_of cause.NoPassword = spec.NoPassword
@@ -61,6 +90,8 @@ cause_of (cause.Scram fault) = or_no_cause spec.Scram (scram_fault fault)
 cause_of cause.Syntax = spec.Syntax
 cause_of (cause.UnknownOption key) = spec.UnknownOption key
 cause_of (cause.InvalidValue key) = spec.InvalidValue key
+cause_of (cause.ReadOnly answer) = spec.ReadOnly answer
+cause_of (cause.NotReadOnly answer) = spec.NotReadOnly answer
 
 -- a severity
 abbrev pub severity_of : Severity → db.Severity
@@ -104,6 +135,11 @@ abbrev pub failure_of : Error → spec.Failure
 failure_of (error.Io c) = spec.Io (cause_of c)
 failure_of error.UnexpectedMessage = spec.UnexpectedMessage
 failure_of (error.Tls c) = spec.Tls (cause_of c)
+failure_of (error.ToSql place c) = spec.ToSql place (cause_of c)
+failure_of (error.FromSql place c) = spec.FromSql place (cause_of c)
+failure_of (error.Column column) = spec.Column column
+failure_of error.ColumnCount = spec.ColumnCount
+failure_of (error.Parameters given expected) = spec.Parameters given expected
 failure_of error.Closed = spec.Closed
 failure_of (error.Db e) = spec.Db (db_error e)
 failure_of (error.Parse c) = spec.Parse (cause_of c)
@@ -111,8 +147,11 @@ failure_of (error.Encode c) = spec.Encode (cause_of c)
 failure_of (error.Authentication c) = spec.Authentication (cause_of c)
 failure_of (error.ConfigParse c) = spec.ConfigParse (cause_of c)
 failure_of (error.Config c) = spec.Config (cause_of c)
+failure_of error.RowCount = spec.RowCount
+failure_of (error.Connect c) = spec.Connect (cause_of c)
 failure_of (error.Stalled before after) = spec.Stalled before after
 failure_of (error.LimitReached given limit) = spec.LimitReached given limit
+failure_of error.Missing = spec.Missing
 failure_of error.OutOfMemory = spec.OutOfMemory
 
 -- a message aside

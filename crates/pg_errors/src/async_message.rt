@@ -11,7 +11,7 @@ use pg_types::{OutOfMemory, Text};
 use pg_wire::{Message, NotificationResponseBody};
 use std::alloc::Global;
 
-/// A notification of another session (PostgreSQL documentation, "Asynchronous Operations").
+/// A notification of a session (PostgreSQL documentation, "Asynchronous Operations").
 #[derive(Debug, Drop, PartialEq, Eq)]
 pub struct Notification {
     process_id: i32,
@@ -22,11 +22,25 @@ pub struct Notification {
 /// A notice or a notification.
 #[derive(Debug, Drop, PartialEq, Eq)]
 pub enum AsyncMessage {
+    /// What the server says that is no error.
     Notice(DbError),
+    /// What another session, or this one, said on a channel.
     Notification(Notification),
 }
 
 impl Notification {
+    fn new(process_id: i32, channel: Text, payload: Text) -> Notification
+        ensures process_id { result.process_id ≡ process_id }
+        ensures channel { result.channel ≡ channel }
+        ensures payload { result.payload ≡ payload }
+    {
+        Notification {
+            process_id,
+            channel,
+            payload,
+        }
+    }
+
     fn read(alloc: Global, body: &NotificationResponseBody) -> Result<Notification, Error>
         ensures { ReadsNotification body.now result }
     {
@@ -42,11 +56,7 @@ impl Notification {
         let Ok(payload) = Text::from_str(alloc, payload) else {
             return Err(Error::OutOfMemory);
         };
-        Ok(Notification {
-            process_id: body.process_id(),
-            channel,
-            payload,
-        })
+        Ok(Notification::new(body.process_id(), channel, payload))
     }
 
     /// The process of the session that notified.
@@ -56,12 +66,14 @@ impl Notification {
         self.process_id
     }
 
+    /// The channel that was notified.
     pub fn channel(&self) -> &str
         ensures { result.now ≡ self.now.channel }
     {
         self.channel.as_str()
     }
 
+    /// What was said, empty where nothing was.
     pub fn payload(&self) -> &str
         ensures { result.now ≡ self.now.payload }
     {

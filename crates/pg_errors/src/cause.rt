@@ -1,15 +1,20 @@
 //! What an error comes from.
 
-use pg_types::Text;
+use pg_types::{Text, ValueFault};
 use pg_wire::{FrameFault, WireFault};
 
 /// What is wrong with a message of the SCRAM dialogue (RFC 5802).
 #[derive(Debug, Drop)]
 pub enum ScramFault {
+    /// It has another form.
     BadMessage,
+    /// Its nonce doesn't begin with the client's.
     BadNonce,
+    /// The salt isn't base64.
     BadSalt,
+    /// The number of iterations isn't one from 1, in 32 bits.
     BadIterations,
+    /// The server's signature is another.
     BadSignature,
     /// The server's own word for what is wrong.
     ServerError(Text),
@@ -29,14 +34,21 @@ pub enum Cause {
     Fields,
     /// A row has another number of cells than there are columns.
     FieldCount,
+    /// The header, a row or the trailer of a binary copy is out of its form.
+    BinaryCopy,
     /// A text isn't UTF-8.
     NotUtf8,
     /// The writer of a frame refused it.
     Frame(FrameFault),
     /// A counter of statements or portals is at its last value.
     Counter,
+    /// A value can't be written or read.
+    Value(ValueFault),
+    /// No user is set.
     NoUser,
+    /// The nonce is out of its form.
     Nonce,
+    /// The server asks for a password, and none is set.
     NoPassword,
     /// Hosts, addresses and ports don't fit together.
     Hosts,
@@ -44,16 +56,32 @@ pub enum Cause {
     Scripts,
     /// This version can't do it yet.
     NotBuilt,
+    /// TLS without an SSLRequest is asked for where it is only preferred.
     PreferDirect,
+    /// The server has no TLS, and it is required.
     Refused,
+    /// TLS needs the host's name, and there is none.
     NoHostname,
+    /// The TLS handshake failed.
     Handshake,
+    /// A way to log in that this client doesn't know.
     Method,
+    /// None of the server's SASL mechanisms is one that this client knows.
     Mechanism,
+    /// Channel binding is required, and can't be had.
     BindingRequired,
+    /// SASL asks for a password in ASCII.
     NotAscii,
+    /// A message of the SCRAM dialogue is refused.
     Scram(ScramFault),
+    /// The text is out of the form of a connection string.
     Syntax,
+    /// A connection string has this key, which none is.
     UnknownOption(Text),
+    /// The value of this key in a connection string is out of its form.
     InvalidValue(Text),
+    /// The session can't write, and was to. With what the server answered.
+    ReadOnly(Text),
+    /// The session can write, and was to be read only. With what the server answered.
+    NotReadOnly(Text),
 }

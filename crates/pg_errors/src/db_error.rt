@@ -117,30 +117,35 @@ impl DbError {
         self.parsed_severity
     }
 
+    /// What kind of error it is.
     pub fn code(&self) -> &SqlState
         ensures { result.now ≡ self.now.code }
     {
         &self.code
     }
 
+    /// What is wrong, mostly in one line.
     pub fn message(&self) -> &str
         ensures { result.now ≡ self.now.message }
     {
         self.message.as_str()
     }
 
+    /// More on what is wrong, maybe in several lines.
     pub fn detail(&self) -> Option<&str>
         ensures { option_map (λ text. text.now) result ≡ self.now.detail }
     {
         as_text(&self.detail)
     }
 
+    /// What may be done about it, maybe in several lines.
     pub fn hint(&self) -> Option<&str>
         ensures { option_map (λ text. text.now) result ≡ self.now.hint }
     {
         as_text(&self.hint)
     }
 
+    /// Where in a query the error lies.
     pub fn position(&self) -> Option<&ErrorPosition>
         ensures { option_copied result ≡ self.now.position }
     {
@@ -154,30 +159,35 @@ impl DbError {
         as_text(&self.where_)
     }
 
+    /// The schema of what the error is about.
     pub fn schema(&self) -> Option<&str>
         ensures { option_map (λ text. text.now) result ≡ self.now.schema }
     {
         as_text(&self.schema)
     }
 
+    /// The table that it is about.
     pub fn table(&self) -> Option<&str>
         ensures { option_map (λ text. text.now) result ≡ self.now.table }
     {
         as_text(&self.table)
     }
 
+    /// The column of that table.
     pub fn column(&self) -> Option<&str>
         ensures { option_map (λ text. text.now) result ≡ self.now.column }
     {
         as_text(&self.column)
     }
 
+    /// The data type that it is about.
     pub fn datatype(&self) -> Option<&str>
         ensures { option_map (λ text. text.now) result ≡ self.now.datatype }
     {
         as_text(&self.datatype)
     }
 
+    /// The constraint that it is about.
     pub fn constraint(&self) -> Option<&str>
         ensures { option_map (λ text. text.now) result ≡ self.now.constraint }
     {
@@ -198,6 +208,7 @@ impl DbError {
         self.line
     }
 
+    /// The routine of that file.
     pub fn routine(&self) -> Option<&str>
         ensures { option_map (λ text. text.now) result ≡ self.now.routine }
     {

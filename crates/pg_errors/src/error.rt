@@ -7,6 +7,7 @@ ghost use Rattle.pg_errors.specs.Sources.{db_error_in, is_closed_error, source_i
 use crate::cause::Cause;
 use crate::db_error::DbError;
 use crate::sql_state::SqlState;
+use pg_types::Text;
 use std::fmt;
 
 /// Why a call gives no value. Want of memory is never a cause of another.
@@ -17,7 +18,18 @@ pub enum Error {
     Io(Cause),
     /// A message of the server that has no place here.
     UnexpectedMessage,
+    /// TLS can't be had.
     Tls(Cause),
+    /// The value for the parameter at this place, from 0, is refused.
+    ToSql(usize, Cause),
+    /// The cell of the column at this place, from 0, can't be read as the type asked for.
+    FromSql(usize, Cause),
+    /// A row has no column of this name, or at this place, in decimal.
+    Column(Text),
+    /// A query gave another number of columns than was asked for.
+    ColumnCount,
+    /// How many parameters were given, and how many the statement has.
+    Parameters(usize, usize),
     /// The connection is closed.
     Closed,
     /// An error of the server.
@@ -26,21 +38,32 @@ pub enum Error {
     Parse(Cause),
     /// A frame that can't be written.
     Encode(Cause),
+    /// The login failed on the client's side.
     Authentication(Cause),
+    /// A connection string that can't be read.
     ConfigParse(Cause),
+    /// Settings, a nonce or scripts under which no session can be run.
     Config(Cause),
+    /// A query gave another number of rows than was asked for.
+    RowCount,
+    /// The server isn't one as asked for.
+    Connect(Cause),
     /// Nothing moves any more. The two numbers are the link's count of calls that weren't ready, before
     /// and after the last step that moved nothing.
     Stalled { before: u64, after: u64 },
     /// More bytes were given than the limit allows. Both in bytes.
     LimitReached { given: u64, limit: u64 },
+    /// Nothing is open there.
+    Missing,
     OutOfMemory,
 }
 
 /// What an error holds.
 #[derive(Debug, Drop)]
 pub enum Source {
+    /// What it comes from.
     Cause(Cause),
+    /// The error of the server.
     Db(DbError),
 }
 
@@ -79,12 +102,15 @@ impl Error {
         match self {
             Error::Io(cause) => Some(Source::Cause(cause)),
             Error::Tls(cause) => Some(Source::Cause(cause)),
+            Error::ToSql(_, cause) => Some(Source::Cause(cause)),
+            Error::FromSql(_, cause) => Some(Source::Cause(cause)),
             Error::Db(error) => Some(Source::Db(error)),
             Error::Parse(cause) => Some(Source::Cause(cause)),
             Error::Encode(cause) => Some(Source::Cause(cause)),
             Error::Authentication(cause) => Some(Source::Cause(cause)),
             Error::ConfigParse(cause) => Some(Source::Cause(cause)),
             Error::Config(cause) => Some(Source::Cause(cause)),
+            Error::Connect(cause) => Some(Source::Cause(cause)),
             _ => None,
         }
     }
@@ -92,21 +118,31 @@ impl Error {
 
 impl fmt::Display for Error {
     fn fmt<W: fmt::Write>(&self, f: &mut fmt::Formatter<W>) -> fmt::Result {
-        f.write_str(match self {
-            Error::Io(_) => "error communicating with the server",
-            Error::UnexpectedMessage => "unexpected message from server",
-            Error::Tls(_) => "error performing TLS handshake",
-            Error::Closed => "connection closed",
-            Error::Db(_) => "db error",
-            Error::Parse(_) => "error parsing response from server",
-            Error::Encode(_) => "error encoding message to server",
-            Error::Authentication(_) => "authentication error",
-            Error::ConfigParse(_) => "invalid connection string",
-            Error::Config(_) => "invalid configuration",
-            Error::Stalled { .. } => "connection stalled",
-            Error::LimitReached { .. } => "byte limit reached",
-            Error::OutOfMemory => "out of memory",
-        })
+        match self {
+            Error::ToSql(place, _) => write!(f, "error serializing parameter {place}"),
+            Error::FromSql(place, _) => write!(f, "error deserializing column {place}"),
+            Error::Column(column) => write!(f, "invalid column `{}`", column.as_str()),
+            Error::Parameters(given, expected) => {
+                write!(f, "expected {expected} parameters but got {given}")
+            }
+            Error::Io(_) => f.write_str("error communicating with the server"),
+            Error::UnexpectedMessage => f.write_str("unexpected message from server"),
+            Error::Tls(_) => f.write_str("error performing TLS handshake"),
+            Error::ColumnCount => f.write_str("query returned an unexpected number of columns"),
+            Error::Closed => f.write_str("connection closed"),
+            Error::Db(_) => f.write_str("db error"),
+            Error::Parse(_) => f.write_str("error parsing response from server"),
+            Error::Encode(_) => f.write_str("error encoding message to server"),
+            Error::Authentication(_) => f.write_str("authentication error"),
+            Error::ConfigParse(_) => f.write_str("invalid connection string"),
+            Error::Config(_) => f.write_str("invalid configuration"),
+            Error::RowCount => f.write_str("query returned an unexpected number of rows"),
+            Error::Connect(_) => f.write_str("error connecting to server"),
+            Error::Stalled { .. } => f.write_str("connection stalled"),
+            Error::LimitReached { .. } => f.write_str("byte limit reached"),
+            Error::Missing => f.write_str("nothing open there"),
+            Error::OutOfMemory => f.write_str("out of memory"),
+        }
     }
 }
 

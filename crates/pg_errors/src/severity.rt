@@ -10,13 +10,21 @@ use std::fmt;
 /// field V).
 #[derive(Clone, Copy, Debug, PartialEq, Eq, Drop)]
 pub enum Severity {
+    /// All sessions of the server end.
     Panic,
+    /// The session ends.
     Fatal,
+    /// The command ends.
     Error,
+    /// A likely problem.
     Warning,
+    /// What may help the user.
     Notice,
+    /// What may help a developer.
     Debug,
+    /// What the user asked to be told.
     Info,
+    /// What concerns who runs the server.
     Log,
 }
 

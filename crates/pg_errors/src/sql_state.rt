@@ -34,6 +34,7 @@ impl SqlState {
         }
     }
 
+    /// The code as the server spells it.
     pub fn code(&self) -> &str
         ensures { result.now ≡ self.now.code }
     {

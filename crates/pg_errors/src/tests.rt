@@ -1,5 +1,6 @@
 use crate::{AsyncMessage, Cause, DbError, Error, ErrorPosition, Severity, Source, SqlState};
 use bytes::BytesMut;
+use pg_types::{RustType, Text, ValueFault, WrongType};
 use pg_wire::Message;
 use std::alloc::Global;
 use std::test::Fail;
@@ -138,16 +139,27 @@ fn a_notice_is_read(rt: HostRuntime) -> Result<(), Fail> {
     Ok(())
 }
 
+/// It tells the server's error and its code, and prints so.
+fn tells_no_table(alloc: Global, error: &Error) -> Result<bool, Fail> {
+    let state = SqlState::from_code(alloc, "42P01")?;
+    let text = format!(in alloc; "{error}")?;
+    let told = error.code() == Some(&state) && error.as_db_error().is_some();
+    Ok(told && text.as_str() == "db error")
+}
+
+/// It comes from an error of the server.
+fn is_of_the_server(error: Error) -> bool {
+    matches!(error.into_source(), Some(Source::Db(_)))
+}
+
 #[test]
 fn an_error_of_the_server_is_told(rt: HostRuntime) -> Result<(), Fail> {
     let alloc = rt.alloc();
     let error = Error::Db(parsed(alloc, NO_TABLE)??);
-    let state = SqlState::from_code(alloc, "42P01")?;
-    assert!(rt; error.code() == Some(&state));
-    assert!(rt; error.as_db_error().is_some());
-    let text = format!(in alloc; "{error}")?;
-    assert_eq!(rt; text.as_str(), "db error");
-    assert!(rt; matches!(error.into_source(), Some(Source::Db(_))));
+    let told = tells_no_table(alloc, &error);
+    let source = is_of_the_server(error);
+    assert!(rt; told?);
+    assert!(rt; source);
     Ok(())
 }
 
@@ -155,8 +167,96 @@ fn an_error_of_the_server_is_told(rt: HostRuntime) -> Result<(), Fail> {
 fn a_closed_connection_is_told(rt: HostRuntime) -> Result<(), Fail> {
     let closed = Error::Closed;
     assert!(rt; closed.is_closed());
-    let text = format!(in rt.alloc(); "{closed}")?;
-    assert_eq!(rt; text.as_str(), "connection closed");
+    Ok(())
+}
+
+// A text is refused for an int4.
+const WRONG_TYPE: Cause = Cause::Value(ValueFault::WrongType(WrongType {
+    postgres: 23,
+    rust: RustType::Str,
+}));
+
+// What is printed of each variant but Column and Db, as tokio-postgres prints it; the last four are of this client
+// alone.
+const SENTENCES: [(Error, &str); 19] = [
+    (
+        Error::Io(Cause::Link),
+        "error communicating with the server",
+    ),
+    (Error::UnexpectedMessage, "unexpected message from server"),
+    (Error::Tls(Cause::Refused), "error performing TLS handshake"),
+    (Error::ToSql(0, WRONG_TYPE), "error serializing parameter 0"),
+    (
+        Error::FromSql(10, Cause::Value(ValueFault::WasNull)),
+        "error deserializing column 10",
+    ),
+    (
+        Error::ColumnCount,
+        "query returned an unexpected number of columns",
+    ),
+    (Error::Parameters(1, 2), "expected 2 parameters but got 1"),
+    (Error::Closed, "connection closed"),
+    (
+        Error::Parse(Cause::BinaryCopy),
+        "error parsing response from server",
+    ),
+    (
+        Error::Encode(Cause::Counter),
+        "error encoding message to server",
+    ),
+    (Error::Authentication(Cause::Method), "authentication error"),
+    (
+        Error::ConfigParse(Cause::Syntax),
+        "invalid connection string",
+    ),
+    (Error::Config(Cause::NoUser), "invalid configuration"),
+    (
+        Error::RowCount,
+        "query returned an unexpected number of rows",
+    ),
+    (Error::Connect(Cause::Link), "error connecting to server"),
+    (
+        Error::Stalled {
+            before: 7,
+            after: 18,
+        },
+        "connection stalled",
+    ),
+    (
+        Error::LimitReached {
+            given: 81,
+            limit: 80,
+        },
+        "byte limit reached",
+    ),
+    (Error::Missing, "nothing open there"),
+    (Error::OutOfMemory, "out of memory"),
+];
+
+#[test]
+fn an_error_prints_a_sentence(rt: HostRuntime) -> Result<(), Fail> {
+    for (error, sentence) in &SENTENCES {
+        let text = format!(in rt.alloc(); "{error}")?;
+        assert_eq!(rt; text.as_str(), *sentence);
+    }
+    Ok(())
+}
+
+/// It prints this.
+fn prints(alloc: Global, error: &Error, sentence: &str) -> Result<bool, Fail> {
+    let text = format!(in alloc; "{error}")?;
+    Ok(text.as_str() == sentence)
+}
+
+/// The value is let go.
+fn let_go<T: Drop>(_value: T) {}
+
+#[test]
+fn an_error_of_a_column_prints_its_name(rt: HostRuntime) -> Result<(), Fail> {
+    let error = Error::Column(Text::from_str(rt.alloc(), "no such")?);
+    let printed = prints(rt.alloc(), &error, "invalid column `no such`");
+    let_go(error);
+    assert!(rt; printed?);
     Ok(())
 }
 

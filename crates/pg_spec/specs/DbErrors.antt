@@ -1,6 +1,6 @@
 -- Errors and notices of the server (PostgreSQL documentation, "Error and Notice Message Fields").
 use Rattle.std.specs.Prelude.{ℕ, Bool, ◌&&◌, ◌||◌, List, [], ◌∷◌, map, filter, Option, Some, None, is_some, is_none, option_map, find, ◌==◌, if◌then◌else◌, codes}
-use Rattle.std.specs.List.{list_any, list_all, last_or}
+use Rattle.std.specs.List.{list_all, last_or}
 use Rattle.std.specs.Str.{byte, bytes_eq}
 use Rattle.std.specs.Str.Lossy.{utf8_lossy}
 use Rattle.pg_spec.specs.Bytes.{◌>>=◌, byte_at, text0_at, items_of}

@@ -1,6 +1,7 @@
 -- Why bytes or arguments are refused, and what an operation answers in place of its value.
 use Rattle.std.specs.Prelude.{ℕ, List, Result, Ok, Err}
 use Rattle.pg_spec.specs.DbErrors.{DbError}
+use Rattle.pg_spec.specs.ValueFaults.{ValueFault}
 
 -- what is wrong with received bytes
 pub data WireFault : Type 0 where
@@ -33,10 +34,13 @@ pub data Cause : Type 0 where
   Wire : WireFault → Cause
   Fields : Cause
   FieldCount : Cause
+  -- the header, a row or the trailer of a binary copy out of its form
+  BinaryCopy : Cause
   NotText : Cause
   Frame : FrameFault → Cause
   -- a counter of statements or portals is at its last value
   Counter : Cause
+  Value : ValueFault → Cause
   NoUser : Cause
   Nonce : Cause
   NoPassword : Cause
@@ -57,6 +61,9 @@ pub data Cause : Type 0 where
   Syntax : Cause
   UnknownOption : (key : List ℕ) → Cause
   InvalidValue : (key : List ℕ) → Cause
+  -- what the server answered where a session was to be writable, or read only
+  ReadOnly : (answer : List ℕ) → Cause
+  NotReadOnly : (answer : List ℕ) → Cause
   -- want of memory inside a fault, which is never a cause: it stands in no failure
   NoCause : Cause
 
@@ -65,6 +72,13 @@ pub data Failure : Type 0 where
   Io : Cause → Failure
   UnexpectedMessage : Failure
   Tls : Cause → Failure
+  -- the place of a parameter or a column, from 0
+  ToSql : (place : ℕ) → Cause → Failure
+  FromSql : (place : ℕ) → Cause → Failure
+  -- a row has no column of this name or place
+  Column : (column : List ℕ) → Failure
+  ColumnCount : Failure
+  Parameters : (given expected : ℕ) → Failure
   Closed : Failure
   Db : DbError → Failure
   Parse : Cause → Failure
@@ -72,8 +86,12 @@ pub data Failure : Type 0 where
   Authentication : Cause → Failure
   ConfigParse : Cause → Failure
   Config : Cause → Failure
+  RowCount : Failure
+  Connect : Cause → Failure
   Stalled : (before after : ℕ) → Failure
   LimitReached : (given limit : ℕ) → Failure
+  -- nothing is open there
+  Missing : Failure
   OutOfMemory : Failure
 
 infixl 10 ◌>>=◌

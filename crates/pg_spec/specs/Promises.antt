@@ -1,6 +1,6 @@
 -- More that a session promises, beside its main theorem: when it must end well, what it sent where it
 -- failed, and that no request is kept back.
-use Rattle.std.specs.Prelude.{◌≡◌, ◌≢◌, ℕ, ◌+◌, ◌≤◌, ◌<◌, ◌⊎◌, Bool, true, false, not, ◌||◌, IsTrue, IsFalse, List, [], ◌∷◌, ◌++◌, length, map, take, drop, filter, filter_map, count_by, Option, Some, None, Result, Ok, Err, All, IsOk, IsSome, is_none, slice_get, ◌==◌, nat_lt, ⊤}
+use Rattle.std.specs.Prelude.{◌≡◌, ◌≢◌, ℕ, ◌+◌, ◌≤◌, ◌<◌, ◌⊎◌, Bool, true, false, not, ◌||◌, IsTrue, IsFalse, List, [], ◌∷◌, ◌++◌, length, map, take, drop, filter, filter_map, count_by, sum_by, Option, Some, None, Result, Ok, Err, All, IsOk, IsSome, is_none, slice_get, ◌==◌, nat_lt, ⊤}
 use Rattle.std.specs.List.{concat, list_all}
 use Rattle.pg_spec.specs.Causes.{Call, OfDialogue, startup_after, is_nonce, aside_fault, is_built}
 use Rattle.pg_spec.specs.ConnectionStrings.{Means}
@@ -80,6 +80,10 @@ IsFront front whole = (rest : List ℕ) × (front ++ rest ≡ whole)
 -- the frame of a simple query, where its text isn't refused
 abbrev pub request_frame : Command → Option (List ℕ)
 request_frame (Simple text take) = elim (query_frame text) [ Ok frame ↦ Some frame | Err fault ↦ None ]
+
+-- how many requests the scripts ask: one for each simple query whose text isn't refused
+abbrev pub requests_in : List (List Command) → ℕ
+requests_in scripts = sum_by (λ script. length (filter_map request_frame script)) scripts
 
 -- the requests of each handle are those of its script, from the front
 abbrev pub InScriptOrder : List (List Command) → List Booking → Type 0
