@@ -24,6 +24,10 @@ error_fields error = join_with_byte 32 (quoted error.severity ∷ quoted error.c
 abbrev pub behind_spaces : {A : Type 0} → (A → List ℕ) → List A → List ℕ
 behind_spaces word items = flat_map (λ item. 32 ∷ word item) items
 
+-- the same of words that stand already
+abbrev pub words_behind : List (List ℕ) → List ℕ
+words_behind words = join_with_byte 32 ([] ∷ words)
+
 -- the lines of the answers of a handle, whose commands are counted from this number
 abbrev pub answers_from : ℕ → ℕ → List command.Answer → List ℕ
 answers_from handle command answers = flat_map (answer_lines handle) (enumerate_from command (map answer_of answers))

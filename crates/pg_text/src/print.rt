@@ -374,36 +374,64 @@ fn put_turn(alloc: Global, out: &mut String, mark: TurnMark) -> Result<(), OutOf
 fn put_error(alloc: Global, out: &mut String, error: &Error) -> Result<(), OutOfMemory>
     ensures { OnOk result (string_bytes out.new ≡ string_bytes out.old ++ join_with_byte 32 (spec.failure_words (failure_of error.now))) }
 {
+    put(out, name_of(error))?;
+    put_carried(alloc, out, error)
+}
+
+fn name_of(error: &Error) -> &'static str
+    ensures { result.now ≡ spec.failure_name (failure_of error.now) }
+{
     match error {
-        Error::Io(_) => put(out, "Io"),
-        Error::UnexpectedMessage => put(out, "UnexpectedMessage"),
-        Error::Tls(_) => put(out, "Tls"),
-        Error::Closed => put(out, "Closed"),
-        Error::Db(error) => {
-            put(out, "Db ")?;
-            put_db_error(alloc, out, error)
-        }
-        Error::Parse(_) => put(out, "Parse"),
-        Error::Encode(_) => put(out, "Encode"),
-        Error::Authentication(_) => put(out, "Authentication"),
-        Error::ConfigParse(_) => put(out, "ConfigParse"),
-        Error::Config(_) => put(out, "Config"),
-        Error::Stalled { before, after } => {
-            put(out, "Stalled ")?;
-            put_two(alloc, out, *before, *after)
-        }
-        Error::LimitReached { given, limit } => {
-            put(out, "LimitReached ")?;
-            put_two(alloc, out, *given, *limit)
-        }
-        Error::OutOfMemory => put(out, "OutOfMemory"),
+        Error::Io(_) => "Io",
+        Error::UnexpectedMessage => "UnexpectedMessage",
+        Error::Tls(_) => "Tls",
+        Error::ToSql(_, _) => "ToSql",
+        Error::FromSql(_, _) => "FromSql",
+        Error::Column(_) => "Column",
+        Error::ColumnCount => "ColumnCount",
+        Error::Parameters(_, _) => "Parameters",
+        Error::Closed => "Closed",
+        Error::Db(_) => "Db",
+        Error::Parse(_) => "Parse",
+        Error::Encode(_) => "Encode",
+        Error::Authentication(_) => "Authentication",
+        Error::ConfigParse(_) => "ConfigParse",
+        Error::Config(_) => "Config",
+        Error::RowCount => "RowCount",
+        Error::Connect(_) => "Connect",
+        Error::Stalled { .. } => "Stalled",
+        Error::LimitReached { .. } => "LimitReached",
+        Error::Missing => "Missing",
+        Error::OutOfMemory => "OutOfMemory",
     }
 }
 
-fn put_two(alloc: Global, out: &mut String, first: u64, second: u64) -> Result<(), OutOfMemory>
-    ensures { OnOk result (string_bytes out.new ≡ string_bytes out.old ++ (decimal first ++ 32 ∷ decimal second)) }
+/// What an error carries, each word behind a space.
+fn put_carried(alloc: Global, out: &mut String, error: &Error) -> Result<(), OutOfMemory>
+    ensures { OnOk result (string_bytes out.new ≡ string_bytes out.old ++ written.words_behind (spec.failure_parts (failure_of error.now))) }
 {
-    put_number(alloc, out, first)?;
-    put(out, " ")?;
-    put_number(alloc, out, second)
+    match error {
+        Error::ToSql(place, _) => put_next(alloc, out, *place as u64),
+        Error::FromSql(place, _) => put_next(alloc, out, *place as u64),
+        Error::Column(column) => {
+            put(out, " ")?;
+            put_quoted(alloc, out, column.as_str().as_bytes())
+        }
+        Error::Parameters(given, expected) => put_two(alloc, out, *given as u64, *expected as u64),
+        Error::Db(error) => {
+            put(out, " ")?;
+            put_db_error(alloc, out, error)
+        }
+        Error::Stalled { before, after } => put_two(alloc, out, *before, *after),
+        Error::LimitReached { given, limit } => put_two(alloc, out, *given, *limit),
+        _ => Ok(()),
+    }
+}
+
+/// Two numbers, each behind a space.
+fn put_two(alloc: Global, out: &mut String, first: u64, second: u64) -> Result<(), OutOfMemory>
+    ensures { OnOk result (string_bytes out.new ≡ string_bytes out.old ++ (32 ∷ decimal first ++ 32 ∷ decimal second)) }
+{
+    put_next(alloc, out, first)?;
+    put_next(alloc, out, second)
 }

@@ -43,6 +43,7 @@ impl Scripts {
         Ok(Scripts { scripts })
     }
 
+    /// The scripts, one for each handle.
     pub fn as_slice(&self) -> &[List<Command>]
         ensures scripts { result.now ≡ self.now }
         ensures bounds { AreScripts self.now }

@@ -3,55 +3,88 @@
 use crate::{Answer, Cells, Pair, Report, SimpleMessage, TurnMark, error_text, report_text};
 use pg_desk::{Booking, Stamp};
 use pg_errors::{Cause, Error};
-use pg_types::{Blob, List, Text};
+use pg_types::{Blob, List, Text, ValueFault};
 use std::alloc::Global;
 use std::test::Fail;
 
-/// One error of each name but that of the server.
-fn errors() -> [Error; 12] {
-    [
-        Error::Io(Cause::Link),
-        Error::UnexpectedMessage,
-        Error::Tls(Cause::Refused),
-        Error::Closed,
-        Error::Parse(Cause::Fields),
-        Error::Encode(Cause::NoUser),
+// One error of each name that a session may answer, but that of the server.
+const ERRORS: [(Error, &str); 12] = [
+    (Error::Io(Cause::Link), "error Io\n"),
+    (Error::UnexpectedMessage, "error UnexpectedMessage\n"),
+    (Error::Tls(Cause::Refused), "error Tls\n"),
+    (Error::Closed, "error Closed\n"),
+    (Error::Parse(Cause::Fields), "error Parse\n"),
+    (Error::Encode(Cause::NoUser), "error Encode\n"),
+    (
         Error::Authentication(Cause::Method),
-        Error::ConfigParse(Cause::Syntax),
-        Error::Config(Cause::Nonce),
+        "error Authentication\n",
+    ),
+    (Error::ConfigParse(Cause::Syntax), "error ConfigParse\n"),
+    (Error::Config(Cause::Nonce), "error Config\n"),
+    (
         Error::Stalled {
             before: 7,
             after: 18,
         },
+        "error Stalled 7 18\n",
+    ),
+    (
         Error::LimitReached {
             given: 18_446_744_073_709_551_615,
             limit: 0,
         },
-        Error::OutOfMemory,
-    ]
-}
-
-const ERRORS: [&str; 12] = [
-    "error Io\n",
-    "error UnexpectedMessage\n",
-    "error Tls\n",
-    "error Closed\n",
-    "error Parse\n",
-    "error Encode\n",
-    "error Authentication\n",
-    "error ConfigParse\n",
-    "error Config\n",
-    "error Stalled 7 18\n",
-    "error LimitReached 18446744073709551615 0\n",
-    "error OutOfMemory\n",
+        "error LimitReached 18446744073709551615 0\n",
+    ),
+    (Error::OutOfMemory, "error OutOfMemory\n"),
 ];
 
 #[test]
 fn errors_print_on_a_line(rt: HostRuntime) -> Result<(), Fail> {
-    for (error, text) in errors().into_iter().zip(ERRORS) {
-        let printed = error_text(rt.alloc(), &error)?;
+    for (error, text) in &ERRORS {
+        let printed = error_text(rt.alloc(), error)?;
         assert_eq!(rt; printed.as_slice(), text.as_bytes());
     }
+    Ok(())
+}
+
+// Errors that come from no session: of values, columns, rows and what is open.
+const OTHER_ERRORS: [(Error, &str); 7] = [
+    (
+        Error::ToSql(0, Cause::Value(ValueFault::BadValue)),
+        "error ToSql 0\n",
+    ),
+    (
+        Error::FromSql(65_535, Cause::Value(ValueFault::WasNull)),
+        "error FromSql 65535\n",
+    ),
+    (Error::ColumnCount, "error ColumnCount\n"),
+    (Error::Parameters(1, 2), "error Parameters 1 2\n"),
+    (Error::RowCount, "error RowCount\n"),
+    (Error::Connect(Cause::Link), "error Connect\n"),
+    (Error::Missing, "error Missing\n"),
+];
+
+#[test]
+fn errors_of_values_and_columns_print_their_place(rt: HostRuntime) -> Result<(), Fail> {
+    for (error, text) in &OTHER_ERRORS {
+        let printed = error_text(rt.alloc(), error)?;
+        assert_eq!(rt; printed.as_slice(), text.as_bytes());
+    }
+    Ok(())
+}
+
+/// The value is let go.
+fn let_go<T: Drop>(_value: T) {}
+
+#[test]
+fn an_error_of_a_column_prints_its_name(rt: HostRuntime) -> Result<(), Fail> {
+    let error = Error::Column(Text::from_str(rt.alloc(), "no \"\u{e9}\"")?);
+    let printed = error_text(rt.alloc(), &error);
+    let_go(error);
+    assert_eq!(rt;
+        printed?.as_slice(),
+        b"error Column \"no \\\"\\xc3\\xa9\\\"\"\n".as_slice()
+    );
     Ok(())
 }
 
@@ -164,39 +197,6 @@ fn answers_are_printed_handle_by_handle(rt: HostRuntime) -> Result<(), Fail> {
     report.answers = answers(rt.alloc())?;
     let printed = report_text(rt.alloc(), &report)?;
     assert_eq!(rt; printed.as_slice(), ANSWERS.as_bytes());
-    Ok(())
-}
-
-fn failures(alloc: Global) -> Result<List<Answer>, Fail> {
-    let mut failures = List::empty(alloc);
-    for error in errors() {
-        failures.push(Answer::Failed(error))?;
-    }
-    Ok(failures)
-}
-
-const FAILURES: &str = "status ok\n\
-    process 0 0\n\
-    answer 0 0 failed Io\n\
-    answer 0 1 failed UnexpectedMessage\n\
-    answer 0 2 failed Tls\n\
-    answer 0 3 failed Closed\n\
-    answer 0 4 failed Parse\n\
-    answer 0 5 failed Encode\n\
-    answer 0 6 failed Authentication\n\
-    answer 0 7 failed ConfigParse\n\
-    answer 0 8 failed Config\n\
-    answer 0 9 failed Stalled 7 18\n\
-    answer 0 10 failed LimitReached 18446744073709551615 0\n\
-    answer 0 11 failed OutOfMemory\n\
-    sent \n";
-
-#[test]
-fn each_failure_is_an_answer(rt: HostRuntime) -> Result<(), Fail> {
-    let mut report = quiet(rt.alloc());
-    report.answers.push(failures(rt.alloc())?)?;
-    let printed = report_text(rt.alloc(), &report)?;
-    assert_eq!(rt; printed.as_slice(), FAILURES.as_bytes());
     Ok(())
 }
 
