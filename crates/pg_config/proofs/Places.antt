@@ -1,13 +1,13 @@
 -- Hosts are read one after another.
-use Rattle.std.proofs.Common.{◌≡◌, ℕ, List, [], ◌∷◌, Option, Some, Result, Ok, Err, refl, sym, ap, subst, ◌∙◌}
+use Rattle.std.proofs.Common.{◌≡◌, ℕ, List, Option, Some, Result, Ok, sym, ap, subst, ◌∙◌}
 use Rattle.pg_spec.specs.Faults.{◌>>=◌, Cause}
 use Rattle.pg_config.specs.declared.config.Config.{Config}
 use Rattle.pg_config.specs.declared.fault.Fault.{Fault}
 use Rattle.pg_config.specs.declared.fault.Fault.TheVariants as fault
 use Rattle.pg_config.specs.Outcomes.{HasFault}
-use Rattle.pg_config.specs.Pieces.{IsCut, pieces}
+use Rattle.pg_config.specs.Pieces.{IsCut}
 use Rattle.pg_config.specs.Reading.{pieces_left}
-use Rattle.pg_config.specs.Urls.{each_place, place}
+use Rattle.pg_config.specs.UrlReading.{each_place, place}
 use Rattle.pg_config.proofs.Cuts.{pieces_cut}
 
 -- the first fault decides

@@ -5,7 +5,7 @@ use Rattle.pg_config.specs.declared.config.Config.{Config}
 use Rattle.pg_config.specs.declared.fault.Fault.{Fault}
 use Rattle.pg_config.specs.declared.fault.Fault.TheVariants as fault
 use Rattle.pg_config.specs.Outcomes.{HasFault, Tells}
-use Rattle.pg_config.specs.Parameters.{Broken, Done, Front, Parameter, ReadsAs, Says}
+use Rattle.pg_config.specs.ParameterReading.{Broken, Done, Front, Parameter, ReadsAs, Says}
 
 module _ (front : List ℕ → Front) (meaning : (key value : List ℕ) → Config → Result Config Cause) where
   -- what is said of the whole is what is said of the rest
@@ -23,7 +23,7 @@ module _ (front : List ℕ → Front) (meaning : (key value : List ℕ) → Conf
   one_front : {key value rest key' value' rest' : List ℕ} → Parameter key value rest ≡ Parameter key' value' rest' → (key ≡ key') × (value ≡ value') × (rest ≡ rest')
   one_front e = (cc, cc, cc)
 
-  first_read : (rest : List ℕ) (s next : Config) (key value behind : List ℕ) (said : Result Config Cause) → front rest ≡ Parameter key value behind → meaning key value s ≡ Ok next →
+  pub first_read : (rest : List ℕ) (s next : Config) (key value behind : List ℕ) (said : Result Config Cause) → front rest ≡ Parameter key value behind → meaning key value s ≡ Ok next →
       (parameters : List (List ℕ × List ℕ)) → ReadsAs front meaning rest s parameters said → Says front meaning behind next said
   first_read rest s next key value behind said stands means [] (inl done) = absurd (differ (sym done.0 ∙ stands)) where
     differ : Done ≡ Parameter key value behind → ⊥
@@ -47,7 +47,7 @@ module _ (front : List ℕ → Front) (meaning : (key value : List ℕ) → Conf
   }
 
   -- nothing more stands there
-  only_done : (rest : List ℕ) (s : Config) (said : Result Config Cause) → front rest ≡ Done → Says front meaning rest s said → said ≡ Ok s
+  pub only_done : (rest : List ℕ) (s : Config) (said : Result Config Cause) → front rest ≡ Done → Says front meaning rest s said → said ≡ Ok s
   only_done rest s said done ([], inl h) = h.1
   only_done rest s said done ([], inr h) = absurd (differ (sym h.0 ∙ done)) where
     differ : Broken ≡ Done → ⊥
@@ -56,7 +56,7 @@ module _ (front : List ℕ → Front) (meaning : (key value : List ℕ) → Conf
     differ : Parameter p.0 p.1 rest' ≡ Done → ⊥
     differ e = cc
 
-  only_broken : (rest : List ℕ) (s : Config) (said : Result Config Cause) → front rest ≡ Broken → Says front meaning rest s said → said ≡ Err Syntax
+  pub only_broken : (rest : List ℕ) (s : Config) (said : Result Config Cause) → front rest ≡ Broken → Says front meaning rest s said → said ≡ Err Syntax
   only_broken rest s said broken ([], inr h) = h.1
   only_broken rest s said broken ([], inl h) = absurd (differ (sym h.0 ∙ broken)) where
     differ : Done ≡ Broken → ⊥
@@ -65,7 +65,7 @@ module _ (front : List ℕ → Front) (meaning : (key value : List ℕ) → Conf
     differ : Parameter p.0 p.1 rest' ≡ Broken → ⊥
     differ e = cc
 
-  only_fault : (rest : List ℕ) (s : Config) (said : Result Config Cause) (key value behind : List ℕ) (fault : Cause) → front rest ≡ Parameter key value behind →
+  pub only_fault : (rest : List ℕ) (s : Config) (said : Result Config Cause) (key value behind : List ℕ) (fault : Cause) → front rest ≡ Parameter key value behind →
       meaning key value s ≡ Err fault → Says front meaning rest s said → said ≡ Err fault
   only_fault rest s said key value behind fault stands means ([], inl h) = absurd (differ (sym h.0 ∙ stands)) where
     differ : Done ≡ Parameter key value behind → ⊥

@@ -4,9 +4,9 @@ use Rattle.std.proofs.lemmas.List.{take_more}
 use Rattle.std.proofs.lemmas.Str.{encodes-append}
 use Rattle.std.specs.Char.{encode_utf8}
 use Rattle.std.specs.Str.{encode_utf8_all}
-use Rattle.pg_config.specs.KeyValue.{Value, behind_while, front_of, front_while, is_in_run, keyed, valued}
+use Rattle.pg_config.specs.KeyValueReading.{Value, behind_while, front_of, front_while, is_in_run, keyed, valued}
+use Rattle.pg_config.specs.ParameterReading.{Broken, Done}
 use Rattle.pg_config.specs.Numbers.{begins_with}
-use Rattle.pg_config.specs.Parameters.{Broken, Done}
 
 -- ---- runs
 

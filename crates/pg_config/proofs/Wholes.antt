@@ -5,12 +5,14 @@ use Rattle.pg_spec.specs.Faults.{Cause}
 use Rattle.pg_config.specs.declared.config.Config.{Config}
 use Rattle.pg_config.specs.declared.fault.Fault.{Fault}
 use Rattle.pg_config.specs.declared.fault.Fault.TheVariants as fault
-use Rattle.pg_config.specs.ConnectionStrings.{AnswersSaid, ConnectionStringSays, IsAnswered, behind_scheme, error_from}
-use Rattle.pg_config.specs.KeyValue.{KeyValuesSay}
+use Rattle.pg_config.specs.ConnectionStringReading.{ConnectionStringSays, behind_scheme}
+use Rattle.pg_config.specs.ConnectionStrings.{AnswersSaid, IsAnswered, error_from}
+use Rattle.pg_config.specs.KeyValueReading.{KeyValuesSay}
+use Rattle.pg_config.specs.ParameterReading.{Says}
+use Rattle.pg_config.specs.UrlReading.{UrlSays, opening, parameter_at, query}
+use Rattle.pg_config.specs.Urls.{parameter}
 use Rattle.pg_config.specs.Outcomes.{HasFault, Tells}
-use Rattle.pg_config.specs.Parameters.{Says}
 use Rattle.pg_config.specs.Settings.{defaults}
-use Rattle.pg_config.specs.Urls.{UrlSays, opening, parameter, parameter_at, query}
 
 abbrev after_opening : List ℕ → Result Config Cause → Result Config Cause → Type 0
 after_opening text said opened = elim opened [ Err fault ↦ said ≡ Err fault | Ok s ↦ Says parameter_at parameter (query text) s said ]

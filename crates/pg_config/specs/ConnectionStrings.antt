@@ -1,6 +1,5 @@
 -- Connection strings, in both forms (PostgreSQL documentation, "Connection Strings").
-use Rattle.std.specs.Prelude.{◌≡◌, ℕ, List, drop, nat_eq, Option, Some, None, Result, Ok, Err, if◌then◌else◌, codes}
-use Rattle.std.specs.List.{starts_with}
+use Rattle.std.specs.Prelude.{◌≡◌, ◌⊎◌, ◌++◌, ℕ, List, Result, Ok, Err, codes}
 use Rattle.std.specs.Str.{chars}
 use Rattle.pg_spec.specs.Faults as spec
 use Rattle.pg_errors.specs.declared.error.Error.{Error}
@@ -10,22 +9,19 @@ use Rattle.pg_errors.specs.Views.{cause_of}
 use Rattle.pg_config.specs.declared.config.Config.{Config}
 use Rattle.pg_config.specs.declared.fault.Fault.{Fault}
 use Rattle.pg_config.specs.declared.fault.Fault.TheVariants as fault
-use Rattle.pg_config.specs.KeyValue.{KeyValuesSay}
-use Rattle.pg_config.specs.Urls.{UrlSays}
+use Rattle.pg_config.specs.KeyValue.{KeyValuesMean}
+use Rattle.pg_config.specs.Urls.{UrlMeans}
 
--- what stands behind the scheme of a URL
-abbrev pub behind_scheme : List ℕ → Option (List ℕ)
-behind_scheme text =
-    if starts_with nat_eq text (codes "postgres://") then Some (drop 11 text)
-    else if starts_with nat_eq text (codes "postgresql://") then Some (drop 13 text)
-    else None
+-- the text is the scheme of a URL, and then the rest
+abbrev pub IsSchemed : (text rest : List ℕ) → Type 0
+IsSchemed text rest = (text ≡ codes "postgres://" ++ rest) ⊎ (text ≡ codes "postgresql://" ++ rest)
 
--- the text says these settings, or has this first fault
-abbrev pub ConnectionStringSays : List ℕ → Result Config spec.Cause → Type 0
-ConnectionStringSays text said = elim (behind_scheme text) [
-  | Some rest ↦ UrlSays rest said
-  | None ↦ KeyValuesSay (chars text) said
-]
+-- the text means these settings, or has this first fault: as a URL where it begins with a scheme, else as
+-- keys and values
+abbrev pub ConnectionStringMeans : List ℕ → Result Config spec.Cause → Type 0
+ConnectionStringMeans text said =
+    ((rest : List ℕ) × IsSchemed text rest × UrlMeans rest said)
+    ⊎ (((rest : List ℕ) → ¬ IsSchemed text rest) × KeyValuesMean (chars text) said)
 
 -- the error of a fault
 abbrev pub error_from : Fault → Error

@@ -4,8 +4,8 @@ use Rattle.std.specs.Str.{byte}
 use Rattle.pg_config.specs.declared.key_value.Front.{Front}
 use Rattle.pg_config.specs.declared.key_value.Front.TheVariants as code
 use Rattle.pg_config.specs.declared.key_value.Value.{Value}
-use Rattle.pg_config.specs.KeyValue.{value_at}
-use Rattle.pg_config.specs.Parameters as spec
+use Rattle.pg_config.specs.KeyValueReading.{value_at}
+use Rattle.pg_config.specs.ParameterReading as spec
 
 -- what stands in front
 abbrev pub front_view : Front → spec.Front

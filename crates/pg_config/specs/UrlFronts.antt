@@ -2,7 +2,7 @@
 use Rattle.std.specs.Prelude.{◌<◌, ℕ, length}
 use Rattle.pg_config.specs.declared.url_parameter.Stands.{Stands}
 use Rattle.pg_config.specs.declared.url_parameter.Stands.TheVariants as code
-use Rattle.pg_config.specs.Parameters as spec
+use Rattle.pg_config.specs.ParameterReading as spec
 
 -- what stands in front
 abbrev pub stands_view : Stands → spec.Front

@@ -4,8 +4,9 @@ ghost use Rattle.std.specs.Prelude.{◌≡◌, IfOk, Result, option_map};
 ghost use Rattle.std.specs.Str.{chars};
 ghost use Rattle.pg_spec.specs.Faults as faults;
 ghost use Rattle.pg_config.specs.declared.config.Config.{Config};
-ghost use Rattle.pg_config.specs.ConnectionStrings as spec;
-ghost use Rattle.pg_config.specs.ConnectionStrings.{AnswersSaid, ConnectionStringSays, IsAnswered, error_from};
+ghost use Rattle.pg_config.specs.ConnectionStringReading as spec;
+ghost use Rattle.pg_config.specs.ConnectionStringReading.{ConnectionStringSays};
+ghost use Rattle.pg_config.specs.ConnectionStrings.{AnswersSaid, ConnectionStringMeans, IsAnswered, error_from};
 ghost use Rattle.pg_config.specs.Outcomes.{IsSaid, Tells};
 
 use crate::config::Config;
@@ -22,8 +23,8 @@ impl Config {
     /// UnknownOption with the key, InvalidValue with the key, or NotUtf8. Whether a key is known and its
     /// value in form is judged once the whole parameter was read and decoded.
     pub fn from_str(alloc: Global, s: &str) -> Result<Config, Error>
-        ensures answer { AnswersSaid (ConnectionStringSays s.now) result }
-        ensures only { (said : Result Config faults.Cause) → ConnectionStringSays s.now said → IsAnswered said result }
+        ensures answer { AnswersSaid (ConnectionStringMeans s.now) result }
+        ensures only { (said : Result Config faults.Cause) → ConnectionStringMeans s.now said → IsAnswered said result }
     {
         match read(alloc, s) {
             Ok(config) => Ok(config),

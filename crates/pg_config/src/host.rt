@@ -4,9 +4,10 @@ ghost use Rattle.std.specs.Prelude.{◌≡◌, IfOk};
 
 use pg_types::{OutOfMemory, Text};
 use std::alloc::Global;
+use std::fmt;
 
 /// A host.
-#[derive(Debug, Drop, PartialEq, Eq)]
+#[derive(Drop, PartialEq, Eq)]
 pub enum Host {
     /// A name, or an address as a text.
     Tcp(Text),
@@ -23,6 +24,16 @@ impl Host {
             Host::Tcp(name) => Ok(Host::Tcp(name.copy(alloc)?)),
             Host::Unix(path) => Ok(Host::Unix(path.copy(alloc)?)),
         }
+    }
+}
+
+impl fmt::Debug for Host {
+    fn fmt<W: fmt::Write>(&self, f: &mut fmt::Formatter<W>) -> fmt::Result {
+        let (variant, text) = match self {
+            Host::Tcp(name) => ("Tcp", name),
+            Host::Unix(path) => ("Unix", path),
+        };
+        f.debug_tuple(variant).field(&text.as_str()).finish()
     }
 }
 

@@ -5,7 +5,7 @@ ghost use Rattle.std.specs.Prelude.{◌≡◌, ◌++◌, ◌+◌, ◌<◌, ◌�
 ghost use Rattle.std.specs.Char.{encode_utf8};
 ghost use Rattle.std.specs.Str.{encode_utf8_all};
 ghost use Rattle.pg_config.specs.Fronts.{IsValueAt, LeavesBelow, escapes, front_view};
-ghost use Rattle.pg_config.specs.KeyValue.{KeyValuesSay, behind_while, front_of, front_while, is_in_run, keyed, valued};
+ghost use Rattle.pg_config.specs.KeyValueReading.{KeyValuesSay, behind_while, front_of, front_while, is_in_run, keyed, valued};
 ghost use Rattle.pg_config.specs.KeyValue as spec;
 ghost use Rattle.pg_config.specs.Numbers.{begins_with};
 ghost use Rattle.pg_config.specs.Outcomes.{IsSaid, Tells};

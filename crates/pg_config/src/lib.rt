@@ -9,14 +9,18 @@ mod connection_string;
 mod fault;
 mod host;
 mod key_value;
+mod laws;
 mod modes;
 mod number;
 mod option;
 mod piece;
+#[cfg(test)]
+mod tests;
 mod url;
 mod url_parameter;
 
 pub use attempts::{Address, Attempt};
 pub use config::Config;
 pub use host::{Host, IpAddr};
+pub use laws::one_meaning;
 pub use modes::{ChannelBinding, LoadBalanceHosts, SslMode, SslNegotiation, TargetSessionAttrs};

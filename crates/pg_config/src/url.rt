@@ -3,12 +3,13 @@
 ghost use Rattle.std.specs.Prelude.{◌≡◌, IfOk, MatchResult, codes, false, option_map, true, unwrap_or};
 ghost use Rattle.std.specs.Str.{is_utf8};
 ghost use Rattle.percent_encoding.specs.Percent.{percent_decode};
-ghost use Rattle.pg_config.specs.KeyValue.{behind_while, front_while};
+ghost use Rattle.pg_config.specs.KeyValueReading.{behind_while, front_while};
 ghost use Rattle.pg_config.specs.Outcomes.{Becomes};
 ghost use Rattle.pg_config.specs.Pieces.{pieces};
 ghost use Rattle.pg_config.specs.Texts.{IsDecoded};
-ghost use Rattle.pg_config.specs.Urls as spec;
-ghost use Rattle.pg_config.specs.Urls.{is_of_hosts, opening};
+ghost use Rattle.pg_config.specs.UrlReading as spec;
+ghost use Rattle.pg_config.specs.UrlReading.{is_of_hosts, opening};
+ghost use Rattle.pg_config.specs.Urls as grammar;
 
 use crate::config::Config;
 use crate::fault::{Fault, invalid_value};
@@ -119,7 +120,7 @@ impl Config {
     }
 
     fn placed(&mut self, alloc: Global, host: &[u8], port: &[u8]) -> Result<(), Fault>
-        ensures { Becomes (spec.placed host.now port.now self.old) self.new result }
+        ensures { Becomes (grammar.placed host.now port.now self.old) self.new result }
     {
         let host = decode_text(alloc, host)?;
         let port = decode_text(alloc, port)?;
@@ -141,7 +142,7 @@ impl Config {
     }
 
     fn database_name(&mut self, alloc: Global, name: &[u8]) -> Result<(), Fault>
-        ensures { Becomes (spec.database_name name.now self.old) self.new result }
+        ensures { Becomes (grammar.database_name name.now self.old) self.new result }
     {
         if name.is_empty() {
             return Ok(());

@@ -4,8 +4,9 @@ ghost use Rattle.std.specs.Prelude.{◌≡◌, ◌<◌, ◌++◌, length, unwrap
 ghost use Rattle.pg_spec.specs.Faults.{Cause};
 ghost use Rattle.pg_config.specs.declared.config.Config.{Config};
 ghost use Rattle.pg_config.specs.Outcomes.{Becomes, IsSaid, Tells};
-ghost use Rattle.pg_config.specs.Parameters.{Says};
-ghost use Rattle.pg_config.specs.Urls.{UrlSays, parameter, parameter_at, query};
+ghost use Rattle.pg_config.specs.ParameterReading.{Says};
+ghost use Rattle.pg_config.specs.UrlReading.{UrlSays, parameter_at, query};
+ghost use Rattle.pg_config.specs.Urls.{parameter};
 ghost use Rattle.pg_config.specs.UrlFronts.{LeavesLess, stands_view};
 
 use crate::config::Config;

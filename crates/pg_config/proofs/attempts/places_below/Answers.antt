@@ -1,4 +1,4 @@
-use Rattle.std.proofs.Common.{◌++◌, ◌∷◌, [], sym, ap, ◌∙◌}
+use Rattle.std.proofs.Common.{sym, ◌∙◌}
 use Rattle.pg_config.proofs.AttemptLaws.{one_place_more}
 use Rattle.pg_config.proofs.ReadAll.{grown}
 use Rattle.pg_config.proofs.attempts.places_below.Goals as goal

@@ -1,6 +1,6 @@
 use Rattle.std.proofs.Common.{sym, subst, ap, ◌∙◌}
-use Rattle.pg_config.specs.ConnectionStrings.{behind_scheme}
-use Rattle.pg_config.specs.KeyValue.{KeyValuesSay}
+use Rattle.pg_config.specs.ConnectionStringReading.{behind_scheme}
+use Rattle.pg_config.specs.KeyValueReading.{KeyValuesSay}
 use Rattle.pg_config.proofs.Wholes.{key_value_text, url_text}
 use Rattle.pg_config.proofs.connection_string.read.Goals as goal
 

@@ -1,4 +1,4 @@
-use Rattle.pg_config.specs.KeyValue.{is_in_run}
+use Rattle.pg_config.specs.KeyValueReading.{is_in_run}
 use Rattle.pg_config.proofs.Runs.{IsRunTo}
 use Rattle.pg_config.proofs.key_value.cut_run.Given as goal
 

@@ -1,4 +1,4 @@
-use Rattle.pg_config.specs.KeyValue.{front_of}
+use Rattle.pg_config.specs.KeyValueReading.{front_of}
 use Rattle.pg_config.specs.Options.{applies}
 use Rattle.pg_config.specs.Settings.{defaults}
 use Rattle.pg_config.proofs.Readings.{broken_only, done_only, fault_only, fault_said, read_more, renamed}

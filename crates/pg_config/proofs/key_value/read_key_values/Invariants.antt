@@ -1,5 +1,5 @@
 use Rattle.std.proofs.Common.{length}
-use Rattle.pg_config.specs.KeyValue.{front_of}
+use Rattle.pg_config.specs.KeyValueReading.{front_of}
 use Rattle.pg_config.specs.Options.{applies}
 use Rattle.pg_config.specs.Settings.{defaults}
 use Rattle.pg_config.proofs.Readings.{IsReadTo}

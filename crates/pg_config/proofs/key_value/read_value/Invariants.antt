@@ -1,5 +1,5 @@
 use Rattle.std.proofs.Common.{◌≡◌, false, drop, string_bytes}
-use Rattle.pg_config.specs.KeyValue.{value_at}
+use Rattle.pg_config.specs.KeyValueReading.{value_at}
 use Rattle.pg_config.proofs.Runs.{after_bytes}
 use Rattle.pg_config.proofs.key_value.read_value.Given as goal
 

@@ -1,4 +1,4 @@
-use Rattle.pg_config.specs.Urls.{is_of_hosts}
+use Rattle.pg_config.specs.UrlReading.{is_of_hosts}
 use Rattle.pg_config.proofs.Runs.{IsRunTo}
 use Rattle.pg_config.proofs.url.cut_hosts.Given as goal
 

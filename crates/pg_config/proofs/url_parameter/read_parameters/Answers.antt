@@ -1,6 +1,7 @@
 use Rattle.std.proofs.Common.{sym}
-use Rattle.pg_config.specs.Urls.{parameter, parameter_at}
-use Rattle.pg_config.proofs.Readings.{broken_only, broken_said, done_only, done_said, fault_only, fault_said, read_more}
+use Rattle.pg_config.specs.UrlReading.{parameter_at}
+use Rattle.pg_config.specs.Urls.{parameter}
+use Rattle.pg_config.proofs.Readings.{broken_only, done_only, fault_only, fault_said, read_more}
 use Rattle.pg_config.proofs.url_parameter.read_parameters.Goals as goal
 
 pub returns-in-Err-clause-said : goal.returns-in-Err-clause-said

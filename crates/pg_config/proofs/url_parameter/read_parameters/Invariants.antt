@@ -1,5 +1,6 @@
 use Rattle.std.proofs.Common.{length}
-use Rattle.pg_config.specs.Urls.{parameter, parameter_at}
+use Rattle.pg_config.specs.UrlReading.{parameter_at}
+use Rattle.pg_config.specs.Urls.{parameter}
 use Rattle.pg_config.proofs.Readings.{IsReadTo}
 use Rattle.pg_config.proofs.url_parameter.read_parameters.Given as goal
 

@@ -1,6 +1,7 @@
 use Rattle.std.proofs.Common.{sym, subst}
-use Rattle.pg_config.specs.Parameters.{Says}
-use Rattle.pg_config.specs.Urls.{parameter, parameter_at}
+use Rattle.pg_config.specs.ParameterReading.{Says}
+use Rattle.pg_config.specs.UrlReading.{parameter_at}
+use Rattle.pg_config.specs.Urls.{parameter}
 use Rattle.pg_config.proofs.Wholes.{url_rest}
 use Rattle.pg_config.proofs.url_parameter.read_url.Goals as goal
 

@@ -1,7 +1,7 @@
 use Rattle.std.proofs.Common.{◌≡◌, option_map}
 use Rattle.pg_config.specs.Pieces.{pieces}
 use Rattle.pg_config.specs.Reading.{pieces_left}
-use Rattle.pg_config.specs.Urls.{each_place}
+use Rattle.pg_config.specs.UrlReading.{each_place}
 use Rattle.pg_config.proofs.ReadAll.{left_size}
 use Rattle.pg_config.proofs.config.Config.each_place.Given as goal
 
