@@ -51,6 +51,7 @@ keeps_same l = record {
   counts = record { faults = omega arith; quiet = omega arith; dry = omega arith; blocked = omega arith; lulls = omega arith; ends = omega arith };
   plan = refl;
   steady = λ x. x;
+  in_plan = λ x. x;
 }
 
 pub keeps_then : (a b c : LinkView) → Keeps a b → Keeps b c → Keeps a c
@@ -65,6 +66,7 @@ keeps_then a b c k m = record {
   };
   plan = m.plan ∙ k.plan;
   steady = λ x. m.steady (k.steady x);
+  in_plan = λ x. m.in_plan (k.in_plan x);
 }
 
 pub untouched_same : (l : LinkView) → Untouched l l

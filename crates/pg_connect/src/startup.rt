@@ -223,7 +223,7 @@ impl Startup {
     }
 
     /// Passes the frame on once it was taken whole. `false`: the link isn't ready.
-    #[tactic(auto, using(crate::proofs::Calm::calm_then, crate::proofs::Calm::calm_call, crate::proofs::Calm::calm_more, crate::proofs::Calm::calm_same))]
+    #[tactic(auto, using(crate::proofs::Calm::calm_then, crate::proofs::Calm::calm_call, crate::proofs::Calm::calm_more, crate::proofs::Calm::calm_same, crate::proofs::Joining::keeps_same))]
     fn send<L: Link>(&mut self, link: &mut L) -> Result<bool, Error>
         ensures sends { Sends self.old self.new (L.view link.old) (L.view link.new) }
         ensures end { SentEnds self.new (L.view link.old) (L.view link.new) result }
@@ -260,7 +260,7 @@ impl Startup {
     }
 
     /// Reads a piece of the link into the buffer. `false`: the link isn't ready.
-    #[tactic(auto, using(crate::proofs::Calm::calm_then, crate::proofs::Calm::calm_call, crate::proofs::Calm::calm_more, crate::proofs::Calm::calm_same))]
+    #[tactic(auto, using(crate::proofs::Calm::calm_then, crate::proofs::Calm::calm_call, crate::proofs::Calm::calm_more, crate::proofs::Calm::calm_same, crate::proofs::Joining::keeps_same))]
     fn read_piece<L: Link>(&mut self, link: &mut L) -> Result<bool, Error>
         requires limit { self.old.max_bytes < 2 ^ 63 }
         requires given { self.old.given ≤ self.old.max_bytes }

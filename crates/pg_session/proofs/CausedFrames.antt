@@ -31,7 +31,7 @@ abbrev frame-in : Result (List ℕ) FrameFault → List ℕ
 frame-in (Ok frame) = frame
 frame-in (Err fault) = []
 
-written : (texts : List (List ℕ)) (counts : List ℕ) (n : ℕ) (frame x : List ℕ) → unless_fault (frame_fault texts counts n) frame ≡ Ok x → Written n frame x
+pub written : (texts : List (List ℕ)) (counts : List ℕ) (n : ℕ) (frame x : List ℕ) → unless_fault (frame_fault texts counts n) frame ≡ Ok x → Written n frame x
 written texts counts n frame x = by_tests (list_any has_zero texts) (list_any (λ count. nat_lt 65535 count) counts) (nat_lt 2147483647 n) refl
   where
     by_tests : (a b c : Bool) → nat_lt 2147483647 n ≡ c → unless_fault (if a then Some ZeroByte else if b then Some TooMany else if c then Some TooLong else None) frame ≡ Ok x → Written n frame x

@@ -28,7 +28,7 @@ use Rattle.pg_session.proofs.CompleteStart.{done-later, front-startup, never-ref
 use Rattle.pg_session.proofs.CrossedStart.{no-frames}
 
 -- a connection string means one thing
-means-one : (text : List ℕ) (s : Settings) (user : List ℕ) → Means text s → Means text (only_user user) → s ≡ only_user user
+pub means-one : (text : List ℕ) (s : Settings) (user : List ℕ) → Means text s → Means text (only_user user) → s ≡ only_user user
 means-one text s user a b =
     let same : a.0 ≡ b.0 = ap (drop 5) (sym a.2 ∙ b.2) in
     a.3 ∙ ap only_user same ∙ sym b.3
@@ -327,3 +327,4 @@ module _ (call : Call) (user : List ℕ) (plan : Plan) (g t : List ℕ) (means :
       not-awaited a.0 (dialogue-says (λ s g t. IsAwaited call s g t) a.1)
   ends-well (faults.LimitReached given limit) h = within given limit h
   ends-well faults.OutOfMemory h = tt
+  ends-well _ h = absurd h

@@ -67,3 +67,6 @@ pub mod CompleteBytes
 pub mod CompleteGroups
 pub mod CompleteStart
 pub mod Complete
+pub mod CompleteCourse
+pub mod TurnsCounted
+pub mod TurnsAsked

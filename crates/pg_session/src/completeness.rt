@@ -1,11 +1,12 @@
 //! Where a session has nothing to fail for. The body does nothing.
 
-ghost use Rattle.std.specs.Prelude.{ℕ, List, Err};
-ghost use Rattle.pg_spec.specs.Causes.{Call, HasCause};
+ghost use Rattle.std.specs.Prelude.{ℕ, List, Err, ⊤};
+ghost use Rattle.pg_spec.specs.Causes.{Call, HasCause, OfDialogue, WithSettings};
 ghost use Rattle.pg_spec.specs.ConnectionStrings.{only_user, Means};
 ghost use Rattle.pg_spec.specs.Faults.{Failure};
 ghost use Rattle.pg_spec.specs.Links.{Plan};
-ghost use Rattle.pg_spec.specs.Promises.{Conforms, EndsWell, IsValid};
+ghost use Rattle.pg_spec.specs.Promises.{Conforms, EndsWell, IsValid, MustEndWell, SentInOrder};
+ghost use Rattle.pg_wire.specs.LinkCalls.{Continues, Tells};
 ghost use Rattle.pg_session.specs.Course.{HoldsCourse};
 
 /// Over a link that conforms and held its course, no failure of a session with valid input has a cause, but want of
@@ -14,4 +15,11 @@ pub fn what_may_fail_over_a_link_that_conforms()
     ensures { (call : Call) (user : List ℕ) (plan : Plan) (given taken : List ℕ) (failure : Failure) → Means call.config (only_user user) →
         IsValid call (only_user user) plan → Conforms call (only_user user) plan taken → HoldsCourse call plan given taken →
         HasCause call failure → EndsWell (Err failure) }
+{}
+
+/// Where a session failed for a cause, and what it sent is in order, it failed for want of memory if its input was valid and
+/// its link conforms.
+pub fn valid_input_ends_well()
+    ensures { (call : Call) (failure : Failure) → Tells call.before → Tells call.after → Continues call.before call.after →
+        (WithSettings call (λ s. ⊤) → OfDialogue call (λ s g t. SentInOrder call s g t)) → HasCause call failure → MustEndWell call (Err failure) }
 {}
