@@ -16,3 +16,4 @@ pub mod Causing
 pub mod Limiting
 pub mod Sending
 pub mod Calming
+pub mod Completing

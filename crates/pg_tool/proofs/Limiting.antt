@@ -52,17 +52,7 @@ failed_so call (error.LimitReached given limit) holds cause =
     (λ g t count more. ap (λ (n : ℕ). LimitReached n limit) (sym count) ∙ ap (λ (n : ℕ). LimitReached (length g) n) cause.asked) cause.counted
 failed_so call error.OutOfMemory holds cause =
     any_bytes call.before call.after (λ g t. call.limit < length g → Unless {R = told.Report} (λ failure. failure ≡ LimitReached (length g) call.limit) (Err (failure_of error.OutOfMemory))) (λ g t more. tt)
-failed_so call (error.Io c) holds cause = within_so call (Err (failure_of (error.Io c))) holds
-failed_so call error.UnexpectedMessage holds cause = within_so call (Err (failure_of error.UnexpectedMessage)) holds
-failed_so call (error.Tls c) holds cause = within_so call (Err (failure_of (error.Tls c))) holds
-failed_so call error.Closed holds cause = within_so call (Err (failure_of error.Closed)) holds
-failed_so call (error.Db fields) holds cause = within_so call (Err (failure_of (error.Db fields))) holds
-failed_so call (error.Parse c) holds cause = within_so call (Err (failure_of (error.Parse c))) holds
-failed_so call (error.Encode c) holds cause = within_so call (Err (failure_of (error.Encode c))) holds
-failed_so call (error.Authentication c) holds cause = within_so call (Err (failure_of (error.Authentication c))) holds
-failed_so call (error.ConfigParse c) holds cause = within_so call (Err (failure_of (error.ConfigParse c))) holds
-failed_so call (error.Config c) holds cause = within_so call (Err (failure_of (error.Config c))) holds
-failed_so call (error.Stalled before after) holds cause = within_so call (Err (failure_of (error.Stalled before after))) holds
+failed_so call e holds cause = within_so call (Err (failure_of e)) holds
 
 -- by what a session answered
 pub keeps_limit : (call : Call) (r : Result Report Error) → IfOk r (λ report. OfBytes call.before call.after (λ g t. length g ≤ call.limit)) → IfErr r (HoldsLimit call) →

@@ -3,7 +3,7 @@ use Rattle.std.proofs.Common.{◌≡◌, ℕ, zero, suc, List, [], ◌∷◌, �
 use Rattle.std.specs.List.{concat}
 use Rattle.pg_spec.specs.Causes.{Call, HasCause, IsNotBuilt}
 use Rattle.pg_spec.specs.Links.{LinkView, Plan}
-use Rattle.pg_spec.specs.Promises.{NoneKeptBack}
+use Rattle.pg_spec.specs.Promises.{MustEndWell, NoneKeptBack}
 use Rattle.pg_spec.specs.Report as said
 use Rattle.pg_wire.specs.LinkCalls.{Continues}
 use Rattle.pg_wire.specs.declared.memory_link.MemoryLink.TheInside.{Inside}
@@ -87,9 +87,10 @@ pub played_over : (config nonce turns : List ℕ) (s : Session) (m : Memory) (r 
     KeepsLimit (asked config nonce turns s (link_of m)) (result_of r) →
     SendsInOrder (asked config nonce turns s (link_of m)) (result_of r) →
     NoneKeptBack (asked config nonce turns s (link_of m)) (result_of r) →
+    MustEndWell (asked config nonce turns s (link_of m)) (result_of r) →
     (IsNotBuilt (asked config nonce turns s (link_of m)) → (r ≡ Err (error.Config cause.NotBuilt)) × (link_of m ≡ link_of s.link)) →
     (rest : List ℕ) × (m.given ++ rest ≡ concat m.entries) → IsPlayed (session_of s) (result_of r)
-played_over config nonce turns s m r new config_is nonce_is turns_is link ended ran caused limit sent none_kept_back refused front = record {
+played_over config nonce turns s m r new config_is nonce_is turns_is link ended ran caused limit sent none_kept_back must_end_well refused front = record {
   after = link_of m;
   given = m.given;
   taken = m.taken;
@@ -109,6 +110,7 @@ played_over config nonce turns s m r new config_is nonce_is turns_is link ended 
   limit = subst (λ (call : Call). KeepsLimit call (result_of r)) (asked_is config nonce turns s (link_of m) new config_is nonce_is turns_is) limit;
   sent = subst (λ (call : Call). SendsInOrder call (result_of r)) (asked_is config nonce turns s (link_of m) new config_is nonce_is turns_is) sent;
   none_kept_back = subst (λ (call : Call). NoneKeptBack call (result_of r)) (asked_is config nonce turns s (link_of m) new config_is nonce_is turns_is) none_kept_back;
+  must_end_well = subst (λ (call : Call). MustEndWell call (result_of r)) (asked_is config nonce turns s (link_of m) new config_is nonce_is turns_is) must_end_well;
   refused = λ asks. (ap result_of (answer asks).0, (answer asks).1 ∙ first);
 }
   where

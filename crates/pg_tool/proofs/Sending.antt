@@ -25,19 +25,7 @@ abbrev IsInOrder : Call → Type 0
 IsInOrder call = OfDialogue call (λ s g t. SentInOrder call s g t)
 
 sent_then : (call : Call) (e : Error) → IsInOrder call → SendsInOrder call (Err (failure_of e))
-sent_then call (error.Io cause) sent = λ w. sent
-sent_then call error.UnexpectedMessage sent = λ w. sent
-sent_then call (error.Tls cause) sent = λ w. sent
-sent_then call error.Closed sent = λ w. sent
-sent_then call (error.Db fields) sent = λ w. sent
-sent_then call (error.Parse cause) sent = λ w. sent
-sent_then call (error.Encode cause) sent = λ w. sent
-sent_then call (error.Authentication cause) sent = λ w. sent
-sent_then call (error.ConfigParse cause) sent = λ w. sent
-sent_then call (error.Config cause) sent = λ w. sent
-sent_then call (error.Stalled before after) sent = λ w. sent
-sent_then call (error.LimitReached given limit) sent = λ w. sent
-sent_then call error.OutOfMemory sent = λ w. sent
+sent_then call e sent = λ w. sent
 
 start_sent : (call : Call) (user : List ℕ) (s : Startup) (e : Error) → Means call.config (only_user user) → OpenEnds user call.nonce call.before call.after s (Err e) → IsInOrder call
 start_sent call user s (error.Stalled a b) means ends = sent-stopped call user s a b means ends
@@ -72,18 +60,7 @@ asks_by config user nonce scripts turns limit before after (error.Stalled a b) m
     stopped-kept (call_of config nonce scripts turns limit before after) user start.startup a b means start.ends
 asks_by config user nonce scripts turns limit before after (error.Stalled a b) means (inr (inr (inr later))) =
     broken-kept (call_of config nonce scripts turns limit before after) user scripts (error.Stalled a b) means later.broken later.limited a b refl refl
-asks_by config user nonce scripts turns limit before after (error.Io cause) means fails = tt
-asks_by config user nonce scripts turns limit before after error.UnexpectedMessage means fails = tt
-asks_by config user nonce scripts turns limit before after (error.Tls cause) means fails = tt
-asks_by config user nonce scripts turns limit before after error.Closed means fails = tt
-asks_by config user nonce scripts turns limit before after (error.Db fields) means fails = tt
-asks_by config user nonce scripts turns limit before after (error.Parse cause) means fails = tt
-asks_by config user nonce scripts turns limit before after (error.Encode cause) means fails = tt
-asks_by config user nonce scripts turns limit before after (error.Authentication cause) means fails = tt
-asks_by config user nonce scripts turns limit before after (error.ConfigParse cause) means fails = tt
-asks_by config user nonce scripts turns limit before after (error.Config cause) means fails = tt
-asks_by config user nonce scripts turns limit before after (error.LimitReached given most) means fails = tt
-asks_by config user nonce scripts turns limit before after error.OutOfMemory means fails = tt
+asks_by config user nonce scripts turns limit before after _ means fails = tt
 
 pub asks_all : (config user nonce : List ℕ) (scripts : List (List Command)) (turns : List ℕ) (limit : ℕ) (before after : LinkView) (r : Result Report Error) → Means config (only_user user) →
     OnOk r (StaysCalm before after) → IfErr r (SessionFails user nonce scripts limit before after) → NoneKeptBack (call_of config nonce scripts turns limit before after) (result_of r)

@@ -1,7 +1,7 @@
 -- What a run of the program wrote, and its status.
 use Rattle.std.proofs.Common.{◌≡◌, ◌≢◌, ℕ, ◌≤◌, inl, inr, List, length, Option, Some, None, Ok, Err, refl, sym, subst, ◌∙◌, arith}
 use Rattle.std.specs.Prelude.{IfSome}
-use Rattle.pg_spec.specs.Faults.{Failure, Io, UnexpectedMessage, Tls, Closed, Db, Parse, Encode, Authentication, ConfigParse, Config, Stalled, LimitReached, OutOfMemory}
+use Rattle.pg_spec.specs.Faults.{Failure, OutOfMemory}
 use Rattle.pg_spec.specs.Links.{Rose}
 use Rattle.pg_spec.specs.ReportText.{report_text, error_text}
 use Rattle.pg_spec.specs.Report.{Report}
@@ -11,6 +11,7 @@ use Rattle.pg_errors.specs.declared.error.Error.{Error}
 use Rattle.pg_errors.specs.declared.error.Error.TheVariants as error
 use Rattle.pg_errors.specs.Views.{failure_of}
 use Rattle.pg_tool.specs.Reading.{longest_text, ReadWhole}
+use Rattle.pg_tool.proofs.Completing.{must_text}
 use Rattle.pg_tool.specs.SessionContract.{SessionResult}
 use Rattle.pg_tool.specs.RunContract.{Answered, EndsWith, IsPlayed, IsRefused, NotPlayed, PlayedText, RefusedLine, Run, RunContract, SaysResult, StatusSays, Written, play, usage}
 
@@ -20,19 +21,8 @@ pub answered_ok : (old new : SinkView) (status : ℕ) (report : Report) → Writ
 answered_ok old new status report w = record { says = w.ends; sink_failed = w.sink_failed (λ e. cc e) }
 
 says_failed : (old new : SinkView) (status : ℕ) (e : Error) → e ≢ error.OutOfMemory → EndsWith old new (error_text (failure_of e)) 1 status → SaysResult old new status (Err (failure_of e))
-says_failed old new status (error.Io cause) other ends = ends
-says_failed old new status error.UnexpectedMessage other ends = ends
-says_failed old new status (error.Tls cause) other ends = ends
-says_failed old new status error.Closed other ends = ends
-says_failed old new status (error.Db fields) other ends = ends
-says_failed old new status (error.Parse cause) other ends = ends
-says_failed old new status (error.Encode cause) other ends = ends
-says_failed old new status (error.Authentication cause) other ends = ends
-says_failed old new status (error.ConfigParse cause) other ends = ends
-says_failed old new status (error.Config cause) other ends = ends
-says_failed old new status (error.Stalled before after) other ends = ends
-says_failed old new status (error.LimitReached given limit) other ends = ends
 says_failed old new status error.OutOfMemory other ends = absurd (other refl)
+says_failed old new status _ other ends = ends
 
 pub answered_failed : (old new : SinkView) (status : ℕ) (e : Error) → e ≢ error.OutOfMemory → Written old new (error_text (failure_of e)) 1 status → Answered old new status (Err (failure_of e))
 answered_failed old new status e other w = record { says = says_failed old new status e other w.ends; sink_failed = w.sink_failed (λ e. cc e) }
@@ -45,19 +35,8 @@ ends_not_3 old new text due status (inr (inl e, front)) other is = omega (arith,
 ends_not_3 old new text due status (inr (inr e, front)) other is = omega (arith, e, is)
 
 failed_not_3 : (old new : SinkView) (status : ℕ) (failure : Failure) → SaysResult old new status (Err failure) → status ≡ 3 → ⊥
-failed_not_3 old new status (Io cause) says is = ends_not_3 old new _ 1 status says (λ e. cc e) is
-failed_not_3 old new status UnexpectedMessage says is = ends_not_3 old new _ 1 status says (λ e. cc e) is
-failed_not_3 old new status (Tls cause) says is = ends_not_3 old new _ 1 status says (λ e. cc e) is
-failed_not_3 old new status Closed says is = ends_not_3 old new _ 1 status says (λ e. cc e) is
-failed_not_3 old new status (Db error) says is = ends_not_3 old new _ 1 status says (λ e. cc e) is
-failed_not_3 old new status (Parse cause) says is = ends_not_3 old new _ 1 status says (λ e. cc e) is
-failed_not_3 old new status (Encode cause) says is = ends_not_3 old new _ 1 status says (λ e. cc e) is
-failed_not_3 old new status (Authentication cause) says is = ends_not_3 old new _ 1 status says (λ e. cc e) is
-failed_not_3 old new status (ConfigParse cause) says is = ends_not_3 old new _ 1 status says (λ e. cc e) is
-failed_not_3 old new status (Config cause) says is = ends_not_3 old new _ 1 status says (λ e. cc e) is
-failed_not_3 old new status (Stalled before after) says is = ends_not_3 old new _ 1 status says (λ e. cc e) is
-failed_not_3 old new status (LimitReached given limit) says is = ends_not_3 old new _ 1 status says (λ e. cc e) is
 failed_not_3 old new status OutOfMemory says is = omega (arith, says.0, is)
+failed_not_3 old new status _ says is = ends_not_3 old new _ 1 status says (λ e. cc e) is
 
 text_not_3 : (bytes : List ℕ) (old new : SinkView) (status : ℕ) (result : Option SessionResult) → PlayedText bytes old new status result → status ≡ 3 → ⊥
 text_not_3 bytes old new status None (inl refused) is = ends_not_3 old new _ 2 status refused.2.ends (λ e. cc e) is
@@ -95,6 +74,7 @@ run_usage run other none w = record {
   source_failed = λ is. absurd (ends_not_3 _ _ _ 2 run.status w.ends (λ e. cc e) is);
   sink_failed = w.sink_failed (λ e. cc e);
   session = no_session _ run.result none;
+  must_play = λ bytes text words left within is made calm_source calm_sink. absurd (other words);
 }
 
 text_status : (run : Run) (bytes : List ℕ) (result : Option SessionResult) → run.words ≡ play → IfSome run.source_before.left (λ left. left ≡ bytes) →
@@ -123,4 +103,5 @@ run_text run bytes words read played = record {
   source_failed = λ is. absurd (text_not_3 bytes _ _ run.status run.result played is);
   sink_failed = text_sink_failed bytes _ _ run.status run.result played;
   session = text_session run bytes run.result words read played;
+  must_play = must_text run bytes read played;
 }

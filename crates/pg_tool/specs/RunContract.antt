@@ -1,10 +1,13 @@
 -- The contract of the program: what it writes, and its exit status.
-use Rattle.std.specs.Prelude.{◌≡◌, ◌≢◌, ℕ, ◌<◌, ◌≤◌, ◌⊎◌, true, false, List, [], ◌∷◌, ◌++◌, length, Result, Ok, Err, Option, Some, None, IfSome, IfOk, IfErr, codes, decimal}
+use Rattle.std.specs.Prelude.{◌≡◌, ◌≢◌, ℕ, ◌+◌, ◌<◌, ◌≤◌, ◌⊎◌, true, false, List, [], ◌∷◌, ◌++◌, length, Result, Ok, Err, Option, Some, None, IfSome, IfOk, IfErr, codes, decimal}
 use Rattle.std.specs.List.{concat}
 use Rattle.pg_spec.specs.Causes.{Call, HasCause, IsNotBuilt}
 use Rattle.pg_spec.specs.Faults.{Failure, OutOfMemory, Config, NotBuilt}
-use Rattle.pg_spec.specs.Links.{LinkView, Rose, Grew}
-use Rattle.pg_spec.specs.Promises.{NoneKeptBack}
+use Rattle.pg_spec.specs.ConnectionStrings.{Means}
+use Rattle.pg_spec.specs.Links.{LinkView, Plan, Rose, Grew}
+use Rattle.pg_spec.specs.Promises.{Conforms, IsValid, MustEndWell, NoneKeptBack, requests_in}
+use Rattle.pg_spec.specs.Sent.{turns_given}
+use Rattle.pg_spec.specs.Settings.{Settings}
 use Rattle.pg_spec.specs.ReportText.{report_text, error_text}
 use Rattle.pg_spec.specs.SessionText.{SessionText, IsSessionText, IsRefusedAt}
 use Rattle.pg_wire.specs.LinkCalls.{Tells, Continues}
@@ -23,12 +26,16 @@ pub record Run : Type 0 where
   pub status : ℕ
   pub result : Option SessionResult
 
+-- what a text's link will give
+abbrev pub plan_of : SessionText → Plan
+plan_of text = record { entries = text.plan; ends = false; is_troubled = false }
+
 -- a link in memory, before its first call
 abbrev pub new_link : SessionText → LinkView
 new_link text = record {
   given = Some [];
   taken = Some [];
-  plan = Some (record { entries = text.plan; ends = false; is_troubled = false });
+  plan = Some (plan_of text);
   due = Some [];
   steady = true;
   promised = false;
@@ -76,6 +83,7 @@ pub record IsPlayed (text : SessionText) (result : SessionResult) : Type 0 where
   pub limit : KeepsLimit (call_of text after) result
   pub sent : SendsInOrder (call_of text after) result
   pub none_kept_back : NoneKeptBack (call_of text after) result
+  pub must_end_well : MustEndWell (call_of text after) result
   pub refused : IsNotBuilt (call_of text after) → (result ≡ Err (Config NotBuilt)) × (after ≡ new_link text)
 
 -- With the status that is due the text was written whole, with 4 or 5 a front of it; and nothing else was.
@@ -159,6 +167,21 @@ StatusSays run None = ((run.words ≢ play) × Ends run 2 usage)
     ⊎ ((run.words ≡ play) × (why : Option ℕ) × IfSome run.source_before.left (λ text. IsRefused text why) × Ends run 2 (refusal why))
     ⊎ (((run.status ≡ 3) ⊎ (run.status ≡ 5)) × Wrote run [])
 
+-- The text's session is valid input, and its plan is what a server that conforms gives it: an answer to the
+-- startup's frame, and one to each request, however many of them were sent.
+pub record IsWellMade (text : SessionText) : Type 0 where
+  pub settings : Settings
+  pub means : Means text.config settings
+  pub valid : IsValid (call_of text (new_link text)) settings (plan_of text)
+  pub conforms : (taken : List ℕ) → turns_given taken ≤ 1 + requests_in text.scripts →
+      Conforms (call_of text (new_link text)) settings (plan_of text) taken
+
+-- With `play` and such a text, where neither the source nor the sink failed, the session ended well, or memory lacked.
+abbrev pub MustPlay : Run → Type 0
+MustPlay run = (bytes : List ℕ) (text : SessionText) → run.words ≡ play → run.source_before.left ≡ Some bytes → length bytes ≤ longest_text →
+    IsSessionText bytes text → IsWellMade text → (Rose run.source_before.faults run.source_after.faults → ⊥) →
+    (Rose run.sink_before.faults run.sink_after.faults → ⊥) → (run.status ≡ 0) ⊎ (run.status ≡ 5)
+
 -- what the program promises
 pub record RunContract (run : Run) : Type 0 where
   pub status : StatusSays run run.result
@@ -168,3 +191,5 @@ pub record RunContract (run : Run) : Type 0 where
   pub session : IfSome run.result (λ result. (run.words ≡ play)
       × IfSome run.source_before.left (λ bytes. (length bytes ≤ longest_text)
       × (text : SessionText) × IsSessionText bytes text × IsPlayed text result))
+  -- a text that is well made is played well
+  pub must_play : MustPlay run

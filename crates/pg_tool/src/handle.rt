@@ -124,10 +124,7 @@ impl Handle {
             Err(Error::OutOfMemory) => return Err(Error::OutOfMemory),
             Err(error) => Answer::Failed(error),
         };
-        match self.answers.push(answer) {
-            Ok(()) => Ok(()),
-            Err(_) => Err(Error::OutOfMemory),
-        }
+        pushed(&mut self.answers, answer)
     }
 
     pub(crate) fn into_answers(self) -> List<Answer>
@@ -138,6 +135,17 @@ impl Handle {
             answers,
         } = self;
         List::new(answers)
+    }
+}
+
+/// Adds a value at the end.
+fn pushed<T: Drop>(values: &mut Vec<T>, value: T) -> Result<(), Error>
+    ensures added { OnOk result (values.new.items ≡ values.old.items ++ value ∷ []) }
+    ensures error { IfErr result (λ e. e ≡ Error.OutOfMemory) }
+{
+    match values.push(value) {
+        Ok(()) => Ok(()),
+        Err(_) => Err(Error::OutOfMemory),
     }
 }
 

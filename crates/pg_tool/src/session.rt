@@ -3,7 +3,7 @@
 ghost use Rattle.std.specs.Prelude.{◌≡◌, ◌<◌, ◌^◌, ℕ, List, Err, IfErr, IfOk, OnOk};
 ghost use Rattle.pg_spec.specs.Causes.{IsNotBuilt, HasCause};
 ghost use Rattle.pg_spec.specs.ConnectionStrings.{Means, only_user};
-ghost use Rattle.pg_spec.specs.Promises.{NoneKeptBack};
+ghost use Rattle.pg_spec.specs.Promises.{MustEndWell, NoneKeptBack};
 ghost use Rattle.pg_connect.specs.Calm.{StaysCalm};
 ghost use Rattle.pg_errors.specs.Views.{failure_of};
 ghost use Rattle.pg_session.specs.Sessions.{HasPlayed};
@@ -30,6 +30,7 @@ use std::alloc::Global;
 /// lower-case ASCII letters, or the nonce isn't in form; later only where a message of the startup is
 /// neither AuthenticationOk nor ReadyForQuery. LimitReached comes where the link gave more than
 /// `max_bytes` bytes, Stalled where two rounds or polls moved nothing, or the link has nothing to wait for.
+/// Over a link that conforms valid input answers Ok, or OutOfMemory.
 pub fn run_session<L: Link>(
     alloc: Global,
     config: &str,
@@ -54,6 +55,8 @@ pub fn run_session<L: Link>(
     ensures sent { SendsInOrder
         (call_of config.now nonce.now scripts.now turns.now max_bytes (L.view link.old) (L.view link.new)) (result_of result) }
     ensures none_kept_back { NoneKeptBack
+        (call_of config.now nonce.now scripts.now turns.now max_bytes (L.view link.old) (L.view link.new)) (result_of result) }
+    ensures must_end_well { MustEndWell
         (call_of config.now nonce.now scripts.now turns.now max_bytes (L.view link.old) (L.view link.new)) (result_of result) }
     ensures refused { IsNotBuilt (call_of config.now nonce.now scripts.now turns.now max_bytes (L.view link.old) (L.view link.new)) →
         (result ≡ Err (Error.Config Cause.NotBuilt)) × (L.view link.new ≡ L.view link.old) }

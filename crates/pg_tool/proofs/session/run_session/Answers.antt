@@ -1,8 +1,12 @@
-use Rattle.std.proofs.Common.{inl, inr, refl, ◌∙◌}
+use Rattle.std.proofs.Common.{inl, inr, Err, refl, sym, ◌∙◌}
 use Rattle.std.proofs.lemmas.Bool.{true≢false}
 use Rattle.pg_spec.specs.ConnectionStrings.{only_user}
+use Rattle.pg_errors.specs.declared.cause.Cause.TheVariants as cause
+use Rattle.pg_errors.specs.declared.error.Error.TheVariants as error
 use Rattle.pg_tool.specs.Asked.{call_of}
 use Rattle.pg_tool.proofs.Causing.{caused}
+use Rattle.pg_tool.proofs.Completing.{must_all}
+use Rattle.pg_tool.proofs.Following.{continues_same}
 use Rattle.pg_tool.proofs.Limiting.{ended_within, holds_all, keeps_limit}
 use Rattle.pg_session.proofs.SentSoFar.{sent-untouched}
 use Rattle.pg_tool.proofs.Sending.{asks_all, sends_all}
@@ -63,3 +67,20 @@ returns-clause-sent g c = sends_all c.args.config.now c.in-Some.user.now c.args.
 pub returns-clause-none_kept_back : goal.returns-clause-none_kept_back
 returns-clause-none_kept_back g c = asks_all c.args.config.now c.in-Some.user.now c.args.nonce.now c.args.scripts.now c.args.turns.now c.args.max_bytes
     (g.L.Link.view c.args.link.now) (g.L.Link.view c.play_as.new.link) c.play_as.result c.in-Some.ensures c.play_as.ensures.calm (c.play_as.ensures.fails c.args.nonce.now)
+
+pub returns-in_default-clause-must_end_well : goal.returns-in_default-clause-must_end_well
+returns-in_default-clause-must_end_well g c =
+    let link = g.L.Link.view c.args.link.now in
+    must_all (call_of c.args.config.now c.args.nonce.now c.args.scripts.now c.args.turns.now c.args.max_bytes link link) (Err (error.Config cause.NotBuilt))
+    (g.met.L.Link.tells c.args.link.now) (g.met.L.Link.tells c.args.link.now) (continues_same link) (returns-in_default-clause-sent g c) (returns-in_default-clause-cause g c)
+
+pub returns-then-not-is_in_form-clause-must_end_well : goal.returns-then-not-is_in_form-clause-must_end_well
+returns-then-not-is_in_form-clause-must_end_well g c =
+    let link = g.L.Link.view c.args.link.now in
+    must_all (call_of c.args.config.now c.args.nonce.now c.args.scripts.now c.args.turns.now c.args.max_bytes link link) (Err (error.Config cause.NotBuilt))
+    (g.met.L.Link.tells c.args.link.now) (g.met.L.Link.tells c.args.link.now) (continues_same link) (returns-then-not-is_in_form-clause-sent g c) (inl (inr (sym c.if-not-is_in_form.ensures)))
+
+pub returns-clause-must_end_well : goal.returns-clause-must_end_well
+returns-clause-must_end_well g c =
+    must_all (call_of c.args.config.now c.args.nonce.now c.args.scripts.now c.args.turns.now c.args.max_bytes (g.L.Link.view c.args.link.now) (g.L.Link.view c.play_as.new.link)) c.play_as.result
+    (g.met.L.Link.tells c.args.link.now) (g.met.L.Link.tells c.play_as.new.link) c.play_as.ensures.link (returns-clause-sent g c) (returns-clause-cause g c)

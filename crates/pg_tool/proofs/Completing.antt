@@ -1,0 +1,100 @@
+-- A session that must end well does so, and so does the program that plays it.
+use Rattle.std.proofs.Common.{◌≡◌, ◌≤◌, ◌<◌, ◌+◌, ◌⊎◌, ℕ, inl, inr, List, [], length, Option, Some, None, Result, Ok, Err, IfErr, refl, sym, ap, subst, ◌∙◌, arith}
+use Rattle.std.specs.Prelude.{IfSome}
+use Rattle.pg_spec.specs.Causes.{Call, HasCause}
+use Rattle.pg_spec.specs.Faults.{Failure, OutOfMemory}
+use Rattle.pg_spec.specs.Links.{LinkView, Plan, Rose, added}
+use Rattle.pg_spec.specs.Promises.{Conforms, EndsWell, IsValid, MustEndWell, SentInOrder, requests_in}
+use Rattle.pg_spec.specs.ReportText.{report_text}
+use Rattle.pg_spec.specs.Sent.{turns_given}
+use Rattle.pg_spec.specs.SessionText.{SessionText, IsSessionText}
+use Rattle.pg_spec.specs.Settings.{Settings}
+use Rattle.pg_wire.specs.LinkCalls.{Continues, Tells}
+use Rattle.pg_wire.specs.Streams.{SinkView}
+use Rattle.pg_errors.specs.Views.{failure_of}
+use Rattle.pg_errors.specs.declared.error.Error.{Error}
+use Rattle.pg_text.specs.declared.report.Report.{Report}
+use Rattle.pg_text.proofs.ReadLaws.{one_session, refused_is_none}
+use Rattle.pg_session.proofs.CompleteCourse.{must-end-well, of-some}
+use Rattle.pg_session.proofs.TurnsAsked.{few-turns}
+use Rattle.pg_tool.specs.Reading.{longest_text, ReadWhole}
+use Rattle.pg_tool.specs.RunContract.{EndsWith, IsPlayed, IsWellMade, MustPlay, PlayedSession, PlayedText, Run, SaysResult, call_of, new_link, plan_of}
+use Rattle.pg_tool.specs.SessionContract.{SendsInOrder, SessionResult, result_of}
+
+-- by what a session answered
+pub must_all : (call : Call) (r : Result Report Error) → Tells call.before → Tells call.after → Continues call.before call.after → SendsInOrder call (result_of r) →
+    IfErr r (λ e. HasCause call (failure_of e)) → MustEndWell call (result_of r)
+must_all call (Ok report) before after goes sent causes = λ plan s taken none_given none_taken planned told means valid conforms. tt
+must_all call (Err e) before after goes sent causes = must-end-well call (failure_of e) before after goes sent causes
+
+-- ---- the program
+
+-- a call that ended elsewhere was asked the same
+same_valid : (text : SessionText) (a b : LinkView) (s : Settings) (plan : Plan) → IsValid (call_of text a) s plan → IsValid (call_of text b) s plan
+same_valid text a b s plan v = record { user = v.user; nonce = v.nonce; frame = v.frame; no_tls = v.no_tls; no_binding = v.no_binding; limit = v.limit }
+
+same_conforms : (text : SessionText) (a b : LinkView) (s : Settings) (plan : Plan) (taken : List ℕ) → Conforms (call_of text a) s plan taken → Conforms (call_of text b) s plan taken
+same_conforms text a b s plan taken c = record {
+  untroubled = c.untroubled;
+  entries = c.entries;
+  whole = c.whole;
+  frames = c.frames;
+  started = c.started;
+  each_frame = c.each_frame;
+  all_frames = c.all_frames;
+  plain = c.plain;
+  replies = c.replies;
+  readable = c.readable;
+}
+
+-- only want of memory ends well in place of a report
+only_memory : (failure : Failure) → EndsWell (Err failure) → failure ≡ OutOfMemory
+only_memory OutOfMemory well = refl
+only_memory _ well = absurd well
+
+-- what was sent gave no more turns than the text's requests
+few_turns : (text : SessionText) (result : SessionResult) (failure : Failure) (p : IsPlayed text result) → result ≡ Err failure → IsWellMade text →
+    turns_given p.taken ≤ 1 + requests_in text.scripts
+few_turns text result failure p is made =
+    let call = call_of text p.after in
+    let sent : SendsInOrder call (Err failure) = subst (SendsInOrder call) is p.sent in
+    let crossed = sent (made.settings, made.means, tt) in
+    let user = crossed.1.0 in
+    let gave : added (Some []) p.after.given ≡ Some p.given = ap (λ o. added (Some []) o) p.told_given in
+    let took : added (Some []) p.after.taken ≡ Some p.taken = ap (λ o. added (Some []) o) p.told_taken in
+    let t = of-some (added (Some []) p.after.taken) p.taken (λ t. SentInOrder call crossed.0 p.given t) took
+    (of-some (added (Some []) p.after.given) p.given (λ g. IfSome (added (Some []) p.after.taken) (λ t. SentInOrder call crossed.0 g t)) gave crossed.2) in
+    (few-turns call user p.given p.taken (subst (λ (x : Settings). SentInOrder call x p.given p.taken) crossed.1.3 t)).requests
+
+ends_well : (text : SessionText) (result : SessionResult) (failure : Failure) → IsPlayed text result → result ≡ Err failure → IsWellMade text → EndsWell (Err failure)
+ends_well text result failure p is made =
+    subst EndsWell is
+    (p.must_end_well (plan_of text) made.settings p.taken refl refl refl p.told_taken made.means (same_valid text (new_link text) p.after made.settings (plan_of text) made.valid)
+    (same_conforms text (new_link text) p.after made.settings (plan_of text) p.taken (made.conforms p.taken (few_turns text result failure p is made))))
+
+-- the text due was written, or memory lacked
+ends_so : (old new : SinkView) (text : List ℕ) (status : ℕ) → EndsWith old new text 0 status → (status ≡ 4 → ⊥) → (status ≡ 0) ⊎ (status ≡ 5)
+ends_so old new text status (inl wrote) calm = inl wrote.0
+ends_so old new text status (inr (inl four, front)) calm = absurd (calm four)
+ends_so old new text status (inr (inr five, front)) calm = inr five
+
+result_so : (text : SessionText) (old new : SinkView) (status : ℕ) (result : SessionResult) → PlayedSession text old new status result → IsWellMade text →
+    (Rose old.faults new.faults → ⊥) → (status ≡ 0) ⊎ (status ≡ 5)
+result_so text old new status (Ok report) played made calm = ends_so old new (report_text report) status played.answered.says (λ four. calm (played.answered.sink_failed four))
+result_so text old new status (Err failure) played made calm =
+    let memory = only_memory failure (ends_well text (Err failure) failure played.played refl made) in
+    inr (subst (λ (f : Failure). SaysResult old new status (Err f)) memory played.answered.says).0
+
+text_so : (bytes : List ℕ) (text : SessionText) (old new : SinkView) (status : ℕ) (result : Option SessionResult) → PlayedText bytes old new status result → length bytes ≤ longest_text →
+    IsSessionText bytes text → IsWellMade text → (Rose old.faults new.faults → ⊥) → (status ≡ 0) ⊎ (status ≡ 5)
+text_so bytes text old new status (Some result) played within is made calm =
+    result_so text old new status result (subst (λ (t : SessionText). PlayedSession t old new status result) (one_session bytes played.0 text played.1 is) played.2) made calm
+text_so bytes text old new status None (inl (None, long, wrote)) within is made calm = absurd (omega (arith, long, within))
+text_so bytes text old new status None (inl (Some n, refused, wrote)) within is made calm = absurd (refused_is_none bytes n text refused is)
+text_so bytes text old new status None (inr nothing) within is made calm = inr nothing.0
+
+-- a text was read and played
+pub must_text : (run : Run) (bytes : List ℕ) → ReadWhole run.source_before bytes → PlayedText bytes run.sink_before run.sink_after run.status run.result → MustPlay run
+must_text run bytes read played told text words left within is made calm_source calm_sink =
+    let same : told ≡ bytes = of-some run.source_before.left told (λ l. l ≡ bytes) left read.all in
+    text_so bytes text run.sink_before run.sink_after run.status run.result played read.within (subst (λ (l : List ℕ). IsSessionText l text) same is) made calm_sink
