@@ -44,15 +44,32 @@ fn link_of(alloc: Global, entries: &[&[u8]]) -> Result<MemoryLink, AllocError> {
     Ok(MemoryLink::new(alloc, plan, 8192, 8192, false))
 }
 
+/// A startup of the user `a`.
+fn new_startup(alloc: Global) -> Result<Startup, Fail>
+    ensures limit { IfOk result (λ startup. startup.max_bytes ≡ 1000) }
+    ensures given { IfOk result (λ startup. startup.given ≡ 0) }
+{
+    match Startup::new(alloc, "a", LIMIT) {
+        Ok(startup) => Ok(startup),
+        Err(_) => Err(Fail::from("no startup")),
+    }
+}
+
+/// The first poll is the last.
+fn is_done(startup: &mut Startup, link: &mut MemoryLink) -> bool
+    requires limit { startup.old.max_bytes ≡ 1000 }
+    requires given { startup.old.given ≡ 0 }
+{
+    matches!(startup.poll(link), Poll::Ready(Ok(())))
+}
+
 /// What a startup leaves whose first poll is its last.
 fn started(alloc: Global, link: &mut MemoryLink) -> Result<(Vec<u8>, Streams), Fail> {
-    let Ok(mut startup) = Startup::new(alloc, "a", LIMIT) else {
-        return Err(Fail::from("no startup"));
-    };
-    match startup.poll(link) {
-        Poll::Ready(Ok(())) => Ok(startup.into_streams(alloc)),
-        _ => Err(Fail::from("not started")),
+    let mut startup = new_startup(alloc)?;
+    if is_done(&mut startup, link) {
+        return Ok(startup.into_streams(alloc));
     }
+    Err(Fail::from("not started"))
 }
 
 #[test]
