@@ -1,2 +1,3 @@
 pub mod RoundTrips
 pub mod Utf8
+pub mod KindLaws

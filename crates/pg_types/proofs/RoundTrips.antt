@@ -1,12 +1,11 @@
 -- What a `Value` wrote is read back.
-use Rattle.std.proofs.Common.{◌≡◌, ℕ, ℤ, pos, negsuc, unsigned_abs, Bool, true, false, not, ◌&&◌, List, [], Option, Some, None, Result, Ok, Err, refl, sym, ap, subst, ◌∙◌, if◌then◌else◌, length, ◌==◌, ◌<◌, ◌^◌, rules, arith, FitsSigned, w8, w16, w32, w64}
-use Rattle.std.specs.Int.{Width}
+use Rattle.std.proofs.Common.{◌≡◌, ℕ, ℤ, pos, negsuc, unsigned_abs, Bool, true, false, List, [], Some, None, Result, Ok, Err, refl, sym, ap, subst, ◌∙◌, if◌then◌else◌, ◌==◌, ◌<◌, ◌^◌, rules, FitsSigned, w8, w16, w32, w64}
 use Rattle.std.specs.Str.{is_utf8}
 use Rattle.pg_types.specs.declared.fault.ValueFault.{ValueFault}
 use Rattle.pg_types.specs.declared.fault.ValueFault.TheVariants as fault
 use Rattle.pg_types.specs.declared.value.Value.{Value}
 use Rattle.pg_types.specs.declared.value.Value.TheVariants as value
-use Rattle.pg_types.specs.AnyValues.{value_in, fault_in, number_given, int_given, oid_given, wrong_given, in_form, fits, fits_oid}
+use Rattle.pg_types.specs.AnyValues.{value_in, fault_in, number_given, wrong_given, fits, fits_oid}
 use Rattle.pg_types.specs.Oids.{is_text}
 use Rattle.pg_types.specs.Values.{Given, bytes_given, int_in, int_bytes, oid_in, oid_bytes}
 
@@ -46,6 +45,9 @@ fits16 z f = search rules
 fits32 : (z : ℤ) → fits w32 z ≡ true → FitsSigned w32 z
 fits32 z f = search rules
 
+fits64 : (z : ℤ) → fits w64 z ≡ true → FitsSigned w64 z
+fits64 z f = search rules
+
 same8 : (z : ℤ) → FitsSigned w8 z → int_in w8 (int_bytes w8 z) ≡ z
 same8 z f = search rules
 
@@ -76,13 +78,13 @@ decide {P} n k is isnt = go (n == k) refl
     go false e = isnt e
 
 -- a whole number
-pub number_in : (z : ℤ) → FitsSigned w64 z → (bytes : List ℕ) (n : ℕ) → number_given z n ≡ Ok (Some bytes) → value_in n bytes ≡ Ok (value.Int z)
-number_in z g bytes n =
+pub number_in : (z : ℤ) (bytes : List ℕ) (n : ℕ) → number_given z n ≡ Ok (Some bytes) → value_in n bytes ≡ Ok (value.Int z)
+number_in z bytes n =
     let P : ℕ → Type 0 = λ m. number_given z m ≡ Ok (Some bytes) → value_in m bytes ≡ Ok (value.Int z) in
     decide n 18 (λ p. subst P (sym p) (back (fits w8 z) (int_bytes w8 z) bytes fault.BadValue (value_in 18) (value.Int z) (λ f. ap (λ y. Ok (value.Int y)) (same8 z (fits8 z f))))) (λ e18.
     decide n 21 (λ p. subst P (sym p) (back (fits w16 z) (int_bytes w16 z) bytes fault.BadValue (value_in 21) (value.Int z) (λ f. ap (λ y. Ok (value.Int y)) (same16 z (fits16 z f))))) (λ e21.
     decide n 23 (λ p. subst P (sym p) (back (fits w32 z) (int_bytes w32 z) bytes fault.BadValue (value_in 23) (value.Int z) (λ f. ap (λ y. Ok (value.Int y)) (same32 z (fits32 z f))))) (λ e23.
-    decide n 20 (λ p. subst P (sym p) (back true (int_bytes w64 z) bytes fault.BadValue (value_in 20) (value.Int z) (λ f. ap (λ y. Ok (value.Int y)) (same64 z g)))) (λ e20.
+    decide n 20 (λ p. subst P (sym p) (back (fits w64 z) (int_bytes w64 z) bytes fault.BadValue (value_in 20) (value.Int z) (λ f. ap (λ y. Ok (value.Int y)) (same64 z (fits64 z f))))) (λ e20.
     decide n 26 (λ p. subst P (sym p) (back (fits_oid z) (oid_bytes (unsigned_abs z)) bytes fault.BadValue (value_in 26) (value.Int z) (λ f. ap (λ y. Ok (value.Int y)) (as_oid z f)))) (λ e26 e.
     let wrong : number_given z n ≡ wrong_given n = rw (e18, e21, e23, e20, e26) refl in
     absurd (subst IsRefused (sym wrong ∙ e) tt))))))

@@ -10,6 +10,15 @@ use Rattle.pg_types.specs.declared.value.Value.TheVariants as value
 use Rattle.pg_types.specs.Oids as oids
 use Rattle.pg_types.specs.Values.{Given, bytes_given, wrong_type, checked, bool_bytes, bool_in, int_bytes, int_in, oid_bytes, oid_in}
 
+-- the width of the signed numbers that are a type's values
+abbrev pub int_width : ℕ → Option Width
+int_width n =
+    if n == oids.char then Some w8
+    else if n == oids.int2 then Some w16
+    else if n == oids.int4 then Some w32
+    else if n == oids.int8 then Some w64
+    else None
+
 -- one of the types whose values are whole numbers
 abbrev pub is_int : ℕ → Bool
 is_int n = n == oids.char || n == oids.int2 || n == oids.int4 || n == oids.int8 || n == oids.oid
@@ -46,15 +55,14 @@ int_given w z = if fits w z then bytes_given (int_bytes w z) else Err fault.BadV
 abbrev pub oid_given : ℤ → Given
 oid_given z = if fits_oid z then bytes_given (oid_bytes (unsigned_abs z)) else Err fault.BadValue
 
+-- a whole number under a type whose values are signed numbers of this width, or aren't
+abbrev pub number_of_width : Option Width → ℤ → ℕ → Given
+number_of_width (Some w) z n = int_given w z
+number_of_width None z n = if n == oids.oid then oid_given z else wrong_given n
+
 -- a whole number
 abbrev pub number_given : ℤ → ℕ → Given
-number_given z n =
-    if n == oids.char then int_given w8 z
-    else if n == oids.int2 then int_given w16 z
-    else if n == oids.int4 then int_given w32 z
-    else if n == oids.int8 then bytes_given (int_bytes w64 z)
-    else if n == oids.oid then oid_given z
-    else wrong_given n
+number_given z n = number_of_width (int_width n) z n
 
 -- what a value gives
 abbrev pub value_gives : Value → ℕ → Given
@@ -77,18 +85,19 @@ given_at (Some v) n = value_checked v n
 abbrev pub in_form : Bool → Value → Result Value ValueFault
 in_form is_so v = if is_so then Ok v else Err fault.BadValue
 
--- the value that bytes spell, or the fault for which they are refused
-abbrev pub value_in : ℕ → List ℕ → Result Value ValueFault
-value_in n bytes =
+-- the value that bytes spell under a type whose values are signed numbers of this width, or aren't
+abbrev pub value_of_width : Option Width → ℕ → List ℕ → Result Value ValueFault
+value_of_width (Some w) n bytes = in_form (length bytes == byte_len w) (value.Int (int_in w bytes))
+value_of_width None n bytes =
     if n == oids.bool then in_form (length bytes == 1) (value.Bool (bool_in bytes))
-    else if n == oids.char then in_form (length bytes == 1) (value.Int (int_in w8 bytes))
-    else if n == oids.int2 then in_form (length bytes == 2) (value.Int (int_in w16 bytes))
-    else if n == oids.int4 then in_form (length bytes == 4) (value.Int (int_in w32 bytes))
-    else if n == oids.int8 then in_form (length bytes == 8) (value.Int (int_in w64 bytes))
     else if n == oids.oid then in_form (length bytes == 4) (value.Int (pos (oid_in bytes)))
     else if oids.is_text n then in_form (is_utf8 bytes) (value.Text bytes)
     else if n == oids.bytea then Ok (value.Bytes bytes)
     else Err (fault.WrongType (wrong_type n rust.Value))
+
+-- the value that bytes spell, or the fault for which they are refused
+abbrev pub value_in : ℕ → List ℕ → Result Value ValueFault
+value_in n bytes = value_of_width (int_width n) n bytes
 
 -- the value that is spelled; null is Null
 abbrev pub SpellsValue : ℕ → Option (List ℕ) → Value → Type 0

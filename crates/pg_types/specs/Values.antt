@@ -31,11 +31,11 @@ abbrev pub checked : Bool → ℕ → RustType → Given → Given
 checked accepted oid rust given = if accepted then given else Err (fault.WrongType (wrong_type oid rust))
 
 -- the value's bytes stand behind what was there; with null and with a fault what was there stays. A
--- fault is want of memory or the value's own
+-- fault is the value's own, or want of memory where there are bytes to write
 abbrev pub Writes : Given → List ℕ → List ℕ → Result IsNull ValueFault → Type 0
 Writes given old new (Ok null.No) = (bytes : List ℕ) × (given ≡ Ok (Some bytes)) × (new ≡ old ++ bytes)
 Writes given old new (Ok null.Yes) = (given ≡ Ok None) × (new ≡ old)
-Writes given old new (Err f) = ((f ≡ fault.OutOfMemory) ⊎ (given ≡ Err f)) × (new ≡ old)
+Writes given old new (Err f) = (((bytes : List ℕ) × (given ≡ Ok (Some bytes)) × (f ≡ fault.OutOfMemory)) ⊎ (given ≡ Err f)) × (new ≡ old)
 
 -- reading may lack memory: there are bytes, and the Rust type owns memory
 abbrev pub may_lack : Bool → Option (List ℕ) → Bool

@@ -32,10 +32,9 @@ impl Blob {
     pub fn from_slice(alloc: Global, bytes: &[u8]) -> Result<Blob, OutOfMemory>
         ensures { IfOk result (λ b. b ≡ bytes.now) }
     {
-        match Vec::from_slice(alloc, bytes) {
-            Ok(bytes) => Ok(Blob { bytes }),
-            Err(_) => Err(OutOfMemory),
-        }
+        Ok(Blob {
+            bytes: Vec::from_slice(alloc, bytes)?,
+        })
     }
 
     /// The bytes.

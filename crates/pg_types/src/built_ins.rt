@@ -4,7 +4,7 @@ ghost use Rattle.std.specs.Prelude.{◌≡◌, option_map, IfOk};
 ghost use Rattle.pg_types.specs.BuiltIns.{row_of, array_kind, kind_of, built_in_type, pg_catalog};
 
 use crate::pg_type::{Kind, PgType};
-use crate::{Oid, OutOfMemory, Text};
+use crate::{Oid, OutOfMemory, Text, oid};
 use std::alloc::Global;
 
 /// What sort of type a row of the table names.
@@ -24,27 +24,27 @@ fn row(oid: Oid) -> Option<(&'static str, Sort)>
     ensures sort { option_map (λ r. r.1) result ≡ option_map (λ r. r.sort) (row_of oid) }
 {
     match oid {
-        16 => Some(("bool", Sort::Base)),
-        17 => Some(("bytea", Sort::Base)),
-        18 => Some(("char", Sort::Base)),
-        19 => Some(("name", Sort::Base)),
-        20 => Some(("int8", Sort::Base)),
-        21 => Some(("int2", Sort::Base)),
-        23 => Some(("int4", Sort::Base)),
-        25 => Some(("text", Sort::Base)),
-        26 => Some(("oid", Sort::Base)),
-        705 => Some(("unknown", Sort::Base)),
-        1042 => Some(("bpchar", Sort::Base)),
-        1043 => Some(("varchar", Sort::Base)),
-        2278 => Some(("void", Sort::Pseudo)),
-        1000 => Some(("_bool", Sort::ArrayOf(16))),
-        1001 => Some(("_bytea", Sort::ArrayOf(17))),
-        1005 => Some(("_int2", Sort::ArrayOf(21))),
-        1007 => Some(("_int4", Sort::ArrayOf(23))),
-        1009 => Some(("_text", Sort::ArrayOf(25))),
-        1015 => Some(("_varchar", Sort::ArrayOf(1043))),
-        1016 => Some(("_int8", Sort::ArrayOf(20))),
-        1028 => Some(("_oid", Sort::ArrayOf(26))),
+        oid::BOOL => Some(("bool", Sort::Base)),
+        oid::BYTEA => Some(("bytea", Sort::Base)),
+        oid::CHAR => Some(("char", Sort::Base)),
+        oid::NAME => Some(("name", Sort::Base)),
+        oid::INT8 => Some(("int8", Sort::Base)),
+        oid::INT2 => Some(("int2", Sort::Base)),
+        oid::INT4 => Some(("int4", Sort::Base)),
+        oid::TEXT => Some(("text", Sort::Base)),
+        oid::OID => Some(("oid", Sort::Base)),
+        oid::UNKNOWN => Some(("unknown", Sort::Base)),
+        oid::BPCHAR => Some(("bpchar", Sort::Base)),
+        oid::VARCHAR => Some(("varchar", Sort::Base)),
+        oid::VOID => Some(("void", Sort::Pseudo)),
+        oid::BOOL_ARRAY => Some(("_bool", Sort::ArrayOf(oid::BOOL))),
+        oid::BYTEA_ARRAY => Some(("_bytea", Sort::ArrayOf(oid::BYTEA))),
+        oid::INT2_ARRAY => Some(("_int2", Sort::ArrayOf(oid::INT2))),
+        oid::INT4_ARRAY => Some(("_int4", Sort::ArrayOf(oid::INT4))),
+        oid::TEXT_ARRAY => Some(("_text", Sort::ArrayOf(oid::TEXT))),
+        oid::VARCHAR_ARRAY => Some(("_varchar", Sort::ArrayOf(oid::VARCHAR))),
+        oid::INT8_ARRAY => Some(("_int8", Sort::ArrayOf(oid::INT8))),
+        oid::OID_ARRAY => Some(("_oid", Sort::ArrayOf(oid::OID))),
         _ => None,
     }
 }

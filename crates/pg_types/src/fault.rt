@@ -1,6 +1,6 @@
 //! Why a value can't be written or read.
 
-use crate::Oid;
+use crate::{Oid, OutOfMemory};
 use std::alloc::AllocError;
 use thiserror::Error;
 
@@ -56,6 +56,17 @@ impl From<AllocError> for ValueFault {
     ghost from_gives = { λ _ e. e ≡ OutOfMemory };
 
     fn from(_: AllocError) -> ValueFault {
+        ValueFault::OutOfMemory
+    }
+}
+
+impl From<OutOfMemory> for ValueFault {
+    ghost use Rattle.std.specs.Prelude.{◌≡◌};
+    ghost use Rattle.pg_types.specs.declared.fault.ValueFault.TheVariants.{OutOfMemory};
+
+    ghost from_gives = { λ _ e. e ≡ OutOfMemory };
+
+    fn from(_: OutOfMemory) -> ValueFault {
         ValueFault::OutOfMemory
     }
 }

@@ -32,10 +32,9 @@ impl<T: Drop> Held<T> {
     pub(crate) fn new(alloc: Global, value: T) -> Result<Held<T>, OutOfMemory>
         ensures { IfOk result (λ b. b ≡ value) }
     {
-        match Box::new(alloc, value) {
-            Ok(inner) => Ok(Held { inner }),
-            Err(_) => Err(OutOfMemory),
-        }
+        Ok(Held {
+            inner: Box::new(alloc, value)?,
+        })
     }
 }
 

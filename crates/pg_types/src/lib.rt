@@ -17,18 +17,12 @@ mod numbers_to_sql;
 mod oid;
 mod params;
 mod pg_type;
-#[cfg(test)]
-mod tests;
 mod text;
 mod texts_from_sql;
 mod texts_to_sql;
 mod to_sql;
-#[cfg(test)]
-mod type_tests;
 mod value;
 mod value_from_sql;
-#[cfg(test)]
-mod value_tests;
 mod value_to_sql;
 
 pub use blob::Blob;
@@ -40,6 +34,6 @@ pub use memory::OutOfMemory;
 pub use oid::Oid;
 pub use params::Params;
 pub use pg_type::{Field, Kind, PgType, Type};
-pub use text::Text;
+pub use text::{Text, copy_optional, optional_str};
 pub use to_sql::ToSql;
 pub use value::Value;

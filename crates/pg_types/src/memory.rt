@@ -1,6 +1,6 @@
 //! Want of memory as an error of its own.
 
-use std::alloc::AllocError;
+use std::alloc::{AllocError, AllocFailed};
 use std::fmt;
 
 /// Want of memory.
@@ -15,6 +15,13 @@ impl fmt::Display for OutOfMemory {
 
 impl From<AllocError> for OutOfMemory {
     fn from(_: AllocError) -> OutOfMemory {
+        OutOfMemory
+    }
+}
+
+/// So that `?` takes a refused `push`. What wasn't stored is dropped.
+impl<T: Drop> From<AllocFailed<T>> for OutOfMemory {
+    fn from(_: AllocFailed<T>) -> OutOfMemory {
         OutOfMemory
     }
 }

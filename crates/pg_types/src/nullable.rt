@@ -58,10 +58,7 @@ impl<'a, T: FromSql<'a>> FromSql<'a> for Option<T> {
     ghost owns_memory = { T.owns_memory };
 
     fn from_sql(alloc: Global, ty: &Type, raw: &'a [u8]) -> Result<Option<T>, ValueFault> {
-        match T::from_sql(alloc, ty, raw) {
-            Ok(value) => Ok(Some(value)),
-            Err(fault) => Err(fault),
-        }
+        Ok(Some(T::from_sql(alloc, ty, raw)?))
     }
 
     fn from_sql_null(_ty: &Type) -> Result<Option<T>, ValueFault> {
@@ -103,10 +100,7 @@ impl<T: FromSqlOwned> FromSqlOwned for Option<T> {
         if raw.is_none() {
             return Ok(None);
         }
-        match T::from_sql_owned(alloc, ty, raw) {
-            Ok(value) => Ok(Some(value)),
-            Err(fault) => Err(fault),
-        }
+        Ok(Some(T::from_sql_owned(alloc, ty, raw)?))
     }
 
     fn accepts_owned(ty: &Type) -> bool {

@@ -142,9 +142,7 @@ fn copy_texts(texts: &[Text], alloc: Global) -> Result<List<Text>, OutOfMemory>
 {
     let mut copies = List::empty(alloc);
     for text in texts {
-        if copies.push(text.copy(alloc)?).is_err() {
-            return Err(OutOfMemory);
-        }
+        copies.push(text.copy(alloc)?)?;
     }
     Ok(copies)
 }
@@ -156,9 +154,7 @@ fn copy_fields(fields: &[Field], alloc: Global) -> Result<List<Field>, OutOfMemo
 {
     let mut copies = List::empty(alloc);
     for field in fields {
-        if copies.push(field.copy(alloc)?).is_err() {
-            return Err(OutOfMemory);
-        }
+        copies.push(field.copy(alloc)?)?;
     }
     Ok(copies)
 }

@@ -1,6 +1,6 @@
 //! A text.
 
-ghost use Rattle.std.specs.Prelude.{◌≡◌, string_bytes, IfOk};
+ghost use Rattle.std.specs.Prelude.{◌≡◌, string_bytes, option_map, IfOk};
 
 use crate::OutOfMemory;
 use std::alloc::Global;
@@ -32,10 +32,9 @@ impl Text {
     pub fn from_str(alloc: Global, text: &str) -> Result<Text, OutOfMemory>
         ensures { IfOk result (λ t. t ≡ text.now) }
     {
-        match String::from_str(alloc, text) {
-            Ok(string) => Ok(Text { string }),
-            Err(_) => Err(OutOfMemory),
-        }
+        Ok(Text {
+            string: String::from_str(alloc, text)?,
+        })
     }
 
     /// The text.
@@ -58,6 +57,26 @@ impl Text {
         ensures { IfOk result (λ t. t ≡ self.now) }
     {
         Text::from_str(alloc, self.string.as_str())
+    }
+}
+
+/// The text that may be there, borrowed.
+pub fn optional_str(text: &Option<Text>) -> Option<&str>
+    ensures { option_map (λ text. text.now) result ≡ text.now }
+{
+    match text {
+        Some(text) => Some(text.as_str()),
+        None => None,
+    }
+}
+
+/// An equal text, if one is there.
+pub fn copy_optional(alloc: Global, text: &Option<Text>) -> Result<Option<Text>, OutOfMemory>
+    ensures { IfOk result (λ copy. copy ≡ text.now) }
+{
+    match text {
+        Some(text) => Ok(Some(text.copy(alloc)?)),
+        None => Ok(None),
     }
 }
 

@@ -82,10 +82,7 @@ impl<'a> FromSql<'a> for Text {
         let Some(text) = utf8(raw) else {
             return Err(ValueFault::BadValue);
         };
-        match Text::from_str(alloc, text) {
-            Ok(text) => Ok(text),
-            Err(_) => Err(ValueFault::OutOfMemory),
-        }
+        Ok(Text::from_str(alloc, text)?)
     }
 
     fn from_sql_null(_ty: &Type) -> Result<Text, ValueFault> {
@@ -184,10 +181,7 @@ impl<'a> FromSql<'a> for Blob {
     ghost owns_memory = { true };
 
     fn from_sql(alloc: Global, _ty: &Type, raw: &'a [u8]) -> Result<Blob, ValueFault> {
-        match Blob::from_slice(alloc, raw) {
-            Ok(blob) => Ok(blob),
-            Err(_) => Err(ValueFault::OutOfMemory),
-        }
+        Ok(Blob::from_slice(alloc, raw)?)
     }
 
     fn from_sql_null(_ty: &Type) -> Result<Blob, ValueFault> {

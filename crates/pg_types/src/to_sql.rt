@@ -55,10 +55,8 @@ pub trait ToSql {
 pub(crate) fn put(bytes: &[u8], out: &mut BytesMut) -> Result<IsNull, ValueFault>
     ensures { Writes (bytes_given bytes.now) out.old.items out.new.items result }
 {
-    match out.extend_from_slice(bytes) {
-        Ok(()) => Ok(IsNull::No),
-        Err(_) => Err(ValueFault::OutOfMemory),
-    }
+    out.extend_from_slice(bytes)?;
+    Ok(IsNull::No)
 }
 
 /// The fault of a type, unless the Rust type stands for it.

@@ -1,7 +1,7 @@
 //! A `Value`, written.
 
 ghost use Rattle.std.specs.Prelude.{◌≡◌};
-ghost use Rattle.std.specs.Int.{w8, w16, w32};
+ghost use Rattle.std.specs.Int.{w8, w16, w32, w64};
 ghost use Rattle.pg_types.specs.AnyValues.{int_given, oid_given, number_given, is_int};
 ghost use Rattle.pg_types.specs.Values.{Writes, wrong_type};
 ghost use Rattle.pg_types.specs.declared.fault.ValueFault.TheVariants as fault;
@@ -67,6 +67,15 @@ fn put_int4(n: i64, out: &mut BytesMut) -> Result<IsNull, ValueFault>
     put(&bytes, out)
 }
 
+/// Appends a number of 64 bits.
+fn put_int8(n: i64, out: &mut BytesMut) -> Result<IsNull, ValueFault>
+    ensures { Writes (int_given w64 n) out.old.items out.new.items result }
+{
+    let mut bytes = [0; 8];
+    BigEndian::write_i64(&mut bytes, n);
+    put(&bytes, out)
+}
+
 /// Appends an unsigned number of 32 bits.
 fn put_oid(n: i64, out: &mut BytesMut) -> Result<IsNull, ValueFault>
     ensures { Writes (oid_given n) out.old.items out.new.items result }
@@ -87,7 +96,7 @@ fn put_number(n: i64, ty: &Type, out: &mut BytesMut) -> Result<IsNull, ValueFaul
         oid::CHAR => put_char(n, out),
         oid::INT2 => put_int2(n, out),
         oid::INT4 => put_int4(n, out),
-        oid::INT8 => n.to_sql(ty, out),
+        oid::INT8 => put_int8(n, out),
         oid::OID => put_oid(n, out),
         _ => Err(wrong_type(ty)),
     }

@@ -1,4 +1,3 @@
-use Rattle.std.proofs.Common.{refl}
 use Rattle.std.proofs.lemmas.Str.{is_utf8-from_IsUtf8}
 use Rattle.pg_types.proofs.Utf8.{not_utf8}
 use Rattle.pg_types.proofs.texts_from_sql.utf8.Goals as goal
