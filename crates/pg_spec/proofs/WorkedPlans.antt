@@ -1,34 +1,64 @@
 -- A plan that conforms, and two that don't.
-use Rattle.std.proofs.Common.{◌≡◌, ℕ, zero, suc, ◌+◌, ◌<◌, List, [], refl, subst, sym, ap, arith, codes, length, take, drop}
+use Rattle.std.proofs.Common.{◌≡◌, ℕ, zero, suc, ◌+◌, ◌<◌, ◌≤◌, List, [], Err, refl, subst, sym, ap, arith, codes, length, take, drop}
 use Rattle.std.proofs.lemmas.List.Elements.{All-from_recursion, recursion_from_All}
 use Rattle.std.specs.Prelude.{All, IsTrue, false, ◌||◌}
 use Rattle.std.specs.List.{concat}
 use Rattle.pg_spec.specs.Startup.{Done, used_of}
 use Rattle.std.specs.Str.{is_utf8, chars}
 use lib.Utf8.{encode}
-use Rattle.pg_spec.specs.ConnectionStrings.{only_user}
-use Rattle.pg_spec.specs.Examples.{asked, good_plan, hasty_plan, select_one_sent, with_password, with_password_sent}
-use Rattle.pg_spec.specs.Promises.{Conforms, IsOneReply, dialogue_over}
+use Rattle.pg_spec.specs.ConnectionStrings.{only_user, Means}
+use Rattle.pg_spec.specs.Examples.{asked, asked_so, good_plan, hasty_plan, with_password, with_password_sent}
+use Rattle.pg_spec.specs.Faults.{Failure, OutOfMemory}
+use Rattle.pg_spec.specs.Promises.{Conforms, EndsWell, IsOneReply, IsValid, MustEndWell, dialogue_over}
+use Rattle.pg_spec.specs.Sent.{turns_given}
 use Rattle.pg_spec.specs.RawMessages.{RawMessage, messages, bytes_left, is_async, is_parameter}
 
-only_first : (P : ℕ → Type 0) → P 0 → (i : ℕ) → i < 1 → P i
+pub only_first : (P : ℕ → Type 0) → P 0 → (i : ℕ) → i < 1 → P i
 only_first P p zero lt = p
 only_first P p (suc i) lt = absurd (omega (arith, lt))
 
-pub conforms : Conforms (asked good_plan) (only_user (codes "a")) good_plan select_one_sent
+pub replies_all : (n : ℕ) → n ≤ 2 → All IsOneReply (drop 1 (take n good_plan.entries))
 unfolding is_utf8 chars encode
-conforms = record {
+replies_all zero few = All-from_recursion IsOneReply (drop 1 (take 0 good_plan.entries)) tt
+replies_all (suc zero) few = All-from_recursion IsOneReply (drop 1 (take 1 good_plan.entries)) tt
+replies_all (suc (suc zero)) few = All-from_recursion IsOneReply (drop 1 (take 2 good_plan.entries)) ((refl, refl), tt)
+replies_all (suc (suc (suc n))) few = absurd (omega (arith, few))
+
+-- whatever the client sends, so long as it gives the server two turns at most
+conforms_so : (sent taken : List ℕ) → turns_given taken ≤ 2 → Conforms (asked_so good_plan sent) (only_user (codes "a")) good_plan taken
+unfolding is_utf8 chars encode
+conforms_so sent taken few = record {
   untroubled = refl;
-  entries = omega arith;
+  entries = few;
   whole = All-from_recursion (λ entry. bytes_left entry ≡ []) good_plan.entries (refl, (refl, tt));
   frames = 1;
   started = (2, refl, All-from_recursion (λ m. IsTrue (is_async m || is_parameter m)) [] tt);
   each_frame = only_first _ refl;
   all_frames = refl;
-  replies = All-from_recursion IsOneReply (drop 1 good_plan.entries) ((refl, refl), tt);
+  replies = replies_all (turns_given taken) few;
   readable = refl;
   plain = refl;
 }
+
+pub conforms : (taken : List ℕ) → turns_given taken ≤ 2 → Conforms (asked good_plan) (only_user (codes "a")) good_plan taken
+conforms = conforms_so []
+
+-- its user is named, and its frame is made
+valid : (sent : List ℕ) → IsValid (asked_so good_plan sent) (only_user (codes "a")) good_plan
+unfolding is_utf8 chars encode
+valid sent = record { user = refl; nonce = refl; frame = refl; no_tls = λ e. cc; no_binding = λ e. cc; limit = omega arith }
+
+-- only want of memory may stand in place of a session that must end well
+ends_so : (failure : Failure) → EndsWell (Err failure) → failure ≡ OutOfMemory
+ends_so OutOfMemory ends = refl
+ends_so _ ends = absurd ends
+
+pub means_a : Means (codes "user=a") (only_user (codes "a"))
+means_a = (codes "a", record { some = omega arith; not_long = omega arith; letters = refl }, refl, refl)
+
+pub only_memory : (failure : Failure) (taken : List ℕ) → turns_given taken ≤ 2 → MustEndWell (asked_so good_plan taken) (Err failure) → failure ≡ OutOfMemory
+only_memory failure taken few must =
+    ends_so failure (must good_plan (only_user (codes "a")) taken refl refl refl refl means_a (valid taken) (conforms_so taken taken few))
 
 -- a message that no request asks for
 abbrev IsAside : RawMessage → Type 0

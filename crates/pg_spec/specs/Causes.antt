@@ -1,5 +1,5 @@
 -- When a session may answer each failure.
-use Rattle.std.specs.Prelude.{◌≡◌, ◌≢◌, ℕ, ◌≤◌, ◌<◌, ◌⊎◌, Bool, true, false, take, ◌&&◌, ◌||◌, IsTrue, IsFalse, List, [], ◌∷◌, length, count_by, Option, Some, None, is_some, if◌then◌else◌, Result, Ok, Err, IsSome, slice_get, ◌==◌, Contains, ⊤}
+use Rattle.std.specs.Prelude.{◌≡◌, ◌≢◌, ℕ, ◌+◌, ◌≤◌, ◌<◌, ◌⊎◌, Bool, true, false, take, ◌&&◌, ◌||◌, IsTrue, IsFalse, List, [], ◌∷◌, length, count_by, Option, Some, None, is_some, if◌then◌else◌, Result, Ok, Err, IsSome, slice_get, ◌==◌, Contains, ⊤}
 use Rattle.std.specs.List.{concat, list_all}
 use Rattle.std.specs.Str.{byte, is_utf8}
 use Rattle.pg_spec.specs.ConnectionStrings.{Means}
@@ -106,6 +106,10 @@ pub record IsStalled (call : Call) (before after : ℕ) : Type 0 where
   pub from : call.before.quiet ≤ before
   pub to : after ≤ call.after.quiet
   pub rose : Rose before after
+  -- between them one read and at most one other call weren't ready; on a steady link the read alone
+  pub round : (after ≤ before + 2) × (IsTrue call.before.steady → after ≤ before + 1)
+  -- and behind them at most the wait wasn't
+  pub last : call.after.quiet ≤ after + 1
   pub awaited : IsTrue call.before.steady → (call.after.due ≡ Some []) × OfDialogue call (IsAwaited call)
 
 -- more bytes were given than the limit
