@@ -107,7 +107,7 @@ gave_all events held left becomes none =
 
 -- ---- the end of a batch
 
-ends_by : (complete : Bool) (ms : List RawMessage) → is_batch complete ms ≡ true → TellsItsEnd ms complete
+pub ends_by : (complete : Bool) (ms : List RawMessage) → is_batch complete ms ≡ true → TellsItsEnd ms complete
 ends_by true [] batch = absurd cc
 ends_by false [] batch = record { ends = refl; only = refl }
 ends_by complete (m ∷ ms) batch = by_first (is_aside m) (is_ready m) (ends_by complete ms) refl batch

@@ -6,14 +6,14 @@ use Rattle.std.proofs.Math.Seq.{drop-append_seam}
 use Rattle.std.proofs.lemmas.List.{length-append, length-take, drop-drop, take-append-drop}
 use Rattle.std.proofs.lemmas.Bool.{false≢true}
 use Rattle.pg_spec.specs.Batches.{is_nothing}
-use Rattle.pg_spec.specs.Links.{Rose}
+use Rattle.pg_spec.specs.Links.{Rose, next_count}
 use Rattle.pg_spec.specs.Sent.{turns_given}
-use Rattle.pg_wire.specs.LinkCalls.{SameBytes, Gives, IsInPlan, ReadAnswers, Keeps, KeepsPromise, gave}
+use Rattle.pg_wire.specs.LinkCalls.{SameBytes, Gives, IsInPlan, IsInCourse, ReadAnswers, Keeps, KeepsPromise, gave}
 use Rattle.pg_wire.specs.declared.link.LinkRead.{LinkRead}
 use Rattle.pg_wire.specs.declared.link.LinkRead.TheVariants as reads
 use Rattle.pg_wire.specs.Turning.{Counts}
 use Rattle.pg_wire.specs.declared.turning.Turning.{Turning}
-use Rattle.pg_wire.specs.Memory.{Memory, due_in, link_of, rise, is_over, is_ready, GivesFront, Reads, IsKept}
+use Rattle.pg_wire.specs.Memory.{Memory, due_in, link_of, as_count, is_over, is_ready, GivesFront, Reads, KeepsItsPromise}
 
 -- ---- what is due
 
@@ -49,7 +49,7 @@ in-plan-given m n (rest, is) =
 
 -- as bytes are taken, which give no fewer turns
 in-plan-taken : (m : Memory) (taken : List ℕ) → turns_given m.taken ≤ turns_given taken → IsInPlan (link_of m) →
-    IsInPlan (link_of (record m { taken = taken; promised = false }))
+    IsInPlan (link_of (record m { taken = taken; promised = false; flushed = false }))
 in-plan-taken m taken less (rest, is) =
     let more = concat-more (turns_given m.taken) (turns_given taken) m.entries less in
     (rest ++ more.0, sym (append_assoc m.given rest more.0) ∙ ap (λ (l : List ℕ). l ++ more.0) is ∙ more.1)
@@ -63,16 +63,37 @@ added : {U E : Type 0} (r : Result U E) (new more old : List ℕ) → is_err r �
 added (Ok done) new more old fine is = is
 added (Err e) new more old fine is = absurd cc
 
+-- given in the plan is given in course, and the other way round
+course-from-plan : (m : Memory) → IsInPlan (link_of m) → IsInCourse (link_of m)
+course-from-plan m (rest, is) =
+    let due : due_in m ≡ rest = ap (λ (l : List ℕ). drop (length m.given) l) (sym is) ∙ drop-append_seam m.given rest in
+    ap (λ (l : List ℕ). m.given ++ l) due ∙ is
+
+plan-from-course : (m : Memory) → IsInCourse (link_of m) → IsInPlan (link_of m)
+plan-from-course m is = (due_in m, is)
+
+-- what will have been taken begins with what was taken before
+taken-on : (before more bytes : List ℕ) → (rest : List ℕ) × ((before ++ more) ++ rest ≡ bytes) → (rest : List ℕ) × (before ++ rest ≡ bytes)
+taken-on before more bytes (rest, is) = (more ++ rest, sym (append_assoc before more rest) ∙ is)
+
 -- bytes were taken
 pub write-keeps : {U E : Type 0} (m : Memory) (taken more : List ℕ) (turning : Turning) (r : Result U E) → Counts m.taken turning → turning.turns ≡ turns_given m.taken →
-    is_err r ≡ false → taken ≡ (if is_ok r then m.taken ++ more else m.taken) → Keeps (link_of m) (link_of (record m { taken = taken; promised = false }))
+    is_err r ≡ false → taken ≡ (if is_ok r then m.taken ++ more else m.taken) → Keeps (link_of m) (link_of (record m { taken = taken; promised = false; flushed = false }))
 write-keeps m taken more turning r counts all fine is = record {
   counts = record { faults = omega arith; quiet = omega arith; dry = omega arith; blocked = omega arith; lulls = omega arith; ends = omega arith };
   plan = refl;
+  course = λ bytes on. (taken-on m.taken more bytes (subst (λ (l : List ℕ). (rest : List ℕ) × (l ++ rest ≡ bytes)) grown on), refl);
   steady = λ steady. refl;
-  in_plan = in-plan-taken m taken (subst (λ (l : List ℕ). turns_given m.taken ≤ turns_given l) (sym (added r taken (m.taken ++ more) m.taken fine is))
-      (turns-grow m.taken more turning counts all));
+  shut = λ shut. shut;
+  in_plan = within;
+  in_course = λ here. course-from-plan (record m { taken = taken; promised = false; flushed = false }) (within (plan-from-course m here));
 }
+  where
+    grown : taken ≡ m.taken ++ more
+    grown = added r taken (m.taken ++ more) m.taken fine is
+
+    within : IsInPlan (link_of m) → IsInPlan (link_of (record m { taken = taken; promised = false; flushed = false }))
+    within = in-plan-taken m taken (subst (λ (l : List ℕ). turns_given m.taken ≤ turns_given l) (sym grown) (turns-grow m.taken more turning counts all))
 
 -- ---- reads
 
@@ -89,10 +110,15 @@ gives m m' out n g =
       front = sym g.front;
       no_more_due = enough;
       due = ap (λ (x : Memory). Some (due_in x)) new ∙ ap (λ (l : List ℕ). Some l) (due-given m n false enough);
+      writing = record { flushed = ap (λ (x : Memory). x.flushed) new; shut = ap (λ (x : Memory). x.shut) new };
+      quiet = ap (λ (x : Memory). as_count x.quiet) new;
     }
 
-rose : (n : ℕ) → Rose n (rise n)
+rose : (n : ℕ) → Rose (as_count n) (as_count (next_count n))
 rose n = omega arith
+
+next-as_count : (n : ℕ) → as_count (next_count n) ≡ next_count (as_count n)
+next-as_count n = omega arith
 
 same-bytes : (m : Memory) (n : Memory) → n.given ≡ m.given → n.taken ≡ m.taken → n.entries ≡ m.entries → SameBytes (link_of m) (link_of n)
 same-bytes m n given taken entries = record {
@@ -104,7 +130,7 @@ same-bytes m n given taken entries = record {
 }
 
 -- a read is one that a link may do
-pub read-answers : (m m' : Memory) (out : List ℕ) (answer : LinkRead) → IsKept m → Reads m m' out answer →
+pub read-answers : (m m' : Memory) (out : List ℕ) (answer : LinkRead) → KeepsItsPromise m → Reads m m' out answer →
     ReadAnswers (link_of m) (link_of m') out answer × Keeps (link_of m) (link_of m') × KeepsPromise (link_of m) (link_of m') (gave answer)
 read-answers m m' out (reads.Got n) k g =
     let new : m' ≡ record m { given = m.given ++ take n (due_in m); promised = false } = g.memory in (
@@ -112,22 +138,36 @@ read-answers m m' out (reads.Got n) k g =
       subst (λ (x : Memory). Keeps (link_of m) (link_of x)) (sym new) (record {
         counts = record { faults = omega arith; quiet = omega arith; dry = omega arith; blocked = omega arith; lulls = omega arith; ends = omega arith };
         plan = refl;
+        course = λ bytes on. (on, refl);
         steady = λ steady. refl;
+        shut = λ shut. shut;
         in_plan = in-plan-given m n;
+        in_course = λ here. course-from-plan (record m { given = m.given ++ take n (due_in m); promised = false }) (in-plan-given m n (plan-from-course m here));
       }),
-      record { kept = λ moved. absurd (false≢true (sym moved)); no_lull = λ steady. ap (λ (x : Memory). x.lulls) new },
+      record { kept = λ moved. absurd (false≢true (sym moved)); no_lull = λ steady. ap (λ (x : Memory). as_count x.lulls) new },
     )
 read-answers m m' out reads.End k (none, over, new) =
-    let e = k.ended in
-    let before : (if m.ends then m.ended else 0) ≡ m.ended = ap (λ (b : Bool). if b then m.ended else 0) (ends_there m.ends _ over) in
-    let after : (if m.ends then rise m.ended else 0) ≡ rise m.ended = ap (λ (b : Bool). if b then rise m.ended else 0) (ends_there m.ends _ over) in
+    let before : (if m.ends then as_count m.ended else 0) ≡ as_count m.ended = ap (λ (b : Bool). if b then as_count m.ended else 0) (ends_there m.ends _ over) in
+    let after : (if m.ends then as_count (next_count m.ended) else 0) ≡ as_count (next_count m.ended)
+    = ap (λ (b : Bool). if b then as_count (next_count m.ended) else 0) (ends_there m.ends _ over) in
     subst (λ (x : Memory). ReadAnswers (link_of m) (link_of x) out reads.End × Keeps (link_of m) (link_of x) × KeepsPromise (link_of m) (link_of x) false) (sym new) (
-      (omega (arith, before, after, rose m.ended), ends_there m.ends _ over, same-bytes m (record m { ended = rise m.ended }) refl refl refl),
+      (
+        omega (arith, before, after, rose m.ended),
+        ends_there m.ends _ over,
+        record {
+          bytes = same-bytes m (record m { ended = next_count m.ended }) refl refl refl;
+          writing = record { flushed = refl; shut = refl };
+          quiet = refl;
+        },
+      ),
       record {
         counts = record { faults = omega arith; quiet = omega arith; dry = omega arith; blocked = omega arith; lulls = omega arith; ends = omega (arith, before, after) };
         plan = refl;
+        course = λ bytes on. (on, refl);
         steady = λ steady. refl;
+        shut = λ shut. shut;
         in_plan = λ within. within;
+        in_course = λ here. here;
       },
       record { kept = λ moved. refl; no_lull = λ steady. refl },
     )
@@ -136,19 +176,26 @@ read-answers m m' out reads.End k (none, over, new) =
     ends_there true c over = refl
     ends_there false c over = over
 read-answers m m' out reads.NotReady k (none, open_, new) =
-    let q = k.quiet in let d = k.dry in
-    let never : m.promised ≡ true → ⊥ = λ p. false≢true (sym (not-ready m none open_) ∙ k.promise p) in
+    let never : m.promised ≡ true → ⊥ = λ p. false≢true (sym (not-ready m none open_) ∙ k p) in
     subst (λ (x : Memory). ReadAnswers (link_of m) (link_of x) out reads.NotReady × Keeps (link_of m) (link_of x) × KeepsPromise (link_of m) (link_of x) false) (sym new) (
       (
-        record { quiet = rose m.quiet; lulls = λ p. absurd (never p); bytes = same-bytes m (record m { quiet = rise m.quiet; dry = rise m.dry }) refl refl refl },
+        record {
+          quiet = next-as_count m.quiet;
+          lulls = λ p. absurd (never p);
+          bytes = same-bytes m (record m { quiet = next_count m.quiet; dry = next_count m.dry }) refl refl refl;
+          writing = record { flushed = refl; shut = refl };
+        },
         rose m.dry,
         λ steady. ap (λ (l : List ℕ). Some l) none,
       ),
       record {
         counts = record { faults = omega arith; quiet = omega arith; dry = omega arith; blocked = omega arith; lulls = omega arith; ends = omega arith };
         plan = refl;
+        course = λ bytes on. (on, refl);
         steady = λ steady. refl;
+        shut = λ shut. shut;
         in_plan = λ within. within;
+        in_course = λ here. here;
       },
       record { kept = λ moved. refl; no_lull = λ steady. refl },
     )

@@ -11,11 +11,12 @@ use Rattle.pg_spec.proofs.Readers.{bytes_at_front}
 use Rattle.pg_wire.specs.Header.{length_field, StandsAtFront, HasBadLength, len_of}
 use Rattle.pg_wire.specs.declared.header.Header.{Header}
 use Rattle.pg_wire.specs.declared.fault.WireFault.{WireFault}
+use Rattle.pg_wire.specs.declared.fault.WireFault.TheVariants.{BadLength}
 use Rattle.pg_wire.specs.Fronts.{IsWhole}
 use lib.IntN.{nat_abs, negsuc}
 use mir.Val.{sel}
 use Rattle.std.proofs.lemmas.Int.{ints, by_lt_z}
-use Rattle.std.specs.Prelude.{Ok, IsErr, IfSome, Result, ◌↔◌}
+use Rattle.std.specs.Prelude.{Ok, Err, IfSome, Result, ◌↔◌}
 
 -- what is made of a length and a body
 abbrev made : ℕ → ℕ → List ℕ → List ℕ → Option (RawMessage × List ℕ)
@@ -102,7 +103,7 @@ read found = Ok found
 -- the header that was read says how long the message is
 pub whole_by_parse : (s : List ℕ) (found : Option Header) (h : Header) (len : ℤ) → found ≡ Some h →
     ((read found ≡ read None) ↔ (length s < 5)) → IfSome found (StandsAtFront s) →
-    (IsErr (read found) ↔ HasBadLength s) → len ≡ len_of h →
+    ((read found ≡ Err BadLength) ↔ HasBadLength s) → len ≡ len_of h →
     nat_abs (to_z w32 (of_z w32 len)) + 1 ≤ length s → IsWhole s (nat_abs (to_z w32 (of_z w32 len)) + 1)
 whole_by_parse s found h len e incomplete stands bad is fits =
     let five : 5 ≤ length s = elim (cases_lt (length s) 5) [ inl short ↦ absurd (none_found (incomplete.1 short)) | inr enough ↦ enough ] in
@@ -113,5 +114,5 @@ whole_by_parse s found h len e incomplete stands bad is fits =
     none_found : read found ≡ read None → ⊥
     none_found f = cc
 
-    no_err : IsErr (read found) → ⊥
+    no_err : read found ≡ Err BadLength → ⊥
     no_err f = cc

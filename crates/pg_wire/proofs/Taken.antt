@@ -5,10 +5,12 @@ use Rattle.std.proofs.lemmas.List.{drop-take}
 use Rattle.pg_spec.specs.Messages.{message_of}
 use Rattle.pg_spec.specs.RawMessages.{RawMessage, message_at, messages, bytes_left, has_bad_header}
 use Rattle.pg_spec.specs.Faults as spec
+use Rattle.pg_spec.specs.Batches.{IsBatch}
+use Rattle.pg_wire.proofs.BatchLaws.{batch-tail}
 use Rattle.pg_wire.specs.Fronts.{IsWhole, message_of_bytes}
 use Rattle.pg_wire.specs.Layouts.{Means}
-use Rattle.pg_wire.specs.Parse.{Parses, RefusesFront}
-use Rattle.pg_wire.specs.Backend.{Nexts, RefusesFirst}
+use Rattle.pg_wire.specs.Parse.{Parses, RefusesFront, TakesFront}
+use Rattle.pg_wire.specs.Backend.{HoldsBatch, Nexts, RefusesFirst}
 use Rattle.pg_wire.specs.declared.message.Message.{Message}
 use Rattle.pg_wire.specs.declared.fault.WireFault.{WireFault}
 use Rattle.pg_wire.specs.declared.fault.WireFault.TheVariants.{BadLength, UnknownTag, Layout, NotUtf8, OutOfMemory}
@@ -24,14 +26,28 @@ refused s n raw fault whole is means = record {
   means = sym (ap message_of is) ∙ means;
 }
 
+-- the body is the one of the whole message in front
+is_message : (s seen looked body : List ℕ) (n : ℕ) → seen ≡ s → looked ≡ s → IsWhole seen n → body ≡ slice_range s 5 n →
+    ◌≡◌ {A = RawMessage} (record { tag = get_or looked 0 0; body = body }) (message_of_bytes n s)
+is_message s seen looked body n same also whole cut =
+    let e : take (n - 5) (drop 5 s) ≡ drop 5 (take n s) = sym (drop-take 5 (n - 5) s) ∙ ap (λ (k : ℕ). drop 5 (take k s)) (omega (arith, whole.some)) in
+    λ i. record { tag = get_or (also i) 0 0; body = (cut ∙ e) i }
+
+pub parse_takes : (s seen looked body new : List ℕ) (n : ℕ) (message : Message) → seen ≡ s → looked ≡ s → IsWhole seen n → body ≡ slice_range s 5 n →
+    Means (record { tag = get_or looked 0 0; body = body }) (Ok message) → new ≡ drop n s → TakesFront s new message
+parse_takes s seen looked body new n message same also whole cut means behind =
+    let whole' : IsWhole s n = subst (λ (x : List ℕ). IsWhole x n) same whole in
+    record {
+      raw = message_of_bytes n s;
+      front = whole'.front ∙ ap (λ (rest : List ℕ). Some (message_of_bytes n s, rest)) (sym behind);
+      means = sym (ap message_of (is_message s seen looked body n same also whole cut)) ∙ means;
+    }
+
 pub parse_refuses : (s seen looked body : List ℕ) (n : ℕ) (fault : WireFault) → seen ≡ s → looked ≡ s → IsWhole seen n → body ≡ slice_range s 5 n →
     Means (record { tag = get_or looked 0 0; body = body }) (Err fault) → Parses s s (Err fault)
 parse_refuses s seen looked body n fault same also whole cut means =
     let whole' : IsWhole s n = subst (λ (x : List ℕ). IsWhole x n) same whole in
-    let e : take (n - 5) (drop 5 s) ≡ drop 5 (take n s) = sym (drop-take 5 (n - 5) s) ∙ ap (λ (k : ℕ). drop 5 (take k s)) (omega (arith, whole'.some)) in
-    let is : ◌≡◌ {A = RawMessage} (record { tag = get_or looked 0 0; body = body }) (message_of_bytes n s) =
-    λ i. record { tag = get_or (also i) 0 0; body = (cut ∙ e) i } in
-    by_fault _ fault whole' is means
+    by_fault _ fault whole' (is_message s seen looked body n same also whole cut) means
   where
     by_fault : (raw : RawMessage) (fault : WireFault) → IsWhole s n → raw ≡ message_of_bytes n s → Means raw (Err fault) → Parses s s (Err fault)
     by_fault raw BadLength whole is means = absurd means
@@ -51,6 +67,22 @@ left_behind old new (Err UnknownTag) p none = ap bytes_left p.same ∙ none
 left_behind old new (Err Layout) p none = ap bytes_left p.same ∙ none
 left_behind old new (Err NotUtf8) p none = absurd p
 left_behind old new (Err OutOfMemory) p none = ap bytes_left p ∙ none
+
+-- and they are a batch
+pub batch_behind : (old new : List ℕ) (r : Result (Option Message) WireFault) → Parses old new r → HoldsBatch old → HoldsBatch new
+batch_behind old new r p old-holds = record { whole = left_behind old new r p old-holds.whole; batch = by_answer r p }
+  where
+    stays : new ≡ old → IsBatch (messages new)
+    stays same = subst (λ (x : List ℕ). IsBatch (messages x)) (sym same) old-holds.batch
+
+    by_answer : (r : Result (Option Message) WireFault) → Parses old new r → IsBatch (messages new)
+    by_answer (Ok None) p = stays p.same
+    by_answer (Ok (Some message)) p = batch-tail p.raw (messages new) (subst IsBatch (messages_of_one old p.raw new p.front) old-holds.batch)
+    by_answer (Err BadLength) p = stays p.same
+    by_answer (Err UnknownTag) p = stays p.same
+    by_answer (Err Layout) p = stays p.same
+    by_answer (Err NotUtf8) p = absurd p
+    by_answer (Err OutOfMemory) p = stays p
 
 refuses_first : (old new : List ℕ) (fault : spec.WireFault) → RefusesFront old new fault → RefusesFirst (messages old) (messages new) fault
 refuses_first old new fault p = record {

@@ -1,12 +1,19 @@
--- What reading whole messages one after another answers.
-use Rattle.std.specs.Prelude.{◌≡◌, List, [], ◌∷◌, Option, Some, None, Result, Ok, Err}
+-- Whole messages of one request, and what reading them one after another answers (PostgreSQL documentation,
+-- "Message Flow").
+use Rattle.std.specs.Prelude.{◌≡◌, ℕ, List, [], ◌∷◌, Option, Some, None, Result, Ok, Err}
 use Rattle.pg_spec.specs.Faults as spec
-use Rattle.pg_spec.specs.RawMessages.{RawMessage}
+use Rattle.pg_spec.specs.Batches.{IsBatch}
+use Rattle.pg_spec.specs.RawMessages.{RawMessage, messages, bytes_left}
 use Rattle.pg_spec.specs.Messages.{message_of}
 use Rattle.pg_wire.specs.declared.fault.WireFault.{WireFault}
 use Rattle.pg_wire.specs.declared.message.Message.{Message}
 use Rattle.pg_wire.specs.Messages.{message_view}
 use Rattle.pg_wire.specs.Faults.{wire_fault}
+
+-- The bytes are whole messages, and these are a batch.
+pub record HoldsBatch (bytes : List ℕ) : Type 0 where
+  pub whole : bytes_left bytes ≡ []
+  pub batch : IsBatch (messages bytes)
 
 -- the first message was taken off, and is this one
 pub record TakesFirst (old new : List RawMessage) (message : Message) : Type 0 where

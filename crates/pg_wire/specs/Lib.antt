@@ -10,6 +10,7 @@ pub mod Fronts
 pub mod Decode
 pub mod Header
 pub mod Writes
+pub mod Begins
 pub mod Steps
 pub mod Encode
 pub mod Turning

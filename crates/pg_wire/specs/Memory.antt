@@ -1,9 +1,10 @@
 -- A link in memory: what it will give is known, it never fails, and no call is held back.
-use Rattle.std.specs.Prelude.{◌≡◌, ℕ, ◌+◌, ◌-◌, ◌^◌, ◌<◌, ◌==◌, ◌||◌, ◌&&◌, Bool, true, false, not, List, [], ◌++◌, length, take, min, Some, refl, if◌then◌else◌}
+use Rattle.std.specs.Prelude.{◌≡◌, ℕ, ◌-◌, ◌^◌, ◌<◌, ◌==◌, ◌||◌, ◌&&◌, Bool, true, false, not, List, [], ◌++◌, length, take, min, Some, refl, if◌then◌else◌}
 use Rattle.std.proofs.Common.{ap}
+use Rattle.std.proofs.Math.Nat.{min-le_right, lt-suc_self, zero-lt-suc, lt_of_le_of_lt}
 use Rattle.std.specs.List.{concat}
 use Rattle.pg_spec.specs.Batches.{is_nothing}
-use Rattle.pg_spec.specs.Links.{Plan, LinkView, due_by}
+use Rattle.pg_spec.specs.Links.{Plan, LinkView, next_count, course_of, due_by}
 use Rattle.pg_wire.specs.LinkCalls.{Tells}
 use Rattle.pg_wire.specs.declared.link.LinkRead.{LinkRead}
 use Rattle.pg_wire.specs.declared.link.LinkRead.TheVariants as reads
@@ -27,6 +28,9 @@ pub record Memory : Type 0 where
   pub taken : List ℕ
   -- a wait was ready, and since then nothing was given or taken
   pub promised : Bool
+  -- a flush was done, and since then nothing was taken; the writing side was ended
+  pub flushed : Bool
+  pub shut : Bool
   -- how often a call wasn't ready, a read wasn't, a wait was in vain, the input ended
   pub quiet : ℕ
   pub dry : ℕ
@@ -41,26 +45,29 @@ plan_of m = record { entries = m.entries; ends = m.ends; is_troubled = false }
 abbrev pub due_in : Memory → List ℕ
 due_in m = due_by (plan_of m) m.given m.taken
 
+-- a number as a count, which stays at its last value
+abbrev pub as_count : ℕ → ℕ
+as_count n = min n (2 ^ 64 - 1)
+
 -- it tells all, and is steady
 abbrev pub link_of : Memory → LinkView
 link_of m = record {
   given = Some m.given;
   taken = Some m.taken;
   plan = Some (plan_of m);
+  course = Some (course_of (plan_of m));
   due = Some (due_in m);
   steady = true;
   promised = m.promised;
+  flushed = m.flushed;
+  shut = m.shut;
   faults = 0;
-  quiet = m.quiet;
-  dry = m.dry;
+  quiet = as_count m.quiet;
+  dry = as_count m.dry;
   blocked = 0;
-  lulls = m.lulls;
-  ends = if m.ends then m.ended else 0;
+  lulls = as_count m.lulls;
+  ends = if m.ends then as_count m.ended else 0;
 }
-
--- one more, but for a count at its last value
-abbrev pub rise : ℕ → ℕ
-rise n = min (n + 1) (2 ^ 64 - 1)
 
 -- all was given, and it ends there
 abbrev pub is_over : Memory → Bool
@@ -80,35 +87,47 @@ pub record GivesFront (old new : Memory) (out : List ℕ) (n : ℕ) : Type 0 whe
 -- what `read` answers and does
 abbrev pub Reads : Memory → Memory → List ℕ → LinkRead → Type 0
 Reads old new out (reads.Got n) = GivesFront old new out n
-Reads old new out reads.End = (due_in old ≡ []) × (is_over old ≡ true) × (new ≡ record old { ended = rise old.ended })
-Reads old new out reads.NotReady = (due_in old ≡ []) × (is_over old ≡ false) × (new ≡ record old { quiet = rise old.quiet; dry = rise old.dry })
+Reads old new out reads.End = (due_in old ≡ []) × (is_over old ≡ true) × (new ≡ record old { ended = next_count old.ended })
+Reads old new out reads.NotReady = (due_in old ≡ []) × (is_over old ≡ false) × (new ≡ record old { quiet = next_count old.quiet; dry = next_count old.dry })
 Reads old new out reads.Failed = ⊥
 
 -- what `write` answers and does: it takes as much as it has room for at once
 abbrev pub TakesUp : Memory → Memory → List ℕ → LinkWrite → Type 0
 TakesUp old new bytes (writes.Took n) =
-    (n ≡ min old.room (length bytes)) × (new ≡ record old { taken = old.taken ++ take n bytes; promised = false })
+    (n ≡ min old.room (length bytes)) × (new ≡ record old { taken = old.taken ++ take n bytes; promised = false; flushed = false })
 TakesUp old new bytes writes.OutOfMemory = new ≡ old
 TakesUp old new bytes other = ⊥
 
--- what `flush` and `shutdown` answer: nothing is left to do
-abbrev pub StaysSame : Memory → Memory → LinkStep → Type 0
-StaysSame old new steps.Done = new ≡ old
-StaysSame old new other = ⊥
+-- what `flush` answers: all that was taken is passed on
+abbrev pub PassesOn : Memory → Memory → LinkStep → Type 0
+PassesOn old new steps.Done = new ≡ record old { flushed = true }
+PassesOn old new other = ⊥
+
+-- what `shutdown` answers: the writing side is ended
+abbrev pub EndsWriting : Memory → Memory → LinkStep → Type 0
+EndsWriting old new steps.Done = new ≡ record old { shut = true }
+EndsWriting old new other = ⊥
 
 -- what `wait` answers and does
 abbrev pub Waits : Memory → Memory → LinkWait → Type 0
 Waits old new waits.Ready = (is_ready old ≡ true) × (new ≡ record old { promised = true })
-Waits old new waits.Idle = (is_ready old ≡ false) × (new ≡ record old { quiet = rise old.quiet; lulls = rise old.lulls })
+Waits old new waits.Idle = (is_ready old ≡ false) × (new ≡ record old { quiet = next_count old.quiet; lulls = next_count old.lulls })
 Waits old new waits.Failed = ⊥
 
--- A promise is kept, and counts are numbers of 64 bits.
-pub record IsKept (m : Memory) : Type 0 where
-  pub promise : m.promised ≡ true → is_ready m ≡ true
-  pub quiet : m.quiet < 2 ^ 64
-  pub dry : m.dry < 2 ^ 64
-  pub lulls : m.lulls < 2 ^ 64
-  pub ended : m.ended < 2 ^ 64
+-- a promise is kept
+abbrev pub KeepsItsPromise : Memory → Type 0
+KeepsItsPromise m = m.promised ≡ true → is_ready m ≡ true
+
+-- counts fit
+none-fits : 0 < 2 ^ 64
+none-fits = zero-lt-suc (2 ^ 64 - 1)
+
+count-fits : (n : ℕ) → as_count n < 2 ^ 64
+count-fits n = lt_of_le_of_lt (min-le_right n (2 ^ 64 - 1)) (lt-suc_self (2 ^ 64 - 1))
+
+ends-fit : (ends : Bool) (n : ℕ) → (if ends then as_count n else 0) < 2 ^ 64
+ends-fit true n = count-fits n
+ends-fit false n = none-fits
 
 -- what it tells fits together
 pub tells : (m : Memory) → Tells (link_of m)
@@ -116,5 +135,13 @@ tells m = record {
   by_plan = (refl, λ calm. refl);
   steady = λ steady. (due_in m, refl);
   no_fault = λ calm. refl;
-  no_end = λ never. ap (λ (ends : Bool). if ends then m.ended else 0) never;
+  no_end = λ never. ap (λ (ends : Bool). if ends then as_count m.ended else 0) never;
+  counts = record {
+    faults = none-fits;
+    quiet = count-fits m.quiet;
+    dry = count-fits m.dry;
+    blocked = none-fits;
+    lulls = count-fits m.lulls;
+    ends = ends-fit m.ends m.ended;
+  };
 }

@@ -1,32 +1,35 @@
 //! Whole messages of one request, which are read one after another.
 
-ghost use Rattle.std.specs.Prelude.{◌≡◌, [], IfOk, length};
-ghost use Rattle.pg_spec.specs.RawMessages.{messages, bytes_left};
-ghost use Rattle.pg_wire.specs.Backend.{Nexts};
+ghost use Rattle.std.specs.Prelude.{◌≡◌, [], IfOk, length, true};
+ghost use Rattle.pg_spec.specs.Batches.{is_batch};
+ghost use Rattle.pg_spec.specs.RawMessages.{messages, ends_in, is_ready};
+ghost use Rattle.pg_wire.specs.Backend.{HoldsBatch, Nexts};
 
 use crate::fault::WireFault;
 use crate::front::count;
 use crate::message::Message;
 use bytes::Bytes;
 use pg_types::OutOfMemory;
-use std::alloc::{AllocError, Global};
 use std::marker::Model;
 
-/// Whole messages, seen as their list. It shares the bytes that were received.
+/// Whole messages, seen as their list: none of them is aside, and a ReadyForQuery, if one is there, is the
+/// last. It shares the bytes that were received.
 #[derive(Drop)]
 pub struct BackendMessages {
     bytes: Bytes,
 }
 
 impl Model for BackendMessages {
-    ghost use Rattle.std.specs.Prelude.{◌≡◌, List, []};
-    ghost use Rattle.pg_spec.specs.RawMessages.{RawMessage, messages, bytes_left};
+    ghost use Rattle.std.specs.Prelude.{List};
+    ghost use Rattle.pg_spec.specs.RawMessages.{RawMessage, messages};
 
     ghost Value = { List RawMessage };
 
     ghost view = { λ b. messages b.bytes };
 
-    ghost invariant = { λ b. bytes_left b.bytes ≡ [] };
+    ghost use Rattle.pg_wire.specs.Backend.{HoldsBatch};
+
+    ghost invariant = { λ b. HoldsBatch b.bytes };
 }
 
 impl BackendMessages {
@@ -40,7 +43,7 @@ impl BackendMessages {
     }
 
     pub(crate) fn new(bytes: Bytes) -> BackendMessages
-        requires { bytes_left bytes ≡ [] }
+        requires { HoldsBatch bytes }
         ensures { result ≡ messages bytes }
     {
         BackendMessages { bytes }
@@ -53,14 +56,20 @@ impl BackendMessages {
         count(self.bytes.as_slice())
     }
 
+    /// A law, which does nothing when it runs: they are a batch, and it is complete exactly where
+    /// ReadyForQuery is the last of them.
+    pub fn batch_law(&self)
+        ensures { is_batch (ends_in is_ready self.now) self.now ≡ true }
+    {
+        let _ = &self.bytes;
+    }
+
     /// The same messages once more. They share the bytes.
     pub fn share(&self) -> Result<BackendMessages, OutOfMemory>
         ensures { IfOk result (λ b. b ≡ self.now) }
     {
-        match self.bytes.clone() {
-            Ok(bytes) => Ok(BackendMessages { bytes }),
-            Err(_) => Err(OutOfMemory),
-        }
+        let bytes = self.bytes.clone()?;
+        Ok(BackendMessages { bytes })
     }
 
     /// Takes the next message off the front, or says what is wrong with it: UnknownTag or Layout. The

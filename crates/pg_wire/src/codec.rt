@@ -46,10 +46,10 @@ impl PostgresCodec {
         ensures { Writes (frame_of item.now) out.old.items out.new.items result }
     {
         match item {
-            FrontendMessage::Raw(bytes) => match out.extend_from_slice(bytes.as_slice()) {
-                Ok(()) => Ok(()),
-                Err(_) => Err(FrameFault::OutOfMemory),
-            },
+            FrontendMessage::Raw(bytes) => {
+                out.extend_from_slice(bytes.as_slice())?;
+                Ok(())
+            }
             FrontendMessage::CopyData(bytes) => copy_data(bytes.as_slice(), out),
         }
     }
@@ -69,13 +69,11 @@ impl PostgresCodec {
             return cut_aside(buf, n);
         }
         let cut = batch_end(buf.as_slice());
-        match buf.freeze_to(cut.at) {
-            Ok(bytes) => Ok(Some(BackendMessage::Normal {
-                messages: BackendMessages::new(bytes),
-                request_complete: cut.complete,
-            })),
-            Err(_) => Err(WireFault::OutOfMemory),
-        }
+        let bytes = buf.freeze_to(cut.at)?;
+        Ok(Some(BackendMessage::Normal {
+            messages: BackendMessages::new(bytes),
+            request_complete: cut.complete,
+        }))
     }
 }
 
@@ -90,10 +88,7 @@ fn cut_aside(buf: &mut BytesMut, n: usize) -> Result<Option<BackendMessage>, Wir
     if !is_laid_out(tag, &buf.as_slice()[5..n]) {
         return Err(WireFault::Layout);
     }
-    let mut body = match buf.freeze_to(n) {
-        Ok(body) => body,
-        Err(_) => return Err(WireFault::OutOfMemory),
-    };
+    let mut body = buf.freeze_to(n)?;
     body.advance(5);
     match message_of(tag, body) {
         Ok(message) => Ok(Some(BackendMessage::Async(message))),

@@ -1,22 +1,22 @@
 //! The frames that a client writes.
 
-ghost use Rattle.std.specs.Prelude.{◌≡◌, ◌+◌, ◌≤◌, ◌<◌, ◌++◌, ◌∷◌, [], length, min, Ok, IfOk, IfErr, MatchResult};
+ghost use Rattle.std.specs.Prelude.{◌≡◌, ◌+◌, ◌≤◌, ◌++◌, ◌∷◌, [], length, min, Ok, MatchResult};
 ghost use Rattle.std.specs.List.{list_any};
-ghost use Rattle.pg_spec.specs.Bytes.{text0};
 ghost use Rattle.pg_spec.specs.Frames as frames;
 ghost use Rattle.pg_wire.specs.Writes.{Writes, pair_has_zero, pairs_bytes};
 
 use crate::fault::FrameFault;
+use crate::frame::{begin, frame_len, has_zero, put_text};
 use bytes::BytesMut;
 use pg_types::{List, OutOfMemory, Text};
 use std::alloc::Global;
 use std::marker::Model;
 
-/// The largest number that a length field holds, in bytes.
-const MAX_LEN: usize = 2_147_483_647;
-
 /// Version 3.0 of the protocol (PostgreSQL documentation, "Message Formats", under StartupMessage).
 const VERSION: [u8; 4] = [0, 3, 0, 0];
+
+/// The frame Terminate, which ends a session.
+pub const TERMINATE: [u8; 5] = [b'X', 0, 0, 0, 4];
 
 /// Names and values of a startup frame, in order.
 #[derive(Drop)]
@@ -46,12 +46,8 @@ impl StartupParams {
     pub fn push(&mut self, alloc: Global, name: &str, value: &str) -> Result<(), OutOfMemory>
         ensures { MatchResult result (λ _. self.new ≡ self.old ++ (name.now, value.now) ∷ []) (λ _. self.new ≡ self.old) }
     {
-        let Ok(name) = Text::from_str(alloc, name) else {
-            return Err(OutOfMemory);
-        };
-        let Ok(value) = Text::from_str(alloc, value) else {
-            return Err(OutOfMemory);
-        };
+        let name = Text::from_str(alloc, name)?;
+        let value = Text::from_str(alloc, value)?;
         match self.pairs.push((name, value)) {
             Ok(()) => Ok(()),
             Err(_) => Err(OutOfMemory),
@@ -68,14 +64,9 @@ pub fn startup_message(params: &StartupParams, out: &mut BytesMut) -> Result<(),
     if any_zero(pairs) {
         return Err(FrameFault::ZeroByte);
     }
-    let len = match frame_len(pairs_len(pairs).saturating_add(5)) {
-        Ok(len) => len,
-        Err(fault) => return Err(fault),
-    };
+    let len = frame_len(pairs_len(pairs).saturating_add(5))?;
     // Room for the whole frame comes first, so a failure leaves no part of it.
-    if out.reserve(len as usize).is_err() {
-        return Err(FrameFault::OutOfMemory);
-    }
+    out.reserve(len as usize)?;
     out.extend_reserved(&len.to_be_bytes());
     out.extend_reserved(&VERSION);
     put_pairs(pairs, out);
@@ -88,7 +79,7 @@ fn any_zero(pairs: &[(Text, Text)]) -> bool
     ensures { result ≡ list_any pair_has_zero pairs.now }
 {
     for (name, value) in pairs {
-        if has_zero(name.as_str()) || has_zero(value.as_str()) {
+        if has_zero(name.as_str().as_bytes()) || has_zero(value.as_str().as_bytes()) {
             return true;
         }
     }
@@ -116,19 +107,9 @@ fn put_pairs(pairs: &[(Text, Text)], out: &mut BytesMut)
     ensures spare { out.new.spare + length (pairs_bytes pairs.now) ≡ out.old.spare }
 {
     for (name, value) in pairs {
-        put_text(name.as_str(), out);
-        put_text(value.as_str(), out);
+        put_text(name.as_str().as_bytes(), out);
+        put_text(value.as_str().as_bytes(), out);
     }
-}
-
-/// Appends a text and its zero byte, for which there is room.
-fn put_text(text: &str, out: &mut BytesMut)
-    requires { length text.now + 1 ≤ out.old.spare }
-    ensures items { out.new.items ≡ out.old.items ++ text0 text.now }
-    ensures spare { out.new.spare + (length text.now + 1) ≡ out.old.spare }
-{
-    out.extend_reserved(text.as_bytes());
-    out.extend_reserved(b"\0");
 }
 
 /// Appends a Query frame. ZeroByte comes where the text holds a zero byte, then TooLong where the frame
@@ -136,19 +117,11 @@ fn put_text(text: &str, out: &mut BytesMut)
 pub fn query(text: &str, out: &mut BytesMut) -> Result<(), FrameFault>
     ensures { Writes (frames.query_frame text.now) out.old.items out.new.items result }
 {
+    let text = text.as_bytes();
     if has_zero(text) {
         return Err(FrameFault::ZeroByte);
     }
-    let len = match frame_len(text.len().saturating_add(1)) {
-        Ok(len) => len,
-        Err(fault) => return Err(fault),
-    };
-    // Room for the whole frame comes first, so a failure leaves no part of it.
-    if out.reserve(text.len() + 6).is_err() {
-        return Err(FrameFault::OutOfMemory);
-    }
-    out.extend_reserved(b"Q");
-    out.extend_reserved(&len.to_be_bytes());
+    begin(b'Q', text.len().saturating_add(1), out)?;
     put_text(text, out);
     Ok(())
 }
@@ -157,15 +130,7 @@ pub fn query(text: &str, out: &mut BytesMut) -> Result<(), FrameFault>
 pub fn copy_data(payload: &[u8], out: &mut BytesMut) -> Result<(), FrameFault>
     ensures { Writes (frames.copy_data_frame payload.now) out.old.items out.new.items result }
 {
-    let len = match frame_len(payload.len()) {
-        Ok(len) => len,
-        Err(fault) => return Err(fault),
-    };
-    if out.reserve(payload.len() + 5).is_err() {
-        return Err(FrameFault::OutOfMemory);
-    }
-    out.extend_reserved(b"d");
-    out.extend_reserved(&len.to_be_bytes());
+    begin(b'd', payload.len(), out)?;
     out.extend_reserved(payload);
     Ok(())
 }
@@ -174,26 +139,6 @@ pub fn copy_data(payload: &[u8], out: &mut BytesMut) -> Result<(), FrameFault>
 pub fn terminate(out: &mut BytesMut) -> Result<(), FrameFault>
     ensures { Writes (Ok frames.terminate_frame) out.old.items out.new.items result }
 {
-    match out.extend_from_slice(b"X\0\0\0\x04") {
-        Ok(()) => Ok(()),
-        Err(_) => Err(FrameFault::OutOfMemory),
-    }
-}
-
-/// Whether a zero byte stands in the text.
-fn has_zero(text: &str) -> bool
-    ensures { result ≡ frames.has_zero text.now }
-{
-    text.as_bytes().iter().any(|b| *b == 0)
-}
-
-/// The length field of a frame whose body has so many bytes, or TooLong.
-fn frame_len(body: usize) -> Result<u32, FrameFault>
-    ensures ok { IfOk result (λ len. (len ≡ 4 + body) × (len ≤ 2147483647)) }
-    ensures err { IfErr result (λ fault. (fault ≡ FrameFault.TooLong) × (2147483647 < 4 + body)) }
-{
-    if body > MAX_LEN - 4 {
-        return Err(FrameFault::TooLong);
-    }
-    Ok(body as u32 + 4)
+    out.extend_from_slice(&TERMINATE)?;
+    Ok(())
 }

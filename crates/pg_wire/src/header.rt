@@ -1,6 +1,6 @@
 //! The header of a message of the server.
 
-ghost use Rattle.std.specs.Prelude.{◌≡◌, ◌<◌, ◌↔◌, Ok, length, IfOk, IfSome, IsErr};
+ghost use Rattle.std.specs.Prelude.{◌≡◌, ◌<◌, ◌↔◌, Ok, Err, length, IfOk, IfSome, IfErr};
 ghost use Rattle.pg_wire.specs.Header.{StandsAtFront, HasBadLength, tag_of, len_of};
 
 use crate::fault::WireFault;
@@ -14,11 +14,12 @@ pub struct Header {
 
 impl Header {
     /// Reads the header at the front of `buf`, or gives `None` where more bytes have to come. BadLength
-    /// comes exactly where the length is below 4.
+    /// comes exactly where the length is below 4, and no other fault.
     pub fn parse(buf: &[u8]) -> Result<Option<Header>, WireFault>
         ensures incomplete { (result ≡ Ok None) ↔ (length buf.now < 5) }
         ensures header { IfOk result (λ found. IfSome found (StandsAtFront buf.now)) }
-        ensures bad_length { IsErr result ↔ HasBadLength buf.now }
+        ensures bad_length { (result ≡ Err WireFault.BadLength) ↔ HasBadLength buf.now }
+        ensures only { IfErr result (λ fault. fault ≡ WireFault.BadLength) }
     {
         let [tag, a, b, c, d, ..] = *buf else {
             return Ok(None);

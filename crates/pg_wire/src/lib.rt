@@ -7,6 +7,7 @@ mod body;
 mod codec;
 mod error_fields;
 mod fault;
+pub mod frame;
 mod front;
 mod frontend;
 mod giving;
@@ -14,8 +15,6 @@ mod header;
 mod laws;
 mod layout;
 mod link;
-#[cfg(test)]
-mod link_tests;
 mod mechanisms;
 mod memory_link;
 mod memory_stream;
@@ -25,8 +24,6 @@ mod ranges;
 mod row_fields;
 mod std_stream;
 mod stream;
-#[cfg(test)]
-mod tests;
 mod texts;
 mod turning;
 
@@ -41,7 +38,7 @@ pub use body::{
 pub use codec::{BackendMessage, FrontendMessage, PostgresCodec};
 pub use error_fields::{ErrorField, ErrorFields};
 pub use fault::{FrameFault, WireFault};
-pub use frontend::{StartupParams, copy_data, query, startup_message, terminate};
+pub use frontend::{StartupParams, TERMINATE, copy_data, query, startup_message, terminate};
 pub use header::Header;
 pub use laws::{cuttings_of_a_stream, steps_of_a_body};
 pub use link::{Link, LinkRead, LinkStep, LinkWait, LinkWrite};

@@ -1,8 +1,8 @@
 //! A link in memory, whose course is known.
 
 ghost use Rattle.std.specs.Prelude.{◌≡◌, ◌<◌, ◌≤◌, [], length, false};
-ghost use Rattle.pg_wire.specs.LinkCalls.{Keeps, KeepsPromise, ReadAnswers, WriteAnswers, StepAnswers, WaitAnswers, gave, took};
-ghost use Rattle.pg_wire.specs.Memory.{Reads, TakesUp, StaysSame, Waits, IsKept, link_of};
+ghost use Rattle.pg_wire.specs.LinkCalls.{Keeps, KeepsPromise, ReadAnswers, WriteAnswers, FlushAnswers, ShutdownAnswers, WaitAnswers, gave, took};
+ghost use Rattle.pg_wire.specs.Memory.{Reads, TakesUp, PassesOn, EndsWriting, Waits, KeepsItsPromise, link_of};
 ghost use Rattle.pg_wire.specs.Giving.{lists};
 
 use crate::giving::Giving;
@@ -22,6 +22,8 @@ pub struct MemoryLink {
     taken: Vec<u8>,
     turning: Turning,
     promised: bool,
+    flushed: bool,
+    shut: bool,
     quiet: u64,
     dry: u64,
     lulls: u64,
@@ -54,6 +56,8 @@ impl MemoryLink {
           given = [];
           taken = [];
           promised = false;
+          flushed = false;
+          shut = false;
           quiet = 0;
           dry = 0;
           lulls = 0;
@@ -68,6 +72,8 @@ impl MemoryLink {
             taken: Vec::new(alloc),
             turning: Turning::new(),
             promised: false,
+            flushed: false,
+            shut: false,
             quiet: 0,
             dry: 0,
             lulls: 0,
@@ -88,7 +94,7 @@ impl MemoryLink {
     fn give(&mut self, out: &mut [u8]) -> LinkRead
         requires { 0 < length out.old }
         ensures exact { Reads self.old self.new out.new result }
-        ensures kept { IsKept self.old }
+        ensures kept { KeepsItsPromise self.old }
     {
         let limit = self.cut.min(out.len());
         let n = self.giving.give(self.turning.turns, &mut out[..limit]);
@@ -132,24 +138,27 @@ impl Link for MemoryLink {
         }
         self.turning = self.turning.advance(&self.taken);
         self.promised = false;
+        self.flushed = false;
         LinkWrite::Took(n)
     }
 
     fn flush(&mut self) -> LinkStep
-        ensures answer { StepAnswers (link_of self.old) (link_of self.new) result }
+        ensures answer { FlushAnswers (link_of self.old) (link_of self.new) result }
         ensures keeps { Keeps (link_of self.old) (link_of self.new) }
         ensures promise { KeepsPromise (link_of self.old) (link_of self.new) false }
-        ensures exact { StaysSame self.old self.new result }
+        ensures exact { PassesOn self.old self.new result }
     {
+        self.flushed = true;
         LinkStep::Done
     }
 
     fn shutdown(&mut self) -> LinkStep
-        ensures answer { StepAnswers (link_of self.old) (link_of self.new) result }
+        ensures answer { ShutdownAnswers (link_of self.old) (link_of self.new) result }
         ensures keeps { Keeps (link_of self.old) (link_of self.new) }
         ensures promise { KeepsPromise (link_of self.old) (link_of self.new) false }
-        ensures exact { StaysSame self.old self.new result }
+        ensures exact { EndsWriting self.old self.new result }
     {
+        self.shut = true;
         LinkStep::Done
     }
 

@@ -2,7 +2,7 @@
 
 ghost use Rattle.std.specs.Prelude.{◌≡◌, ◌<◌, ◌≤◌, [], length};
 ghost use Rattle.pg_wire.specs.MemoryStreams.{source_of, sink_of, ReadsLeft, TakesAll, IsFlushed};
-ghost use Rattle.pg_wire.specs.Streams.{SourceAnswers, SinkAnswers, FlushAnswers};
+ghost use Rattle.pg_wire.specs.Streams.{SourceAnswers, SinkAnswers, SinkFlushAnswers};
 
 use crate::giving::copy_front;
 use crate::stream::{Sink, SinkFlush, SinkWrite, Source, SourceRead};
@@ -109,7 +109,7 @@ impl Sink for MemorySink {
     }
 
     fn flush(&mut self) -> SinkFlush
-        ensures answer { FlushAnswers (sink_of self.old) (sink_of self.new) result }
+        ensures answer { SinkFlushAnswers (sink_of self.old) (sink_of self.new) result }
         ensures count { (sink_of self.old).faults ≤ (sink_of self.new).faults }
         ensures exact { IsFlushed self.old self.new result }
     {

@@ -63,16 +63,9 @@ impl Message {
             Found::Bad => return Err(WireFault::BadLength),
         };
         let tag = buf.as_slice()[0];
-        let body = match buf.slice(5..n) {
-            Ok(body) => body,
-            Err(_) => return Err(WireFault::OutOfMemory),
-        };
-        match message_of(tag, body) {
-            Ok(message) => {
-                buf.advance(n);
-                Ok(Some(message))
-            }
-            Err(fault) => Err(fault),
-        }
+        let body = buf.slice(5..n)?;
+        let message = message_of(tag, body)?;
+        buf.advance(n);
+        Ok(Some(message))
     }
 }

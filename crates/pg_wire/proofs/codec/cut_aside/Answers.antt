@@ -8,10 +8,10 @@ returns-then-not-is_laid_out c =
 pub unreachable-requires : goal.unreachable-requires
 unreachable-requires c =
     not_refused _ _ _
-    (same_aside _ _ _ _ _ _ c.as_slice.ensures c.as_slice-2.ensures c.requires.whole.some c.in-Ok.ensures.front c.advance.ensures)
-    c.if-not-is_laid_out.ensures c.in-Err-message_of.ensures
+    (same_aside _ _ _ _ _ _ c.as_slice.ensures c.as_slice-2.ensures c.requires.whole.some c.in_ok-body.ensures.front c.advance.ensures)
+    c.if-not-is_laid_out.ensures c.in-Err.ensures
 
 pub returns : goal.returns
 returns c =
-    cuts_aside _ _ _ _ _ _ _ c.as_slice.ensures c.requires.whole c.requires.aside c.in-Ok.ensures.front c.in-Ok.ensures.rest.0
-    c.advance.ensures c.in-Ok-message_of.ensures
+    cuts_aside _ _ _ _ _ _ _ c.as_slice.ensures c.requires.whole c.requires.aside c.in_ok-body.ensures.front c.in_ok-body.ensures.rest.0
+    c.advance.ensures c.in-Ok.ensures

@@ -9,6 +9,6 @@ pub returns-clause-keeps : goal.returns-clause-keeps
 returns-clause-keeps c =
     let old = memory_of c.self.inside in
     let taken = c.extend_from_slice.new.self.items in
-    subst (λ (m : Memory). Keeps (link_of m) (link_of (record old { taken = taken; promised = false }))) c.self.view_is
+    subst (λ (m : Memory). Keeps (link_of m) (link_of (record old { taken = taken; promised = false; flushed = false }))) c.self.view_is
     (write-keeps old taken _ c.self.inside.turning c.extend_from_slice.result c.self.invariant.counts c.self.invariant.turns (sym c.is_err.ensures.value ∙ c.if-is_err.false)
     c.extend_from_slice.ensures.items)
