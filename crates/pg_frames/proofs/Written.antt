@@ -11,7 +11,7 @@ use Rattle.pg_wire.specs.declared.fault.FrameFault.{FrameFault}
 use Rattle.pg_wire.specs.declared.fault.FrameFault.TheVariants as frame
 use Rattle.pg_wire.specs.Faults as faults
 use Rattle.pg_wire.specs.Writes.{IsRefusal}
-use Rattle.pg_frames.specs.Begins.{Begins, RefusedFor, RefusesLength}
+use Rattle.pg_wire.specs.Begins.{Begins, RefusedFor, RefusesLength}
 use Rattle.pg_frames.specs.Items.{oid_bytes, format_item, format_bytes, SpellValues}
 
 -- ---- any tagged frame

@@ -23,9 +23,7 @@ pub fn cancel_request(
     ensures { Writes (Ok (frames.cancel_request process_id secret_key)) out.old.items out.new.items result }
 {
     // Room for the whole frame comes first, so a failure leaves no part of it.
-    if out.reserve(16).is_err() {
-        return Err(FrameFault::OutOfMemory);
-    }
+    out.reserve(16)?;
     out.extend_reserved(b"\0\0\0\x10\x04\xd2\x16\x2e");
     out.extend_reserved(&process_id.to_be_bytes());
     out.extend_reserved(&secret_key.to_be_bytes());
@@ -57,8 +55,6 @@ pub fn copy_done(out: &mut BytesMut) -> Result<(), FrameFault>
 fn append(frame: &[u8], out: &mut BytesMut) -> Result<(), FrameFault>
     ensures { Writes (Ok frame.now) out.old.items out.new.items result }
 {
-    match out.extend_from_slice(frame) {
-        Ok(()) => Ok(()),
-        Err(_) => Err(FrameFault::OutOfMemory),
-    }
+    out.extend_from_slice(frame)?;
+    Ok(())
 }

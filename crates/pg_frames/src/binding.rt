@@ -5,10 +5,10 @@ ghost use Rattle.pg_spec.specs.Frames as frames;
 ghost use Rattle.pg_wire.specs.Writes.{Writes};
 ghost use Rattle.pg_frames.specs.Items.{SpellValues};
 
-use crate::frame::{MAX_COUNT, begin, has_zero, put_text, put_u16};
-use crate::items::put_formats;
+use crate::items::{MAX_COUNT, put_formats, put_u16};
 use bytes::BytesMut;
 use pg_wire::FrameFault;
+use pg_wire::frame::{begin, has_zero, put_text};
 
 /// Appends Bind: the portal that is to be made, the statement, the formats of its parameters, the
 /// parameters, and one format for all columns of the result; a format is 0 for text and 1 for binary.
@@ -41,9 +41,7 @@ pub fn bind(
         .saturating_add(portal.len())
         .saturating_add(statement.len())
         .saturating_add(values.len());
-    if let Err(fault) = begin(b'B', len, out) {
-        return Err(fault);
-    }
+    begin(b'B', len, out)?;
     put_text(portal, out);
     put_text(statement, out);
     put_u16(formats.len() as u16, out);

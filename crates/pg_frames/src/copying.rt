@@ -3,9 +3,9 @@
 ghost use Rattle.pg_spec.specs.Frames as frames;
 ghost use Rattle.pg_wire.specs.Writes.{Writes};
 
-use crate::frame::{begin, has_zero, put_text};
 use bytes::BytesMut;
 use pg_wire::FrameFault;
+use pg_wire::frame::{begin, has_zero, put_text};
 
 /// Appends CopyFail, which ends a copy to the server without its rows; the server answers an error that
 /// has the message. ZeroByte comes where the message holds a zero byte, then TooLong where the frame
@@ -17,9 +17,7 @@ pub fn copy_fail(message: &str, out: &mut BytesMut) -> Result<(), FrameFault>
     if has_zero(message) {
         return Err(FrameFault::ZeroByte);
     }
-    if let Err(fault) = begin(b'f', message.len().saturating_add(1), out) {
-        return Err(fault);
-    }
+    begin(b'f', message.len().saturating_add(1), out)?;
     put_text(message, out);
     Ok(())
 }

@@ -4,14 +4,11 @@
 mod alone;
 mod binding;
 mod copying;
-mod frame;
 mod items;
 mod laws;
 mod named;
 mod parsing;
 mod password;
-#[cfg(test)]
-mod tests;
 
 pub use alone::{cancel_request, copy_done, flush, ssl_request, sync};
 pub use binding::bind;

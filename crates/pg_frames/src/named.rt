@@ -4,9 +4,9 @@
 ghost use Rattle.pg_spec.specs.Frames as frames;
 ghost use Rattle.pg_wire.specs.Writes.{Writes};
 
-use crate::frame::{begin, has_zero, put_text};
 use bytes::BytesMut;
 use pg_wire::FrameFault;
+use pg_wire::frame::{begin, has_zero, put_text};
 
 /// Appends Describe. `variant` is `S` for a statement and `P` for a portal. ZeroByte comes where the name
 /// holds a zero byte, then TooLong where the frame passes its length field.
@@ -17,9 +17,7 @@ pub fn describe(variant: u8, name: &str, out: &mut BytesMut) -> Result<(), Frame
     if has_zero(name) {
         return Err(FrameFault::ZeroByte);
     }
-    if let Err(fault) = begin(b'D', name.len().saturating_add(2), out) {
-        return Err(fault);
-    }
+    begin(b'D', name.len().saturating_add(2), out)?;
     out.extend_reserved(&[variant]);
     put_text(name, out);
     Ok(())
@@ -34,9 +32,7 @@ pub fn close(variant: u8, name: &str, out: &mut BytesMut) -> Result<(), FrameFau
     if has_zero(name) {
         return Err(FrameFault::ZeroByte);
     }
-    if let Err(fault) = begin(b'C', name.len().saturating_add(2), out) {
-        return Err(fault);
-    }
+    begin(b'C', name.len().saturating_add(2), out)?;
     out.extend_reserved(&[variant]);
     put_text(name, out);
     Ok(())
@@ -51,9 +47,7 @@ pub fn execute(portal: &str, max_rows: i32, out: &mut BytesMut) -> Result<(), Fr
     if has_zero(portal) {
         return Err(FrameFault::ZeroByte);
     }
-    if let Err(fault) = begin(b'E', portal.len().saturating_add(5), out) {
-        return Err(fault);
-    }
+    begin(b'E', portal.len().saturating_add(5), out)?;
     put_text(portal, out);
     out.extend_reserved(&max_rows.to_be_bytes());
     Ok(())

@@ -3,10 +3,10 @@
 ghost use Rattle.pg_spec.specs.Frames as frames;
 ghost use Rattle.pg_wire.specs.Writes.{Writes};
 
-use crate::frame::{MAX_COUNT, begin, has_zero, put_text, put_u16};
-use crate::items::put_oids;
+use crate::items::{MAX_COUNT, put_oids, put_u16};
 use bytes::BytesMut;
 use pg_wire::FrameFault;
+use pg_wire::frame::{begin, has_zero, put_text};
 
 /// Appends Parse: the name of the statement that is to be made, its text, and the types of its first
 /// parameters, 0 for one that the server finds. ZeroByte comes where the name or the text holds a zero
@@ -24,9 +24,7 @@ pub fn parse(name: &str, text: &str, oids: &[u32], out: &mut BytesMut) -> Result
     }
     let fixed = oids.len() * 4 + 4;
     let len = fixed.saturating_add(name.len()).saturating_add(text.len());
-    if let Err(fault) = begin(b'P', len, out) {
-        return Err(fault);
-    }
+    begin(b'P', len, out)?;
     put_text(name, out);
     put_text(text, out);
     put_u16(oids.len() as u16, out);

@@ -4,9 +4,9 @@
 ghost use Rattle.pg_spec.specs.Frames as frames;
 ghost use Rattle.pg_wire.specs.Writes.{Writes};
 
-use crate::frame::{begin, has_zero, put_text};
 use bytes::BytesMut;
 use pg_wire::FrameFault;
+use pg_wire::frame::{begin, has_zero, put_text};
 
 /// Appends PasswordMessage. ZeroByte comes where the password holds a zero byte, then TooLong where the
 /// frame passes its length field.
@@ -16,9 +16,7 @@ pub fn password_message(password: &[u8], out: &mut BytesMut) -> Result<(), Frame
     if has_zero(password) {
         return Err(FrameFault::ZeroByte);
     }
-    if let Err(fault) = begin(b'p', password.len().saturating_add(1), out) {
-        return Err(fault);
-    }
+    begin(b'p', password.len().saturating_add(1), out)?;
     put_text(password, out);
     Ok(())
 }
@@ -40,9 +38,7 @@ pub fn sasl_initial_response(
         .len()
         .saturating_add(5)
         .saturating_add(response.len());
-    if let Err(fault) = begin(b'p', len, out) {
-        return Err(fault);
-    }
+    begin(b'p', len, out)?;
     put_text(mechanism, out);
     out.extend_reserved(&(response.len() as u32).to_be_bytes());
     out.extend_reserved(response);
@@ -53,9 +49,7 @@ pub fn sasl_initial_response(
 pub fn sasl_response(response: &[u8], out: &mut BytesMut) -> Result<(), FrameFault>
     ensures { Writes (frames.sasl_frame response.now) out.old.items out.new.items result }
 {
-    if let Err(fault) = begin(b'p', response.len(), out) {
-        return Err(fault);
-    }
+    begin(b'p', response.len(), out)?;
     out.extend_reserved(response);
     Ok(())
 }
