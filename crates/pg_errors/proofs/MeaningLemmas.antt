@@ -13,8 +13,8 @@ use Rattle.pg_errors.specs.declared.db_error.ErrorPosition.TheVariants as place
 use Rattle.pg_errors.specs.declared.db_error.DbError.{DbError}
 use Rattle.pg_errors.specs.declared.severity.Severity.{Severity}
 use Rattle.pg_errors.specs.declared.severity.Severity.TheVariants as severity
-use Rattle.pg_errors.specs.Views.{rust_type, value_fault, severity_of, position_of, db_error, cause_of}
-use Rattle.pg_errors.specs.Meanings.{wire_of, frame_of, rust_type_of, value_fault_of, severity_from, position_from, db_error_from, cause_from}
+use Rattle.pg_errors.specs.Views.{rust_type, severity_of, position_of, db_error, cause_of}
+use Rattle.pg_errors.specs.Meanings.{wire_of, frame_of, rust_type_of, severity_from, position_from, db_error_from, cause_from}
 
 -- the fault that stands for what is wrong
 pub wire-by : (fault : WireFault) (cause : spec.WireFault) → wire_fault fault ≡ Some cause → fault ≡ wire_of cause

@@ -3,6 +3,7 @@ pub mod Faults
 pub mod Parsing
 pub mod Meanings
 pub mod Fields
+pub mod Getters
 pub mod Parts
 pub mod Sources
 pub mod Notices

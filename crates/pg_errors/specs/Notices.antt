@@ -1,5 +1,5 @@
 -- What the reader of a notification answers.
-use Rattle.std.specs.Prelude.{◌≡◌, ◌&&◌, Bool, true, false, Result, Ok, Err}
+use Rattle.std.specs.Prelude.{◌≡◌, ◌&&◌, true, false, Result, Ok, Err}
 use Rattle.std.specs.Str.{is_utf8}
 use Rattle.pg_wire.specs.Bodies.{Notified}
 use Rattle.pg_errors.specs.declared.async_message.Notification.{Notification}

@@ -1,5 +1,5 @@
 -- What an error holds.
-use Rattle.std.specs.Prelude.{Option, Some, None, option_map, Bool, true, false}
+use Rattle.std.specs.Prelude.{Option, Some, None, Bool, true, false}
 use Rattle.pg_errors.specs.declared.db_error.DbError.{DbError}
 use Rattle.pg_errors.specs.declared.error.Error.{Error}
 use Rattle.pg_errors.specs.declared.error.Error.TheVariants as error

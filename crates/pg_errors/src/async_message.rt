@@ -29,7 +29,8 @@ pub enum AsyncMessage {
 }
 
 impl Notification {
-    fn new(process_id: i32, channel: Text, payload: Text) -> Notification
+    /// A notification of these parts.
+    pub fn new(process_id: i32, channel: Text, payload: Text) -> Notification
         ensures process_id { result.process_id ≡ process_id }
         ensures channel { result.channel ≡ channel }
         ensures payload { result.payload ≡ payload }
@@ -50,12 +51,8 @@ impl Notification {
         let Ok(payload) = body.message() else {
             return Err(Error::Parse(Cause::NotUtf8));
         };
-        let Ok(channel) = Text::from_str(alloc, channel) else {
-            return Err(Error::OutOfMemory);
-        };
-        let Ok(payload) = Text::from_str(alloc, payload) else {
-            return Err(Error::OutOfMemory);
-        };
+        let channel = Text::from_str(alloc, channel)?;
+        let payload = Text::from_str(alloc, payload)?;
         Ok(Notification::new(body.process_id(), channel, payload))
     }
 
@@ -101,14 +98,12 @@ impl AsyncMessage {
         ensures { ReadsAside message.now result }
     {
         match message {
-            Message::NoticeResponse(body) => match DbError::parse(alloc, body) {
-                Ok(notice) => Ok(Some(AsyncMessage::Notice(notice))),
-                Err(error) => Err(error),
-            },
-            Message::NotificationResponse(body) => match Notification::read(alloc, body) {
-                Ok(notification) => Ok(Some(AsyncMessage::Notification(notification))),
-                Err(error) => Err(error),
-            },
+            Message::NoticeResponse(body) => {
+                Ok(Some(AsyncMessage::Notice(DbError::parse(alloc, body)?)))
+            }
+            Message::NotificationResponse(body) => Ok(Some(AsyncMessage::Notification(
+                Notification::read(alloc, body)?,
+            ))),
             _ => Ok(None),
         }
     }
@@ -118,14 +113,10 @@ impl AsyncMessage {
         ensures { IfOk result (λ m. m ≡ self.now) }
     {
         match self {
-            AsyncMessage::Notice(notice) => match notice.copy(alloc) {
-                Ok(notice) => Ok(AsyncMessage::Notice(notice)),
-                Err(memory) => Err(memory),
-            },
-            AsyncMessage::Notification(notification) => match notification.copy(alloc) {
-                Ok(notification) => Ok(AsyncMessage::Notification(notification)),
-                Err(memory) => Err(memory),
-            },
+            AsyncMessage::Notice(notice) => Ok(AsyncMessage::Notice(notice.copy(alloc)?)),
+            AsyncMessage::Notification(notification) => {
+                Ok(AsyncMessage::Notification(notification.copy(alloc)?))
+            }
         }
     }
 }

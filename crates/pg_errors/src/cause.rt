@@ -1,7 +1,11 @@
 //! What an error comes from.
 
-use pg_types::{Text, ValueFault};
+ghost use Rattle.std.specs.Prelude.{◌≡◌, option_map};
+ghost use Rattle.pg_errors.specs.Getters.{text_of_cause};
+
+use pg_types::{OutOfMemory, Text, ValueFault};
 use pg_wire::{FrameFault, WireFault};
+use std::alloc::AllocError;
 
 /// What is wrong with a message of the SCRAM dialogue (RFC 5802).
 #[derive(Debug, Drop)]
@@ -19,6 +23,28 @@ pub enum ScramFault {
     /// The server's own word for what is wrong.
     ServerError(Text),
     OutOfMemory,
+}
+
+impl From<OutOfMemory> for ScramFault {
+    ghost use Rattle.std.specs.Prelude.{◌≡◌};
+    ghost use Rattle.pg_errors.specs.declared.cause.ScramFault.TheVariants.{OutOfMemory};
+
+    ghost from_gives = { λ _ fault. fault ≡ OutOfMemory };
+
+    fn from(_: OutOfMemory) -> ScramFault {
+        ScramFault::OutOfMemory
+    }
+}
+
+impl From<AllocError> for ScramFault {
+    ghost use Rattle.std.specs.Prelude.{◌≡◌};
+    ghost use Rattle.pg_errors.specs.declared.cause.ScramFault.TheVariants.{OutOfMemory};
+
+    ghost from_gives = { λ _ fault. fault ≡ OutOfMemory };
+
+    fn from(_: AllocError) -> ScramFault {
+        ScramFault::OutOfMemory
+    }
 }
 
 /// What an error comes from.
@@ -84,4 +110,20 @@ pub enum Cause {
     ReadOnly(Text),
     /// The session can write, and was to be read only. With what the server answered.
     NotReadOnly(Text),
+}
+
+impl Cause {
+    /// The text that it holds, as bytes: a key, the server's answer, or its word for what is wrong.
+    pub fn text(&self) -> Option<&[u8]>
+        ensures { option_map (λ text. text.now) result ≡ text_of_cause self.now }
+    {
+        match self {
+            Cause::UnknownOption(key) => Some(key.as_str().as_bytes()),
+            Cause::InvalidValue(key) => Some(key.as_str().as_bytes()),
+            Cause::ReadOnly(answer) => Some(answer.as_str().as_bytes()),
+            Cause::NotReadOnly(answer) => Some(answer.as_str().as_bytes()),
+            Cause::Scram(ScramFault::ServerError(word)) => Some(word.as_str().as_bytes()),
+            _ => None,
+        }
+    }
 }

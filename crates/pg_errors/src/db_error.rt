@@ -1,7 +1,8 @@
 //! Errors and notices of the server.
 
 ghost use Rattle.std.specs.Prelude.{◌≡◌, option_map, IfOk};
-ghost use Rattle.std.specs.Option.{option_copied};
+ghost use Rattle.std.specs.Option.{option_and_then, option_copied};
+ghost use Rattle.pg_errors.specs.Getters.{query_in, severity_name, text_of_field};
 ghost use Rattle.pg_errors.specs.Parsing.{ParsesError};
 
 use crate::cause::Cause;
@@ -12,7 +13,7 @@ use crate::error_fields::{
 };
 use crate::severity::Severity;
 use crate::sql_state::SqlState;
-use pg_types::{OutOfMemory, Text};
+use pg_types::{OutOfMemory, Text, copy_optional, optional_str};
 use pg_wire::ErrorResponseBody;
 use std::alloc::Global;
 use std::fmt;
@@ -135,14 +136,14 @@ impl DbError {
     pub fn detail(&self) -> Option<&str>
         ensures { option_map (λ text. text.now) result ≡ self.now.detail }
     {
-        as_text(&self.detail)
+        optional_str(&self.detail)
     }
 
     /// What may be done about it, maybe in several lines.
     pub fn hint(&self) -> Option<&str>
         ensures { option_map (λ text. text.now) result ≡ self.now.hint }
     {
-        as_text(&self.hint)
+        optional_str(&self.hint)
     }
 
     /// Where in a query the error lies.
@@ -156,49 +157,49 @@ impl DbError {
     pub fn where_(&self) -> Option<&str>
         ensures { option_map (λ text. text.now) result ≡ self.now.where_ }
     {
-        as_text(&self.where_)
+        optional_str(&self.where_)
     }
 
     /// The schema of what the error is about.
     pub fn schema(&self) -> Option<&str>
         ensures { option_map (λ text. text.now) result ≡ self.now.schema }
     {
-        as_text(&self.schema)
+        optional_str(&self.schema)
     }
 
     /// The table that it is about.
     pub fn table(&self) -> Option<&str>
         ensures { option_map (λ text. text.now) result ≡ self.now.table }
     {
-        as_text(&self.table)
+        optional_str(&self.table)
     }
 
     /// The column of that table.
     pub fn column(&self) -> Option<&str>
         ensures { option_map (λ text. text.now) result ≡ self.now.column }
     {
-        as_text(&self.column)
+        optional_str(&self.column)
     }
 
     /// The data type that it is about.
     pub fn datatype(&self) -> Option<&str>
         ensures { option_map (λ text. text.now) result ≡ self.now.datatype }
     {
-        as_text(&self.datatype)
+        optional_str(&self.datatype)
     }
 
     /// The constraint that it is about.
     pub fn constraint(&self) -> Option<&str>
         ensures { option_map (λ text. text.now) result ≡ self.now.constraint }
     {
-        as_text(&self.constraint)
+        optional_str(&self.constraint)
     }
 
     /// The file of the server's source that told the error.
     pub fn file(&self) -> Option<&str>
         ensures { option_map (λ text. text.now) result ≡ self.now.file }
     {
-        as_text(&self.file)
+        optional_str(&self.file)
     }
 
     /// The line of that file, from 1.
@@ -212,7 +213,61 @@ impl DbError {
     pub fn routine(&self) -> Option<&str>
         ensures { option_map (λ text. text.now) result ≡ self.now.routine }
     {
-        as_text(&self.routine)
+        optional_str(&self.routine)
+    }
+
+    /// The text of a field, as bytes, by its letter in the manual (PostgreSQL documentation, "Error and
+    /// Notice Message Fields"). The fields P, p and L are numbers: `position` and `line` give them.
+    pub fn field(&self, letter: u8) -> Option<&[u8]>
+        ensures { option_map (λ text. text.now) result ≡ text_of_field letter self.now }
+    {
+        match self.text_of(letter) {
+            Some(text) => Some(text.as_bytes()),
+            None => None,
+        }
+    }
+
+    fn text_of(&self, letter: u8) -> Option<&str>
+        ensures { option_map (λ text. text.now) result ≡ text_of_field letter self.now }
+    {
+        match letter {
+            b'S' => Some(self.severity()),
+            b'V' => self.severity_name(),
+            b'C' => Some(self.code.code()),
+            b'M' => Some(self.message()),
+            b'D' => self.detail(),
+            b'H' => self.hint(),
+            b'W' => self.where_(),
+            b's' => self.schema(),
+            b't' => self.table(),
+            b'c' => self.column(),
+            b'd' => self.datatype(),
+            b'n' => self.constraint(),
+            b'F' => self.file(),
+            b'R' => self.routine(),
+            b'q' => self.query(),
+            _ => None,
+        }
+    }
+
+    /// The name of the severity that isn't translated.
+    fn severity_name(&self) -> Option<&str>
+        ensures { option_map (λ text. text.now) result ≡ option_map severity_name self.now.parsed_severity }
+    {
+        match self.parsed_severity {
+            Some(severity) => Some(severity.name()),
+            None => None,
+        }
+    }
+
+    /// The query that the server made, where the error lies in one.
+    fn query(&self) -> Option<&str>
+        ensures { option_map (λ text. text.now) result ≡ option_and_then query_in self.now.position }
+    {
+        match &self.position {
+            Some(ErrorPosition::Internal { query, .. }) => Some(query.as_str()),
+            _ => None,
+        }
     }
 
     /// An equal error.
@@ -224,40 +279,19 @@ impl DbError {
             parsed_severity: self.parsed_severity,
             code: self.code.copy(alloc)?,
             message: self.message.copy(alloc)?,
-            detail: copy_text(alloc, &self.detail)?,
-            hint: copy_text(alloc, &self.hint)?,
+            detail: copy_optional(alloc, &self.detail)?,
+            hint: copy_optional(alloc, &self.hint)?,
             position: copy_position(alloc, &self.position)?,
-            where_: copy_text(alloc, &self.where_)?,
-            schema: copy_text(alloc, &self.schema)?,
-            table: copy_text(alloc, &self.table)?,
-            column: copy_text(alloc, &self.column)?,
-            datatype: copy_text(alloc, &self.datatype)?,
-            constraint: copy_text(alloc, &self.constraint)?,
-            file: copy_text(alloc, &self.file)?,
+            where_: copy_optional(alloc, &self.where_)?,
+            schema: copy_optional(alloc, &self.schema)?,
+            table: copy_optional(alloc, &self.table)?,
+            column: copy_optional(alloc, &self.column)?,
+            datatype: copy_optional(alloc, &self.datatype)?,
+            constraint: copy_optional(alloc, &self.constraint)?,
+            file: copy_optional(alloc, &self.file)?,
             line: self.line,
-            routine: copy_text(alloc, &self.routine)?,
+            routine: copy_optional(alloc, &self.routine)?,
         })
-    }
-}
-
-fn as_text(text: &Option<Text>) -> Option<&str>
-    ensures { option_map (λ text. text.now) result ≡ text.now }
-{
-    match text {
-        Some(text) => Some(text.as_str()),
-        None => None,
-    }
-}
-
-fn copy_text(alloc: Global, text: &Option<Text>) -> Result<Option<Text>, OutOfMemory>
-    ensures { IfOk result (λ copy. copy ≡ text.now) }
-{
-    match text {
-        Some(text) => match text.copy(alloc) {
-            Ok(text) => Ok(Some(text)),
-            Err(memory) => Err(memory),
-        },
-        None => Ok(None),
     }
 }
 
@@ -268,10 +302,7 @@ fn copy_position(
     ensures { IfOk result (λ copy. copy ≡ position.now) }
 {
     match position {
-        Some(position) => match position.copy(alloc) {
-            Ok(position) => Ok(Some(position)),
-            Err(memory) => Err(memory),
-        },
+        Some(position) => Ok(Some(position.copy(alloc)?)),
         None => Ok(None),
     }
 }
@@ -283,13 +314,10 @@ impl ErrorPosition {
     {
         match self {
             ErrorPosition::Original(place) => Ok(ErrorPosition::Original(*place)),
-            ErrorPosition::Internal { position, query } => match query.copy(alloc) {
-                Ok(query) => Ok(ErrorPosition::Internal {
-                    position: *position,
-                    query,
-                }),
-                Err(memory) => Err(memory),
-            },
+            ErrorPosition::Internal { position, query } => Ok(ErrorPosition::Internal {
+                position: *position,
+                query: query.copy(alloc)?,
+            }),
         }
     }
 }

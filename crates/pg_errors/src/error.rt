@@ -2,12 +2,15 @@
 
 ghost use Rattle.std.specs.Prelude.{◌≡◌, option_map};
 ghost use Rattle.std.specs.Option.{option_copied};
+ghost use Rattle.pg_errors.specs.Getters.{cause_in, kind_of, numbers_in, place_in, sql_state_in};
 ghost use Rattle.pg_errors.specs.Sources.{db_error_in, is_closed_error, source_in};
 
 use crate::cause::Cause;
 use crate::db_error::DbError;
+use crate::error_kind::ErrorKind;
 use crate::sql_state::SqlState;
-use pg_types::Text;
+use pg_types::{OutOfMemory, Text};
+use std::alloc::{AllocError, AllocFailed};
 use std::fmt;
 
 /// Why a call gives no value. Want of memory is never a cause of another.
@@ -113,6 +116,121 @@ impl Error {
             Error::Connect(cause) => Some(Source::Cause(cause)),
             _ => None,
         }
+    }
+
+    /// Which kind of error it is.
+    pub fn kind(&self) -> ErrorKind
+        ensures { result ≡ kind_of self.now }
+    {
+        match self {
+            Error::Io(_) => ErrorKind::Io,
+            Error::UnexpectedMessage => ErrorKind::UnexpectedMessage,
+            Error::Tls(_) => ErrorKind::Tls,
+            Error::ToSql(_, _) => ErrorKind::ToSql,
+            Error::FromSql(_, _) => ErrorKind::FromSql,
+            Error::Column(_) => ErrorKind::Column,
+            Error::ColumnCount => ErrorKind::ColumnCount,
+            Error::Parameters(_, _) => ErrorKind::Parameters,
+            Error::Closed => ErrorKind::Closed,
+            Error::Db(_) => ErrorKind::Db,
+            Error::Parse(_) => ErrorKind::Parse,
+            Error::Encode(_) => ErrorKind::Encode,
+            Error::Authentication(_) => ErrorKind::Authentication,
+            Error::ConfigParse(_) => ErrorKind::ConfigParse,
+            Error::Config(_) => ErrorKind::Config,
+            Error::RowCount => ErrorKind::RowCount,
+            Error::Connect(_) => ErrorKind::Connect,
+            Error::Stalled { .. } => ErrorKind::Stalled,
+            Error::LimitReached { .. } => ErrorKind::LimitReached,
+            Error::Missing => ErrorKind::Missing,
+            Error::OutOfMemory => ErrorKind::OutOfMemory,
+        }
+    }
+
+    /// The place of the parameter or the column that it is about, from 0: of ToSql and FromSql.
+    pub fn place(&self) -> Option<usize>
+        ensures { result ≡ place_in self.now }
+    {
+        match self {
+            Error::ToSql(place, _) => Some(*place),
+            Error::FromSql(place, _) => Some(*place),
+            _ => None,
+        }
+    }
+
+    /// The two numbers of Parameters, Stalled and LimitReached, in their order there.
+    pub fn numbers(&self) -> Option<(u64, u64)>
+        ensures { result ≡ numbers_in self.now }
+    {
+        match self {
+            Error::Parameters(given, expected) => Some((*given as u64, *expected as u64)),
+            Error::Stalled { before, after } => Some((*before, *after)),
+            Error::LimitReached { given, limit } => Some((*given, *limit)),
+            _ => None,
+        }
+    }
+
+    /// The cause that it holds.
+    pub fn cause(&self) -> Option<&Cause>
+        ensures { option_copied result ≡ cause_in self.now }
+    {
+        match self {
+            Error::Io(cause) => Some(cause),
+            Error::Tls(cause) => Some(cause),
+            Error::ToSql(_, cause) => Some(cause),
+            Error::FromSql(_, cause) => Some(cause),
+            Error::Parse(cause) => Some(cause),
+            Error::Encode(cause) => Some(cause),
+            Error::Authentication(cause) => Some(cause),
+            Error::ConfigParse(cause) => Some(cause),
+            Error::Config(cause) => Some(cause),
+            Error::Connect(cause) => Some(cause),
+            _ => None,
+        }
+    }
+
+    /// The SQLSTATE of an error of the server, as bytes.
+    pub fn sql_state(&self) -> Option<&[u8]>
+        ensures { option_map (λ state. state.now) result ≡ sql_state_in self.now }
+    {
+        match self {
+            Error::Db(error) => Some(error.code().code().as_bytes()),
+            _ => None,
+        }
+    }
+}
+
+impl From<OutOfMemory> for Error {
+    ghost use Rattle.std.specs.Prelude.{◌≡◌};
+    ghost use Rattle.pg_errors.specs.declared.error.Error.TheVariants.{OutOfMemory};
+
+    ghost from_gives = { λ _ e. e ≡ OutOfMemory };
+
+    fn from(_: OutOfMemory) -> Error {
+        Error::OutOfMemory
+    }
+}
+
+impl From<AllocError> for Error {
+    ghost use Rattle.std.specs.Prelude.{◌≡◌};
+    ghost use Rattle.pg_errors.specs.declared.error.Error.TheVariants.{OutOfMemory};
+
+    ghost from_gives = { λ _ e. e ≡ OutOfMemory };
+
+    fn from(_: AllocError) -> Error {
+        Error::OutOfMemory
+    }
+}
+
+/// So that `?` takes a refused `push`. What wasn't stored is dropped.
+impl<T: Drop> From<AllocFailed<T>> for Error {
+    ghost use Rattle.std.specs.Prelude.{◌≡◌};
+    ghost use Rattle.pg_errors.specs.declared.error.Error.TheVariants.{OutOfMemory};
+
+    ghost from_gives = { λ _ e. e ≡ OutOfMemory };
+
+    fn from(_: AllocFailed<T>) -> Error {
+        Error::OutOfMemory
     }
 }
 

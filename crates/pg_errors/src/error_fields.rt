@@ -3,6 +3,7 @@
 
 ghost use Rattle.std.specs.Prelude.{◌≡◌, is_some, option_map, MatchResult};
 ghost use Rattle.std.specs.Option.{option_and_then};
+ghost use Rattle.std.specs.Str.{byte};
 ghost use Rattle.std.specs.Str.Lossy.{utf8_lossy};
 ghost use Rattle.pg_spec.specs.DbErrors as spec;
 ghost use Rattle.pg_spec.specs.Numerals as numerals;
@@ -53,10 +54,7 @@ pub(crate) fn last_value(body: &ErrorResponseBody, kind: u8) -> Option<&[u8]>
 fn text_of(alloc: Global, value: &[u8]) -> Result<Text, Error>
     ensures { MatchResult result (λ text. text ≡ utf8_lossy value.now) (λ e. e ≡ OutOfMemory) }
 {
-    match String::from_utf8_lossy(alloc, value) {
-        Ok(string) => Ok(Text::new(string)),
-        Err(_) => Err(Error::OutOfMemory),
-    }
+    Ok(Text::new(String::from_utf8_lossy(alloc, value)?))
 }
 
 /// The last field of a kind, as a text.
@@ -66,10 +64,7 @@ pub(crate) fn text(alloc: Global, body: &ErrorResponseBody, kind: u8) -> Result<
     let Some(value) = last_value(body, kind) else {
         return Ok(None);
     };
-    match text_of(alloc, value) {
-        Ok(text) => Ok(Some(text)),
-        Err(error) => Err(error),
-    }
+    Ok(Some(text_of(alloc, value)?))
 }
 
 fn number_in(text: &str) -> Option<u32>
@@ -86,29 +81,22 @@ pub(crate) fn number(
 ) -> Result<Option<u32>, Error>
     ensures { MatchResult result (λ n. n ≡ spec.number_of kind (fields_in body.now.fields)) (λ e. e ≡ OutOfMemory) }
 {
-    match text(alloc, body, kind) {
-        Ok(Some(text)) => Ok(number_in(text.as_str())),
-        Ok(None) => Ok(None),
-        Err(error) => Err(error),
+    match text(alloc, body, kind)? {
+        Some(text) => Ok(number_in(text.as_str())),
+        None => Ok(None),
     }
 }
 
 fn is_number(alloc: Global, value: &[u8]) -> Result<bool, Error>
     ensures { MatchResult result (λ b. b ≡ is_some (numerals.number_in 32 (utf8_lossy value.now))) (λ e. e ≡ OutOfMemory) }
 {
-    match text_of(alloc, value) {
-        Ok(text) => Ok(number_in(text.as_str()).is_some()),
-        Err(error) => Err(error),
-    }
+    Ok(number_in(text_of(alloc, value)?.as_str()).is_some())
 }
 
 fn is_severity(alloc: Global, value: &[u8]) -> Result<bool, Error>
     ensures { MatchResult result (λ b. b ≡ is_some (spec.severity_named (utf8_lossy value.now))) (λ e. e ≡ OutOfMemory) }
 {
-    match text_of(alloc, value) {
-        Ok(text) => Ok(Severity::named(text.as_str()).is_some()),
-        Err(error) => Err(error),
-    }
+    Ok(Severity::named(text_of(alloc, value)?.as_str()).is_some())
 }
 
 /// Each field of a kind is a number.
@@ -122,10 +110,8 @@ pub(crate) fn are_numbers(alloc: Global, body: &ErrorResponseBody, kind: u8) -> 
             _ => return Ok(true),
         };
         if field.type_() == kind {
-            match is_number(alloc, field.value_bytes()) {
-                Ok(true) => {}
-                Ok(false) => return Ok(false),
-                Err(error) => return Err(error),
+            if !is_number(alloc, field.value_bytes())? {
+                return Ok(false);
             }
         }
     }
@@ -142,10 +128,8 @@ pub(crate) fn are_severities(alloc: Global, body: &ErrorResponseBody) -> Result<
             _ => return Ok(true),
         };
         if field.type_() == b'V' {
-            match is_severity(alloc, field.value_bytes()) {
-                Ok(true) => {}
-                Ok(false) => return Ok(false),
-                Err(error) => return Err(error),
+            if !is_severity(alloc, field.value_bytes())? {
+                return Ok(false);
             }
         }
     }
@@ -158,20 +142,15 @@ pub(crate) fn position(
 ) -> Result<Option<ErrorPosition>, Error>
     ensures { MatchResult result (λ p. option_map position_of p ≡ spec.position_of (fields_in body.now.fields)) (λ e. e ≡ OutOfMemory) }
 {
-    match number(alloc, body, b'P') {
-        Ok(Some(place)) => return Ok(Some(ErrorPosition::Original(place))),
-        Ok(None) => {}
-        Err(error) => return Err(error),
+    if let Some(place) = number(alloc, body, b'P')? {
+        return Ok(Some(ErrorPosition::Original(place)));
     }
-    let position = match number(alloc, body, b'p') {
-        Ok(Some(place)) => place,
-        Ok(None) => return Ok(None),
-        Err(error) => return Err(error),
+    let Some(position) = number(alloc, body, b'p')? else {
+        return Ok(None);
     };
-    match text(alloc, body, b'q') {
-        Ok(Some(query)) => Ok(Some(ErrorPosition::Internal { position, query })),
-        Ok(None) => Ok(None),
-        Err(error) => Err(error),
+    match text(alloc, body, b'q')? {
+        Some(query) => Ok(Some(ErrorPosition::Internal { position, query })),
+        None => Ok(None),
     }
 }
 
@@ -181,13 +160,12 @@ pub(crate) fn parsed_severity(
     body: &ErrorResponseBody,
 ) -> Result<Option<Severity>, Error>
     ensures { MatchResult result
-        (λ s. option_map severity_of s ≡ option_and_then spec.severity_named (spec.field_of 86 (fields_in body.now.fields)))
+        (λ s. option_map severity_of s ≡ option_and_then spec.severity_named (spec.field_of (byte "V") (fields_in body.now.fields)))
         (λ e. e ≡ OutOfMemory) }
 {
-    match text(alloc, body, b'V') {
-        Ok(Some(name)) => Ok(Severity::named(name.as_str())),
-        Ok(None) => Ok(None),
-        Err(error) => Err(error),
+    match text(alloc, body, b'V')? {
+        Some(name) => Ok(Severity::named(name.as_str())),
+        None => Ok(None),
     }
 }
 
@@ -247,13 +225,8 @@ pub(crate) fn are_in_form(alloc: Global, body: &ErrorResponseBody) -> Result<boo
     if !are_severities(alloc, body)? {
         return Ok(false);
     }
-    match text(alloc, body, b'p') {
-        Ok(Some(_)) => {}
-        Ok(None) => return Ok(true),
-        Err(error) => return Err(error),
+    if text(alloc, body, b'p')?.is_none() {
+        return Ok(true);
     }
-    match position(alloc, body) {
-        Ok(place) => Ok(place.is_some()),
-        Err(error) => Err(error),
-    }
+    Ok(position(alloc, body)?.is_some())
 }

@@ -2,6 +2,7 @@
 
 ghost use Rattle.std.specs.Prelude.{◌≡◌, option_map};
 ghost use Rattle.pg_spec.specs.DbErrors.{severity_named};
+ghost use Rattle.pg_errors.specs.Getters.{severity_name};
 ghost use Rattle.pg_errors.specs.Views.{severity_of};
 
 use std::fmt;
@@ -59,11 +60,12 @@ impl Severity {
         }
         None
     }
-}
 
-impl fmt::Display for Severity {
-    fn fmt<W: fmt::Write>(&self, f: &mut fmt::Formatter<W>) -> fmt::Result {
-        f.write_str(match self {
+    /// Its name, in capitals.
+    pub(crate) fn name(self) -> &'static str
+        ensures { result.now ≡ severity_name self }
+    {
+        match self {
             Severity::Panic => "PANIC",
             Severity::Fatal => "FATAL",
             Severity::Error => "ERROR",
@@ -72,6 +74,12 @@ impl fmt::Display for Severity {
             Severity::Debug => "DEBUG",
             Severity::Info => "INFO",
             Severity::Log => "LOG",
-        })
+        }
+    }
+}
+
+impl fmt::Display for Severity {
+    fn fmt<W: fmt::Write>(&self, f: &mut fmt::Formatter<W>) -> fmt::Result {
+        f.write_str(self.name())
     }
 }

@@ -28,10 +28,9 @@ impl SqlState {
     pub fn from_code(alloc: Global, code: &str) -> Result<SqlState, OutOfMemory>
         ensures { IfOk result (λ state. state.code ≡ code.now) }
     {
-        match Text::from_str(alloc, code) {
-            Ok(code) => Ok(SqlState { code }),
-            Err(memory) => Err(memory),
-        }
+        Ok(SqlState {
+            code: Text::from_str(alloc, code)?,
+        })
     }
 
     /// The code as the server spells it.
@@ -45,9 +44,8 @@ impl SqlState {
     pub fn copy(&self, alloc: Global) -> Result<SqlState, OutOfMemory>
         ensures { IfOk result (λ state. state ≡ self.now) }
     {
-        match self.code.copy(alloc) {
-            Ok(code) => Ok(SqlState { code }),
-            Err(memory) => Err(memory),
-        }
+        Ok(SqlState {
+            code: self.code.copy(alloc)?,
+        })
     }
 }
