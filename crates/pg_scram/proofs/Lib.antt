@@ -1,5 +1,4 @@
 mod Base64Laws
-mod BindingLaws
 mod Digits
 mod FieldLaws
 mod SpellingLaws

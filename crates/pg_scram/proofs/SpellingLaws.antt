@@ -11,10 +11,9 @@ use Rattle.std.specs.Str.{byte, bytes_eq, all_ascii_digits}
 use Rattle.std.specs.Str.Parse.{digits_value}
 use Rattle.base64.specs.GeneralPurpose.{IsBytes}
 use Rattle.pg_spec.specs.Faults.{◌>>=◌, ScramFault, BadMessage, BadNonce, BadSalt, BadIterations, BadSignature}
-use Rattle.pg_spec.specs.Passwords.{ServerFirst, after_prefix, base64, from_base64, is_nonce_byte, iterations_of, scram_if, scram_or, server_final_fault, server_first_of}
+use Rattle.pg_spec.specs.Passwords.{ServerFirst, after_prefix, base64, from_base64, is_nonce_byte, iterations_of, scram_if, scram_or, server_final_fault, server_first_of, told_by}
 use Rattle.pg_scram.specs.Challenge.{fields_of}
 use Rattle.pg_scram.specs.Spelling.{Spells}
-use Rattle.pg_scram.specs.Verdict.{told_by}
 use Rattle.pg_scram.proofs.Base64Laws.{base64_free, read_back, read_written}
 
 none-some : {A : Type 0} (x : A) → None ≡ Some x → ⊥

@@ -9,7 +9,7 @@ use Rattle.std.proofs.lemmas.Str.{IsUtf8-from_is_utf8, is_utf8-from_IsUtf8}
 use Rattle.std.specs.List.{list_any}
 use Rattle.std.specs.Str.{byte, bytes_eq, is_utf8, IsUtf8}
 use Rattle.pg_spec.specs.Faults.{BadMessage, ServerError}
-use Rattle.pg_scram.specs.Verdict.{told_by}
+use Rattle.pg_spec.specs.Passwords.{told_by}
 
 -- ---- bytes that are compared
 

@@ -1,10 +1,9 @@
 -- The server's first message, by the steps of its checks (RFC 5802, section 7).
-use Rattle.std.specs.Prelude.{◌≡◌, ℕ, ◌==◌, true, List, [], ◌∷◌, Option, Some, None, Result, Ok, Err, nat_eq}
-use Rattle.std.specs.List.{slice_split, starts_with}
+use Rattle.std.specs.Prelude.{◌≡◌, ℕ, ◌==◌, true, List, [], ◌∷◌, Option, Some, None, Result, Ok, Err}
+use Rattle.std.specs.List.{slice_split}
 use Rattle.std.specs.Str.{byte, all_ascii_digits}
 use Rattle.pg_spec.specs.Faults as spec
-use Rattle.pg_spec.specs.Faults.{◌>>=◌}
-use Rattle.pg_spec.specs.Passwords.{ServerFirst, scram_if, scram_or, from_base64, iterations_of, server_first_of}
+use Rattle.pg_spec.specs.Passwords.{ServerFirst, judged, server_first_of}
 use Rattle.pg_errors.specs.declared.cause.ScramFault.{ScramFault}
 use Rattle.pg_scram.specs.declared.challenge.Challenge.{Challenge}
 use Rattle.pg_scram.specs.declared.challenge.Form.{Form}
@@ -18,14 +17,6 @@ fields_of = slice_split (λ c. c == byte ",")
 abbrev pub three_of : List (List ℕ) → Option (List ℕ × (List ℕ × List ℕ))
 three_of (a ∷ b ∷ c ∷ []) = Some (a, (b, c))
 three_of fields = None
-
--- what the checks behind the form make of its three values
-abbrev pub judged : (client_nonce nonce salt digits : List ℕ) → Result ServerFirst spec.ScramFault
-judged client_nonce nonce salt digits = do
-  nonce ← scram_if (starts_with nat_eq nonce client_nonce) nonce spec.BadNonce
-  salt ← scram_or (from_base64 salt) spec.BadSalt
-  iterations ← scram_or (iterations_of digits) spec.BadIterations
-  Ok (record { nonce = nonce; salt = salt; iterations = iterations })
 
 -- the form of a server's first message, or that it has none
 abbrev pub ReadsForm : List ℕ → Option Form → Type 0

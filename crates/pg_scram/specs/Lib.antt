@@ -2,5 +2,4 @@ pub mod Faults
 pub mod Challenge
 pub mod Bindings
 pub mod Dialogue
-pub mod Verdict
 pub mod Spelling

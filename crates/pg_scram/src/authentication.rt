@@ -21,19 +21,12 @@ pub fn md5_hash(
     ensures ok { IfOk result (λ text. text ≡ md5_reply user.now password.now salt) }
     ensures err { IfErr result (λ fault. fault ≡ OutOfMemory) }
 {
-    let Ok(credentials) = hex::encode(alloc, md5_of(password, user)) else {
-        return Err(ScramFault::OutOfMemory);
-    };
-    let Ok(salted) = hex::encode(alloc, md5_of(credentials.as_bytes(), &salt)) else {
-        return Err(ScramFault::OutOfMemory);
-    };
-    let Ok(reply) = format!(in alloc; "md5{salted}") else {
-        return Err(ScramFault::OutOfMemory);
-    };
-    Ok(Text::new(reply))
+    let credentials = hex::encode(alloc, md5_of(password, user))?;
+    let salted = hex::encode(alloc, md5_of(credentials.as_bytes(), &salt))?;
+    Ok(Text::new(format!(in alloc; "md5{salted}")?))
 }
 
-// The digest of two pieces taken as one message.
+/// The digest of two pieces taken as one message.
 fn md5_of(front: &[u8], back: &[u8]) -> [u8; 16]
     ensures { result ≡ digest.md5 (front.now ++ back.now) }
 {

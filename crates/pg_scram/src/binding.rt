@@ -17,7 +17,7 @@ pub enum ChannelBinding {
 }
 
 impl ChannelBinding {
-    // The header of the client's first message.
+    /// The header of the client's first message.
     pub(crate) fn gs2_header(&self) -> &'static [u8]
         ensures { result.now ≡ spec.gs2_header self.now }
     {
@@ -28,7 +28,7 @@ impl ChannelBinding {
         }
     }
 
-    // What the header is followed by in the client's last message.
+    /// What the header is followed by in the client's last message.
     pub(crate) fn data(&self) -> &[u8]
         ensures { result.now ≡ spec.binding_data self.now }
     {

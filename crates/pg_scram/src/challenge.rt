@@ -5,7 +5,7 @@ ghost use Rattle.std.specs.Char.{is_ascii_digit};
 ghost use Rattle.std.specs.List.{list_all};
 ghost use Rattle.std.specs.Str.{all_ascii_digits};
 ghost use Rattle.pg_spec.specs.Passwords as spec;
-ghost use Rattle.pg_scram.specs.Challenge.{ReadsForm, ReadsAs, judged};
+ghost use Rattle.pg_scram.specs.Challenge.{ReadsForm, ReadsAs};
 
 use crate::encoded::from_base64;
 use crate::fields::{three_fields, value_of};
@@ -13,24 +13,24 @@ use pg_errors::ScramFault;
 use std::alloc::Global;
 use std::str;
 
-// What the server asks.
+/// What the server asks.
 #[derive(Drop)]
 pub(crate) struct Challenge<'a> {
-    // The client's nonce and the server's.
+    /// The client's nonce and the server's.
     pub(crate) nonce: &'a [u8],
     pub(crate) salt: Vec<u8>,
     pub(crate) iterations: u32,
 }
 
-// The three values of a message that has the form.
+/// The three values of a message that has the form.
 struct Form<'a> {
     nonce: &'a [u8],
     salt: &'a [u8],
     digits: &'a [u8],
 }
 
-// Reads the server's first message. The checks come in this order: the form, the nonce, the salt, the
-// count.
+/// Reads the server's first message. The checks come in this order: the form, the nonce, the salt, the
+/// count.
 pub(crate) fn read<'a>(
     alloc: Global,
     client_nonce: &[u8],
@@ -52,7 +52,7 @@ pub(crate) fn read<'a>(
     judge(alloc, client_nonce, nonce, salt, digits)
 }
 
-// `r=` nonce `,s=` text `,i=` digits
+/// `r=` nonce `,s=` text `,i=` digits
 fn form_of(message: &[u8]) -> Option<Form<'_>>
     ensures { ReadsForm message.now result }
 {
@@ -71,7 +71,7 @@ fn form_of(message: &[u8]) -> Option<Form<'_>>
     }
 }
 
-// Printable ASCII without a comma.
+/// Printable ASCII without a comma.
 fn is_printable(nonce: &[u8]) -> bool
     ensures { result ≡ list_all spec.is_nonce_byte nonce.now }
 {
@@ -80,7 +80,7 @@ fn is_printable(nonce: &[u8]) -> bool
         .all(|byte| 0x21 <= *byte && *byte <= 0x7e && !(*byte == b','))
 }
 
-// Decimal digits, one at least.
+/// Decimal digits, one at least.
 fn is_number(text: &[u8]) -> bool
     ensures { result ≡ (list_all is_ascii_digit text.now && nat_lt 0 (length text.now)) }
 {
@@ -93,7 +93,7 @@ fn are_digits(text: &[u8]) -> bool
     text.iter().all(|byte| byte.is_ascii_digit())
 }
 
-// The checks behind the form.
+/// The checks behind the form.
 fn judge<'a>(
     alloc: Global,
     client_nonce: &[u8],
@@ -102,16 +102,14 @@ fn judge<'a>(
     digits: &[u8],
 ) -> Result<Challenge<'a>, ScramFault>
     requires { all_ascii_digits digits.now ≡ true }
-    ensures read { ReadsAs result (judged client_nonce.now nonce.now salt.now digits.now) }
+    ensures read { ReadsAs result (spec.judged client_nonce.now nonce.now salt.now digits.now) }
     ensures at_least_one { IfOk result (λ challenge. 1 ≤ challenge.iterations) }
 {
     if !nonce.starts_with(client_nonce) {
         return Err(ScramFault::BadNonce);
     }
-    let salt = match from_base64(alloc, salt) {
-        Ok(Some(salt)) => salt,
-        Ok(None) => return Err(ScramFault::BadSalt),
-        Err(_) => return Err(ScramFault::OutOfMemory),
+    let Some(salt) = from_base64(alloc, salt)? else {
+        return Err(ScramFault::BadSalt);
     };
     let Some(iterations) = iterations(digits) else {
         return Err(ScramFault::BadIterations);
@@ -123,7 +121,7 @@ fn judge<'a>(
     })
 }
 
-// An iteration count: a number of 32 bits of at least 1.
+/// An iteration count: a number of 32 bits of at least 1.
 fn iterations(digits: &[u8]) -> Option<u32>
     requires { all_ascii_digits digits.now ≡ true }
     ensures { result ≡ spec.iterations_of digits.now }

@@ -3,16 +3,7 @@
 ghost use Rattle.std.specs.Prelude.{◌≡◌, ◌↔◌, ◌++◌, ℕ, List, None, Some, Ok, codes};
 ghost use Rattle.base64.specs.GeneralPurpose.{IsBytes};
 ghost use Rattle.pg_spec.specs.Passwords as passwords;
-ghost use Rattle.pg_scram.specs.Bindings as bindings;
 ghost use Rattle.pg_scram.specs.Spelling.{Spells};
-ghost use Rattle.pg_scram.specs.declared.binding.ChannelBinding.TheVariants.{Unsupported};
-
-/// Without channel binding the messages are those of the startup dialogue over a connection without
-/// TLS.
-pub fn messages_without_binding()
-    ensures first { (nonce : List ℕ) → bindings.client_first Unsupported nonce ≡ passwords.client_first nonce }
-    ensures last { (password nonce message : List ℕ) → bindings.client_final_of Unsupported password nonce message ≡ passwords.client_final_of password nonce message }
-{}
 
 /// A text is read as bytes exactly where it is their base64: canonical, with its padding.
 pub fn base64_is_read_back()

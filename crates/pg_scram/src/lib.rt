@@ -12,15 +12,11 @@ mod messages;
 mod proof;
 mod salted;
 mod sasl;
-#[cfg(test)]
-mod tests;
 mod verdict;
 
 pub use authentication::md5_hash;
 pub use binding::ChannelBinding;
-pub use laws::{
-    base64_is_read_back, challenge_is_spelled, messages_without_binding, verdict_is_spelled,
-};
+pub use laws::{base64_is_read_back, challenge_is_spelled, verdict_is_spelled};
 pub use mac::hmac;
 pub use pg_errors::ScramFault;
 pub use proof::{client_proof, server_signature};

@@ -1,19 +1,20 @@
 //! The client's messages (RFC 5802, section 7).
 
 ghost use Rattle.std.specs.Prelude.{◌≡◌, IfOk};
-ghost use Rattle.pg_scram.specs.Bindings as spec;
+ghost use Rattle.pg_spec.specs.Passwords as spec;
+ghost use Rattle.pg_scram.specs.Bindings.{binding_data, gs2_header};
 
 use crate::binding::ChannelBinding;
 use crate::encoded::base64;
 use std::alloc::{AllocError, Global};
 
-// The client's first message: no user name, since the startup frame has it.
+/// The client's first message: no user name, since the startup frame has it.
 pub(crate) fn client_first(
     alloc: Global,
     binding: &ChannelBinding,
     nonce: &[u8],
 ) -> Result<Vec<u8>, AllocError>
-    ensures { IfOk result (λ message. message.items ≡ spec.client_first binding.now nonce.now) }
+    ensures { IfOk result (λ message. message.items ≡ spec.client_first (gs2_header binding.now) nonce.now) }
 {
     let mut message = Vec::from_slice(alloc, binding.gs2_header())?;
     message.extend_from_slice(b"n=,r=")?;
@@ -21,13 +22,13 @@ pub(crate) fn client_first(
     Ok(message)
 }
 
-// The client's last message up to the proof. The nonce is the client's and the server's.
+/// The client's last message up to the proof. The nonce is the client's and the server's.
 pub(crate) fn client_final_bare(
     alloc: Global,
     binding: &ChannelBinding,
     nonce: &[u8],
 ) -> Result<Vec<u8>, AllocError>
-    ensures { IfOk result (λ message. message.items ≡ spec.client_final_bare binding.now nonce.now) }
+    ensures { IfOk result (λ message. message.items ≡ spec.client_final_bare (gs2_header binding.now) (binding_data binding.now) nonce.now) }
 {
     let mut bound = Vec::from_slice(alloc, binding.gs2_header())?;
     bound.extend_from_slice(binding.data())?;
@@ -39,7 +40,7 @@ pub(crate) fn client_final_bare(
     Ok(message)
 }
 
-// What both sides sign.
+/// What both sides sign.
 pub(crate) fn auth_message(
     alloc: Global,
     client_nonce: &[u8],
@@ -57,7 +58,7 @@ pub(crate) fn auth_message(
     Ok(message)
 }
 
-// The client's last message.
+/// The client's last message.
 pub(crate) fn with_proof(
     alloc: Global,
     final_bare: Vec<u8>,

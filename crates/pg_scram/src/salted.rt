@@ -8,7 +8,7 @@ use crate::mac::{hmac, xor};
 use pg_errors::ScramFault;
 use std::alloc::{AllocError, Global};
 
-// The number of the block that Hi makes, as four bytes.
+/// The number of the block that Hi makes, as four bytes.
 const FIRST_BLOCK: [u8; 4] = [0, 0, 0, 1];
 
 /// Hi (RFC 5802, section 2.2): the password, salted and hashed so many times over. Each iteration costs
@@ -23,9 +23,7 @@ pub fn hi(
     ensures ok { IfOk result (λ salted. salted ≡ spec.hi password.now salt.now iterations) }
     ensures err { IfErr result (λ fault. fault ≡ OutOfMemory) }
 {
-    let Ok(mut value) = first_value(alloc, password, salt) else {
-        return Err(ScramFault::OutOfMemory);
-    };
+    let mut value = first_value(alloc, password, salt)?;
     let mut joined = value;
     'values: for i in 1..iterations {
         value = hmac(password, &value);
@@ -34,7 +32,7 @@ pub fn hi(
     Ok(joined)
 }
 
-// The first of the values that Hi joins.
+/// The first of the values that Hi joins.
 fn first_value(alloc: Global, password: &[u8], salt: &[u8]) -> Result<[u8; 32], AllocError>
     ensures { IfOk result (λ value. value ≡ spec.hi_value password.now salt.now 0) }
 {

@@ -3,8 +3,8 @@
 ghost use Rattle.std.specs.Prelude.{◌≡◌, None, IsTrue, IfOk, IfErr};
 ghost use Rattle.pg_errors.specs.declared.cause.ScramFault.TheVariants.{OutOfMemory};
 ghost use Rattle.pg_spec.specs.Causes.{is_nonce};
-ghost use Rattle.pg_spec.specs.Passwords.{server_final_fault};
-ghost use Rattle.pg_scram.specs.Bindings.{client_final};
+ghost use Rattle.pg_spec.specs.Passwords.{client_final, server_final_fault};
+ghost use Rattle.pg_scram.specs.Bindings.{binding_data, gs2_header};
 ghost use Rattle.pg_scram.specs.Dialogue.{IsOpened, RepliesAs, final_of, reply_of};
 ghost use Rattle.pg_scram.specs.Faults.{Rejects};
 
@@ -48,15 +48,9 @@ impl ScramSha256 {
         ensures ok { IfOk result (λ scram. IsOpened password.now binding nonce.now scram) }
         ensures err { IfErr result (λ fault. fault ≡ OutOfMemory) }
     {
-        let Ok(message) = client_first(alloc, &binding, nonce) else {
-            return Err(ScramFault::OutOfMemory);
-        };
-        let Ok(password) = Blob::from_slice(alloc, password) else {
-            return Err(ScramFault::OutOfMemory);
-        };
-        let Ok(nonce) = Blob::from_slice(alloc, nonce) else {
-            return Err(ScramFault::OutOfMemory);
-        };
+        let message = client_first(alloc, &binding, nonce)?;
+        let password = Blob::from_slice(alloc, password)?;
+        let nonce = Blob::from_slice(alloc, nonce)?;
         Ok(ScramSha256 {
             password,
             binding,
@@ -87,13 +81,10 @@ impl ScramSha256 {
             &challenge.salt,
             challenge.iterations,
         )?;
-        match self.reply(alloc, server_first, challenge.nonce, &salted) {
-            Ok(reply) => Ok(reply),
-            Err(_) => Err(ScramFault::OutOfMemory),
-        }
+        Ok(self.reply(alloc, server_first, challenge.nonce, &salted)?)
     }
 
-    // The reply under a salted password. The nonce is the client's and the server's.
+    /// The reply under a salted password. The nonce is the client's and the server's.
     fn reply(
         &self,
         alloc: Global,
@@ -101,7 +92,7 @@ impl ScramSha256 {
         nonce: &[u8],
         salted: &[u8; 32],
     ) -> Result<ScramSha256Final, AllocError>
-        ensures { IfOk result (λ final. final_of final ≡ client_final self.now.binding self.now.nonce server_first.now nonce.now salted.now) }
+        ensures { IfOk result (λ final. final_of final ≡ client_final (gs2_header self.now.binding) (binding_data self.now.binding) self.now.nonce server_first.now nonce.now salted.now) }
     {
         let bare = client_final_bare(alloc, &self.binding, nonce)?;
         let auth = auth_message(alloc, self.nonce.as_slice(), server_first, &bare)?;

@@ -5,7 +5,6 @@ ghost use Rattle.std.specs.List.{list_any};
 ghost use Rattle.std.specs.Str.{byte, bytes_eq};
 ghost use Rattle.pg_spec.specs.Passwords as spec;
 ghost use Rattle.pg_scram.specs.Faults.{Rejects};
-ghost use Rattle.pg_scram.specs.Verdict.{told_by};
 
 use crate::encoded::from_base64;
 use crate::fields::value_of;
@@ -14,7 +13,7 @@ use pg_types::Text;
 use std::alloc::Global;
 use std::str;
 
-// Reads the server's last message: its signature must be this one.
+/// Reads the server's last message: its signature must be this one.
 pub(crate) fn verify(alloc: Global, signature: &[u8; 32], message: &[u8]) -> Result<(), ScramFault>
     ensures ok { IfOk result (λ _. spec.server_final_fault signature.now message.now ≡ None) }
     ensures err { IfErr result (λ fault. Rejects fault (spec.server_final_fault signature.now message.now)) }
@@ -25,17 +24,16 @@ pub(crate) fn verify(alloc: Global, signature: &[u8; 32], message: &[u8]) -> Res
     let Some(encoded) = value_of(message, b"v=") else {
         return Err(ScramFault::BadMessage);
     };
-    match from_base64(alloc, encoded) {
-        Ok(Some(given)) if are_equal(&given, signature) => Ok(()),
-        Ok(Some(_)) => Err(ScramFault::BadSignature),
-        Ok(None) => Err(ScramFault::BadMessage),
-        Err(_) => Err(ScramFault::OutOfMemory),
+    match from_base64(alloc, encoded)? {
+        Some(given) if are_equal(&given, signature) => Ok(()),
+        Some(_) => Err(ScramFault::BadSignature),
+        None => Err(ScramFault::BadMessage),
     }
 }
 
-// The fault of an error that the server tells.
+/// The fault of an error that the server tells.
 fn server_error(alloc: Global, text: &[u8]) -> ScramFault
-    ensures { Rejects result (told_by text.now) }
+    ensures { Rejects result (spec.told_by text.now) }
 {
     let Ok(text) = str::from_utf8(text) else {
         return ScramFault::BadMessage;
@@ -49,14 +47,14 @@ fn server_error(alloc: Global, text: &[u8]) -> ScramFault
     }
 }
 
-// A byte that the value of an attribute can't have (RFC 5802, section 7: value-char).
+/// A byte that the value of an attribute can't have (RFC 5802, section 7: value-char).
 fn has_delimiter(text: &[u8]) -> bool
     ensures { result ≡ list_any (λ c. c == 0 || c == byte "=" || c == byte ",") text.now }
 {
     text.iter().any(|c| *c == 0 || *c == b'=' || *c == b',')
 }
 
-// Compares over all bytes, whatever the first difference.
+/// Compares over all bytes, whatever the first difference.
 fn are_equal(given: &[u8], signature: &[u8; 32]) -> bool
     ensures { result ≡ bytes_eq given.now signature.now }
 {

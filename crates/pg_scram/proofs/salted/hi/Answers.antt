@@ -8,6 +8,6 @@ pub values-init : goal.values-init
 values-init c =
     let first = hi_value c.args.password.now c.args.salt.now 0 in
     record {
-      next = ap (hmac c.args.password.now) c.in-Ok.ensures;
-      joined = c.in-Ok.ensures ∙ sym (xor_bytes-zeros first 32 (length-sha256 _));
+      next = ap (hmac c.args.password.now) c.in_ok-value.ensures;
+      joined = c.in_ok-value.ensures ∙ sym (xor_bytes-zeros first 32 (length-sha256 _));
     }
