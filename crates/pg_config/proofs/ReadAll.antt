@@ -32,11 +32,6 @@ one_more items x (Some more) = ap (λ t. Some t) (sym (append_assoc items (x ∷
 abbrev with_first : {A : Type 0} → (List ℕ → Option A) → Option A → List (List ℕ) → Option (List A)
 with_first f o later = elim o [ None ↦ None | Some x ↦ option_map (λ xs. x ∷ xs) (all_of f later) ]
 
--- what a call of `push` or `extend_from_slice` leaves, where it was no error
-pub grown : {A U E : Type 0} (r : Result U E) (new longer old : List A) → is_err r ≡ false → new ≡ (if is_ok r then longer else old) → new ≡ longer
-grown (Ok done) new longer old none is = is
-grown (Err e) new longer old none is = absurd cc
-
 -- a piece was read
 pub piece_read : {A : Type 0} (f : List ℕ → Option A) (mark : ℕ) (items items' : List A) (rest : Option (List ℕ)) (text piece : List ℕ) (behind : Option (List ℕ)) (x : A) (whole : Option (List A)) →
     IsCut mark text piece behind → f piece ≡ Some x → items' ≡ items ++ x ∷ [] → rest ≡ Some text →

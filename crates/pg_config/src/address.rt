@@ -3,6 +3,7 @@
 ghost use Rattle.std.specs.Prelude.{◌≡◌, ◌≤◌, ◌+◌, ◌*◌, ◌++◌, ◌&&◌, take, drop, length, Some, None, IfOk, MatchOption, OnOk, is_none, option_map, replicate};
 ghost use Rattle.pg_config.specs.Addresses.{address_of, around_gap, filled, group_of, groups_of, ipv4_of, ipv4_part, ipv6_of, of_length, piece_groups};
 ghost use Rattle.pg_config.specs.Addresses as spec;
+ghost use Rattle.std.specs.Str.{byte};
 ghost use Rattle.pg_config.specs.Pieces.{all_of, pieces};
 
 use crate::host::IpAddr;
@@ -45,7 +46,7 @@ fn four(parts: &[u8]) -> Option<[u8; 4]>
 
 /// The parts between dots. None: one isn't in form.
 fn read_parts(alloc: Global, text: &[u8]) -> Result<Option<Vec<u8>>, OutOfMemory>
-    ensures { IfOk result (λ read. option_map (λ parts. parts.items) read ≡ all_of ipv4_part (pieces 46 text.now)) }
+    ensures { IfOk result (λ read. option_map (λ parts. parts.items) read ≡ all_of ipv4_part (pieces (byte ".") text.now)) }
 {
     let mut parts = Vec::new(alloc);
     let mut rest = Some(text);
@@ -54,9 +55,7 @@ fn read_parts(alloc: Global, text: &[u8]) -> Result<Option<Vec<u8>>, OutOfMemory
         let Some(part) = read_part(piece) else {
             return Ok(None);
         };
-        if parts.push(part).is_err() {
-            return Err(OutOfMemory);
-        }
+        parts.push(part)?;
         rest = behind;
     }
     Ok(Some(parts))
@@ -113,9 +112,7 @@ fn fill(left: Vec<u16>, right: &[u16]) -> Result<Option<[u16; 8]>, OutOfMemory>
         return Ok(None);
     }
     push_zeros(&mut groups, 8 - said)?;
-    if groups.extend_from_slice(right).is_err() {
-        return Err(OutOfMemory);
-    }
+    groups.extend_from_slice(right)?;
     Ok(eight(groups.as_slice()))
 }
 
@@ -123,9 +120,7 @@ fn push_zeros(groups: &mut Vec<u16>, count: usize) -> Result<(), OutOfMemory>
     ensures { OnOk result (groups.new.items ≡ groups.old.items ++ replicate count 0) }
 {
     for _pushed in 0..count {
-        if groups.push(0).is_err() {
-            return Err(OutOfMemory);
-        }
+        groups.push(0)?;
     }
     Ok(())
 }
@@ -167,9 +162,7 @@ fn read_groups(alloc: Global, text: &[u8], tail: bool) -> Result<Option<Vec<u16>
         let Some(more) = read_piece(alloc, piece, is_last(tail, behind))? else {
             return Ok(None);
         };
-        if groups.extend_from_slice(more.as_slice()).is_err() {
-            return Err(OutOfMemory);
-        }
+        groups.extend_from_slice(more.as_slice())?;
         rest = behind;
     }
     Ok(Some(groups))
@@ -208,10 +201,7 @@ fn read_piece(alloc: Global, piece: &[u8], last: bool) -> Result<Option<Vec<u16>
 fn groups_from(alloc: Global, groups: &[u16]) -> Result<Option<Vec<u16>>, OutOfMemory>
     ensures { IfOk result (λ made. option_map (λ groups. groups.items) made ≡ Some groups.now) }
 {
-    match Vec::from_slice(alloc, groups) {
-        Ok(groups) => Ok(Some(groups)),
-        Err(_) => Err(OutOfMemory),
-    }
+    Ok(Some(Vec::from_slice(alloc, groups)?))
 }
 
 /// The two groups of an IPv4 address.

@@ -8,14 +8,11 @@ ghost use Rattle.pg_config.specs.Attempts as spec;
 ghost use Rattle.pg_config.specs.Attempts.{attempts_of, do_fit, host_address, host_name, place_count, places_in};
 
 use crate::config::Config;
-use crate::host::{Host, IpAddr};
+use crate::host::{DEFAULT_PORT, Host, IpAddr};
 use crate::modes::LoadBalanceHosts;
 use pg_errors::{Cause, Error};
 use pg_types::{List, OutOfMemory, Text};
 use std::alloc::Global;
-
-/// The port where none is said.
-const DEFAULT_PORT: u16 = 5432;
 
 /// Where to connect.
 #[derive(Debug, Drop, PartialEq, Eq)]
@@ -59,10 +56,7 @@ impl Config {
         if !self.do_fit() {
             return Err(Error::Config(Cause::Hosts));
         }
-        match self.fitting_attempts(alloc, order) {
-            Ok(attempts) => Ok(attempts),
-            Err(OutOfMemory) => Err(Error::OutOfMemory),
-        }
+        Ok(self.fitting_attempts(alloc, order)?)
     }
 
     /// Hosts, addresses and ports fit together.
@@ -90,10 +84,7 @@ impl Config {
         ensures { IfOk result (λ places. places.items ≡ places_in self.now.load_balance_hosts (place_count self.now) order.now) }
     {
         match self.load_balance_hosts {
-            LoadBalanceHosts::Random => match Vec::from_slice(alloc, order) {
-                Ok(places) => Ok(places),
-                Err(_) => Err(OutOfMemory),
-            },
+            LoadBalanceHosts::Random => Ok(Vec::from_slice(alloc, order)?),
             LoadBalanceHosts::Disable => places_below(alloc, self.attempt_count()),
         }
     }
@@ -169,9 +160,7 @@ fn places_below(alloc: Global, count: usize) -> Result<Vec<usize>, OutOfMemory>
 {
     let mut places = Vec::new(alloc);
     for place in 0..count {
-        if places.push(place).is_err() {
-            return Err(OutOfMemory);
-        }
+        places.push(place)?;
     }
     Ok(places)
 }
@@ -180,10 +169,10 @@ fn push_if_any(attempts: &mut List<Attempt>, attempt: Option<Attempt>) -> Result
     ensures { OnOk result (attempts.new ≡ attempts.old ++ option_to_list attempt) }
 {
     match attempt {
-        Some(attempt) => match attempts.push(attempt) {
-            Ok(()) => Ok(()),
-            Err(_) => Err(OutOfMemory),
-        },
+        Some(attempt) => {
+            attempts.push(attempt)?;
+            Ok(())
+        }
         None => Ok(()),
     }
 }

@@ -5,7 +5,7 @@ ghost use Rattle.pg_config.specs.Settings.{defaults, host_of};
 
 use crate::host::{Host, IpAddr};
 use crate::modes::{ChannelBinding, LoadBalanceHosts, SslMode, SslNegotiation, TargetSessionAttrs};
-use pg_types::{Blob, List, OutOfMemory, Text};
+use pg_types::{Blob, List, OutOfMemory, Text, copy_optional, optional_str};
 use std::alloc::Global;
 
 /// The settings of a connection. Times are in seconds.
@@ -79,7 +79,7 @@ impl Config {
     pub fn get_user(&self) -> Option<&str>
         ensures { option_map (λ text. text.now) result ≡ self.now.user }
     {
-        as_text(&self.user)
+        optional_str(&self.user)
     }
 
     /// Sets the password, as bytes. On want of memory the settings are as before.
@@ -113,7 +113,7 @@ impl Config {
     pub fn get_dbname(&self) -> Option<&str>
         ensures { option_map (λ text. text.now) result ≡ self.now.dbname }
     {
-        as_text(&self.dbname)
+        optional_str(&self.dbname)
     }
 
     /// Sets command line options for the server. On want of memory the settings are as before.
@@ -130,7 +130,7 @@ impl Config {
     pub fn get_options(&self) -> Option<&str>
         ensures { option_map (λ text. text.now) result ≡ self.now.options }
     {
-        as_text(&self.options)
+        optional_str(&self.options)
     }
 
     /// Sets the value of the run-time parameter `application_name`. On want of memory the settings are as before.
@@ -151,7 +151,7 @@ impl Config {
     pub fn get_application_name(&self) -> Option<&str>
         ensures { option_map (λ text. text.now) result ≡ self.now.application_name }
     {
-        as_text(&self.application_name)
+        optional_str(&self.application_name)
     }
 
     /// Sets whether TLS is used.
@@ -207,10 +207,8 @@ impl Config {
         ensures ok { OnOk result (self.new ≡ record self.old { hosts = self.old.hosts ++ host ∷ [] }) }
         ensures err { OnErr result (self.new ≡ self.old) }
     {
-        match self.hosts.push(host) {
-            Ok(()) => Ok(()),
-            Err(_) => Err(OutOfMemory),
-        }
+        self.hosts.push(host)?;
+        Ok(())
     }
 
     /// The hosts, in their order.
@@ -226,10 +224,8 @@ impl Config {
         ensures ok { OnOk result (self.new ≡ record self.old { hostaddrs = self.old.hostaddrs ++ hostaddr ∷ [] }) }
         ensures err { OnErr result (self.new ≡ self.old) }
     {
-        match self.hostaddrs.push(hostaddr) {
-            Ok(()) => Ok(()),
-            Err(_) => Err(OutOfMemory),
-        }
+        self.hostaddrs.push(hostaddr)?;
+        Ok(())
     }
 
     /// The numeric addresses, in their order.
@@ -245,10 +241,8 @@ impl Config {
         ensures ok { OnOk result (self.new ≡ record self.old { ports = self.old.ports ++ port ∷ [] }) }
         ensures err { OnErr result (self.new ≡ self.old) }
     {
-        match self.ports.push(port) {
-            Ok(()) => Ok(()),
-            Err(_) => Err(OutOfMemory),
-        }
+        self.ports.push(port)?;
+        Ok(())
     }
 
     /// The ports, in their order.
@@ -388,11 +382,11 @@ impl Config {
     pub fn copy(&self, alloc: Global) -> Result<Config, OutOfMemory>
         ensures { IfOk result (λ config. config ≡ self.now) }
     {
-        let user = copy_text(alloc, &self.user)?;
+        let user = copy_optional(alloc, &self.user)?;
         let password = copy_bytes(alloc, &self.password)?;
-        let dbname = copy_text(alloc, &self.dbname)?;
-        let options = copy_text(alloc, &self.options)?;
-        let application_name = copy_text(alloc, &self.application_name)?;
+        let dbname = copy_optional(alloc, &self.dbname)?;
+        let options = copy_optional(alloc, &self.options)?;
+        let application_name = copy_optional(alloc, &self.application_name)?;
         let hosts = copy_hosts(alloc, self.hosts.as_slice())?;
         let hostaddrs = copy_addresses(alloc, self.hostaddrs.as_slice())?;
         let ports = copy_ports(alloc, self.ports.as_slice())?;
@@ -420,30 +414,12 @@ impl Config {
     }
 }
 
-fn as_text(text: &Option<Text>) -> Option<&str>
-    ensures { option_map (λ text. text.now) result ≡ text.now }
-{
-    match text {
-        Some(text) => Some(text.as_str()),
-        None => None,
-    }
-}
-
 fn as_bytes(bytes: &Option<Blob>) -> Option<&[u8]>
     ensures { option_map (λ bytes. bytes.now) result ≡ bytes.now }
 {
     match bytes {
         Some(bytes) => Some(bytes.as_slice()),
         None => None,
-    }
-}
-
-fn copy_text(alloc: Global, text: &Option<Text>) -> Result<Option<Text>, OutOfMemory>
-    ensures { IfOk result (λ copied. copied ≡ text.now) }
-{
-    match text {
-        Some(text) => Ok(Some(text.copy(alloc)?)),
-        None => Ok(None),
     }
 }
 
@@ -461,10 +437,7 @@ fn copy_hosts(alloc: Global, hosts: &[Host]) -> Result<List<Host>, OutOfMemory>
 {
     let mut copied = List::empty(alloc);
     for host in hosts {
-        let host = host.copy(alloc)?;
-        if copied.push(host).is_err() {
-            return Err(OutOfMemory);
-        }
+        copied.push(host.copy(alloc)?)?;
     }
     Ok(copied)
 }
@@ -472,19 +445,13 @@ fn copy_hosts(alloc: Global, hosts: &[Host]) -> Result<List<Host>, OutOfMemory>
 fn copy_addresses(alloc: Global, addresses: &[IpAddr]) -> Result<List<IpAddr>, OutOfMemory>
     ensures { IfOk result (λ copied. copied ≡ addresses.now) }
 {
-    match Vec::from_slice(alloc, addresses) {
-        Ok(items) => Ok(List::new(items)),
-        Err(_) => Err(OutOfMemory),
-    }
+    Ok(List::new(Vec::from_slice(alloc, addresses)?))
 }
 
 fn copy_ports(alloc: Global, ports: &[u16]) -> Result<List<u16>, OutOfMemory>
     ensures { IfOk result (λ copied. copied ≡ ports.now) }
 {
-    match Vec::from_slice(alloc, ports) {
-        Ok(items) => Ok(List::new(items)),
-        Err(_) => Err(OutOfMemory),
-    }
+    Ok(List::new(Vec::from_slice(alloc, ports)?))
 }
 
 /// The host of this text.

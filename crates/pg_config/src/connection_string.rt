@@ -62,10 +62,7 @@ fn behind_scheme(text: &[u8]) -> Option<&[u8]>
 fn characters_of(alloc: Global, s: &str) -> Result<Vec<char>, OutOfMemory>
     ensures { IfOk result (λ characters. characters.items ≡ chars s.now) }
 {
-    match s.chars().collect(alloc) {
-        Ok(characters) => Ok(characters),
-        Err(_) => Err(OutOfMemory),
-    }
+    Ok(s.chars().collect(alloc)?)
 }
 
 fn error_of(fault: Fault) -> Error

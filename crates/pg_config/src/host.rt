@@ -6,6 +6,9 @@ use pg_types::{OutOfMemory, Text};
 use std::alloc::Global;
 use std::fmt;
 
+/// The port where none is said.
+pub(crate) const DEFAULT_PORT: u16 = 5432;
+
 /// A host.
 #[derive(Drop, PartialEq, Eq)]
 pub enum Host {

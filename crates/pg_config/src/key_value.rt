@@ -3,7 +3,7 @@
 
 ghost use Rattle.std.specs.Prelude.{◌≡◌, ◌++◌, ◌+◌, ◌<◌, ◌≤◌, length, true, false, drop, IfOk, MatchOption, Result, string_bytes, if◌then◌else◌, []};
 ghost use Rattle.std.specs.Char.{encode_utf8};
-ghost use Rattle.std.specs.Str.{encode_utf8_all};
+ghost use Rattle.std.specs.Str.{byte, encode_utf8_all};
 ghost use Rattle.pg_config.specs.Fronts.{IsValueAt, LeavesBelow, escapes, front_view};
 ghost use Rattle.pg_config.specs.KeyValueReading.{KeyValuesSay, behind_while, front_of, front_while, is_in_run, keyed, valued};
 ghost use Rattle.pg_config.specs.KeyValue as spec;
@@ -97,7 +97,7 @@ fn read_keyed<'a>(alloc: Global, key: &[char], text: &'a [char]) -> Result<Front
 
 /// What stands behind the `=` in front.
 fn behind_equals(text: &[char]) -> Option<&[char]>
-    ensures { MatchOption result (begins_with 61 text.now ≡ false) (λ behind. (begins_with 61 text.now ≡ true) × (behind.now ≡ drop 1 text.now)
+    ensures { MatchOption result (begins_with (byte "=") text.now ≡ false) (λ behind. (begins_with (byte "=") text.now ≡ true) × (behind.now ≡ drop 1 text.now)
         × (length behind.now < length text.now)) }
 {
     match text {
@@ -163,9 +163,7 @@ fn text_of(alloc: Global, characters: &[char]) -> Result<String, OutOfMemory>
 {
     let mut text = String::new(alloc);
     for c in characters {
-        if text.push(*c).is_err() {
-            return Err(OutOfMemory);
-        }
+        text.push(*c)?;
     }
     Ok(text)
 }
@@ -206,8 +204,6 @@ fn take_character(value: &mut String, escaped: bool, c: char) -> Result<bool, Ou
     if !escaped && c == '\\' {
         return Ok(true);
     }
-    match value.push(c) {
-        Ok(()) => Ok(false),
-        Err(_) => Err(OutOfMemory),
-    }
+    value.push(c)?;
+    Ok(false)
 }

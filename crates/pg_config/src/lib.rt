@@ -14,8 +14,6 @@ mod modes;
 mod number;
 mod option;
 mod piece;
-#[cfg(test)]
-mod tests;
 mod url;
 mod url_parameter;
 

@@ -1,6 +1,7 @@
 //! What a setting's name and value mean.
 
 ghost use Rattle.std.specs.Prelude.{◌≡◌, ◌++◌, map, IfOk, OnOk, option_map};
+ghost use Rattle.std.specs.Str.{byte};
 ghost use Rattle.pg_config.specs.Addresses.{address_of};
 ghost use Rattle.pg_config.specs.Options.{applies, choice_option, number_option, place_option, port_of, text_option, time_option};
 ghost use Rattle.pg_config.specs.Options as spec;
@@ -11,15 +12,15 @@ ghost use Rattle.pg_config.specs.Settings.{host_of};
 use crate::address::read_address;
 use crate::config::Config;
 use crate::fault::{Fault, invalid_value, unknown_option};
-use crate::host::IpAddr;
+use crate::host::{DEFAULT_PORT, IpAddr};
 use crate::modes::{ChannelBinding, LoadBalanceHosts, SslMode, SslNegotiation, TargetSessionAttrs};
 use crate::number::{read_seconds, read_unsigned};
 use crate::piece::cut;
 use pg_types::OutOfMemory;
 use std::alloc::Global;
 
-/// The port where none is said.
-pub(crate) const DEFAULT_PORT: u16 = 5432;
+/// The most retries that can be set.
+const MOST_RETRIES: u64 = u32::MAX as u64;
 
 impl Config {
     /// Sets what this key and value say. UnknownOption comes where there is no setting of this name,
@@ -129,7 +130,7 @@ impl Config {
 
     /// Adds the hosts between commas.
     fn add_hosts(&mut self, alloc: Global, text: &str) -> Result<(), OutOfMemory>
-        ensures { OnOk result (self.new ≡ record self.old { hosts = self.old.hosts ++ map host_of (pieces 44 text.now) }) }
+        ensures { OnOk result (self.new ≡ record self.old { hosts = self.old.hosts ++ map host_of (pieces (byte ",") text.now) }) }
     {
         let mut rest = Some(text);
         while let Some(text) = rest {
@@ -265,12 +266,9 @@ impl Config {
     }
 }
 
-/// The most retries that can be set.
-const MOST_RETRIES: u64 = 4_294_967_295;
-
 /// What stands before the first comma, and what stands behind it.
 fn cut_text(text: &str) -> (&str, Option<&str>)
-    ensures { IsCut 44 text.now result.0.now (option_map (λ behind. behind.now) result.1) }
+    ensures { IsCut (byte ",") text.now result.0.now (option_map (λ behind. behind.now) result.1) }
 {
     match text.split_once(',') {
         Some((piece, behind)) => (piece, Some(behind)),
@@ -280,7 +278,7 @@ fn cut_text(text: &str) -> (&str, Option<&str>)
 
 /// The addresses between commas. None: one isn't in form.
 fn read_addresses(alloc: Global, text: &[u8]) -> Result<Option<Vec<IpAddr>>, OutOfMemory>
-    ensures { IfOk result (λ read. option_map (λ addresses. addresses.items) read ≡ all_of address_of (pieces 44 text.now)) }
+    ensures { IfOk result (λ read. option_map (λ addresses. addresses.items) read ≡ all_of address_of (pieces (byte ",") text.now)) }
 {
     let mut addresses = Vec::new(alloc);
     let mut rest = Some(text);
@@ -289,9 +287,7 @@ fn read_addresses(alloc: Global, text: &[u8]) -> Result<Option<Vec<IpAddr>>, Out
         let Some(address) = read_address(alloc, piece)? else {
             return Ok(None);
         };
-        if addresses.push(address).is_err() {
-            return Err(OutOfMemory);
-        }
+        addresses.push(address)?;
         rest = behind;
     }
     Ok(Some(addresses))
@@ -299,7 +295,7 @@ fn read_addresses(alloc: Global, text: &[u8]) -> Result<Option<Vec<IpAddr>>, Out
 
 /// The ports between commas. None: one isn't in form.
 fn read_ports(alloc: Global, text: &[u8]) -> Result<Option<Vec<u16>>, OutOfMemory>
-    ensures { IfOk result (λ read. option_map (λ ports. ports.items) read ≡ all_of port_of (pieces 44 text.now)) }
+    ensures { IfOk result (λ read. option_map (λ ports. ports.items) read ≡ all_of port_of (pieces (byte ",") text.now)) }
 {
     let mut ports = Vec::new(alloc);
     let mut rest = Some(text);
@@ -308,9 +304,7 @@ fn read_ports(alloc: Global, text: &[u8]) -> Result<Option<Vec<u16>>, OutOfMemor
         let Some(port) = read_port(piece) else {
             return Ok(None);
         };
-        if ports.push(port).is_err() {
-            return Err(OutOfMemory);
-        }
+        ports.push(port)?;
         rest = behind;
     }
     Ok(Some(ports))
@@ -323,7 +317,7 @@ fn read_port(text: &[u8]) -> Option<u16>
     if text.is_empty() {
         return Some(DEFAULT_PORT);
     }
-    match read_unsigned(text, 65_535) {
+    match read_unsigned(text, u16::MAX as u64) {
         Some(port) => Some(port as u16),
         None => None,
     }

@@ -1,7 +1,7 @@
 //! The URL form of connection strings, up to its parameters (PostgreSQL documentation, "Connection URIs").
 
 ghost use Rattle.std.specs.Prelude.{◌≡◌, IfOk, MatchResult, codes, false, option_map, true, unwrap_or};
-ghost use Rattle.std.specs.Str.{is_utf8};
+ghost use Rattle.std.specs.Str.{byte, is_utf8};
 ghost use Rattle.percent_encoding.specs.Percent.{percent_decode};
 ghost use Rattle.pg_config.specs.KeyValueReading.{behind_while, front_while};
 ghost use Rattle.pg_config.specs.Outcomes.{Becomes};
@@ -17,18 +17,15 @@ use crate::piece::cut;
 use pg_types::{OutOfMemory, Text};
 use std::alloc::Global;
 
-/// The port of a host that says none.
-const DEFAULT_PORT: &[u8] = b"5432";
+/// The port of a host that says none: `DEFAULT_PORT`, as an option spells it.
+const PORT_TEXT: &[u8] = b"5432";
 
 impl Config {
     /// Sets what a URL says behind its scheme, up to its parameters.
     pub(crate) fn open_url(&mut self, alloc: Global, text: &[u8]) -> Result<(), Fault>
         ensures { Becomes (opening text.now self.old) self.new result }
     {
-        match self.login(alloc, text) {
-            Ok(()) => {}
-            Err(fault) => return Err(fault),
-        }
+        self.login(alloc, text)?;
         self.places_and_database(alloc, after_login(text))
     }
 
@@ -63,10 +60,8 @@ impl Config {
         ensures { Becomes (spec.places_and_database text.now self.old) self.new result }
     {
         let (hosts, behind) = cut_hosts(text);
-        match self.places(alloc, hosts) {
-            Ok(()) => self.database(alloc, behind),
-            Err(fault) => Err(fault),
-        }
+        self.places(alloc, hosts)?;
+        self.database(alloc, behind)
     }
 
     /// The hosts, between commas, if there are any.
@@ -80,7 +75,7 @@ impl Config {
     }
 
     fn each_place(&mut self, alloc: Global, text: &[u8]) -> Result<(), Fault>
-        ensures { Becomes (spec.each_place (pieces 44 text.now) self.old) self.new result }
+        ensures { Becomes (spec.each_place (pieces (byte ",") text.now) self.old) self.new result }
     {
         let mut rest = Some(text);
         while let Some(text) = rest {
@@ -113,7 +108,7 @@ impl Config {
     {
         let (host, behind) = cut(text, b']');
         match behind {
-            Some([]) => self.placed(alloc, host, DEFAULT_PORT),
+            Some([]) => self.placed(alloc, host, PORT_TEXT),
             Some([b':', port @ ..]) => self.placed(alloc, host, port),
             _ => Err(invalid_value(alloc, "host")),
         }
@@ -181,7 +176,7 @@ fn port_or_default<'a>(port: Option<&'a [u8]>) -> &'a [u8]
 {
     match port {
         Some(port) => port,
-        None => DEFAULT_PORT,
+        None => PORT_TEXT,
     }
 }
 
@@ -190,13 +185,7 @@ pub(crate) fn decode_text(alloc: Global, escaped: &[u8]) -> Result<Text, Fault>
     ensures { IsDecoded escaped.now result }
 {
     let bytes = decode_bytes(alloc, escaped)?;
-    match utf8(bytes.as_slice()) {
-        Ok(text) => match Text::from_str(alloc, text) {
-            Ok(text) => Ok(text),
-            Err(_) => Err(Fault::OutOfMemory),
-        },
-        Err(fault) => Err(fault),
-    }
+    Ok(Text::from_str(alloc, utf8(bytes.as_slice())?)?)
 }
 
 /// The bytes as a text, or NotUtf8.
@@ -216,8 +205,6 @@ fn decode_bytes(alloc: Global, escaped: &[u8]) -> Result<Vec<u8>, OutOfMemory>
     ensures { IfOk result (λ bytes. bytes.items ≡ percent_decode escaped.now) }
 {
     let mut bytes = Vec::new(alloc);
-    match percent_encoding::percent_decode(escaped).append_to(&mut bytes) {
-        Ok(()) => Ok(bytes),
-        Err(_) => Err(OutOfMemory),
-    }
+    percent_encoding::percent_decode(escaped).append_to(&mut bytes)?;
+    Ok(bytes)
 }
