@@ -1,2 +1,4 @@
+pub mod Owners
 pub mod Pieces
 pub mod Soundness
+pub mod ReadyTags

@@ -1,5 +1,5 @@
 -- Every legal list of events leads to a sound state.
-use Rattle.std.proofs.Common.{◌≡◌, ◌≢◌, ◌<◌, ◌≤◌, ℕ, zero, suc, ◌+◌, ◌-◌, ◌==◌, List, [], ◌∷◌, ◌++◌, length, drop, Bool, true, false, if◌then◌else◌, refl, sym, ◌∙◌, ap, subst, arith, append_assoc, length-append, length-drop, nat_lt, ◌||◌, inl, inr, Ok, Err}
+use Rattle.std.proofs.Common.{◌≡◌, ◌≢◌, ◌<◌, ◌≤◌, ℕ, zero, suc, ◌+◌, ◌-◌, ◌==◌, List, [], ◌∷◌, ◌++◌, length, drop, Bool, true, false, if◌then◌else◌, Option, Some, None, is_some, refl, sym, ◌∙◌, ap, subst, arith, append_assoc, length-append, length-drop, nat_lt, ◌||◌, inl, inr, Ok, Err}
 use Rattle.std.proofs.lemmas.Grind.{common_steps}
 use Rattle.std.proofs.lemmas.Bool.Decides.{nat_tests, eqb_tells}
 use Rattle.std.proofs.Math.Seq.{drop-append_seam}
@@ -14,34 +14,12 @@ use Rattle.pg_desk.specs.declared.event.Deliver.TheVariants as delivering
 use Rattle.pg_desk.specs.declared.event.Event.{Event}
 use Rattle.pg_desk.specs.declared.event.Event.TheVariants.{Book, Take as TakeEvent, HangUp, NextStatement, NextPortal, NextOut, Deliver as DeliverEvent, CloseRequests, Fail}
 use Rattle.pg_desk.proofs.Pieces.{open-first, open-later, last-first, last-later, reply-none}
-use Rattle.pg_desk.specs.History.{State, Delivery, Taken, start, wire, finished, given, taken, waiting, is_in, is_hung_up, after, after_all, take_of_waiting, take_answer, out_of_rest, out_answer, Allows, IsLegal, received, reply, joined, IsFrontOf, IsSound}
-
-own-step : (ms : List RawMessage) (b : Bool) (n : ℕ) (ds : List Delivery) (d : Delivery) →
-    given n (ds ++ d ∷ []) ≡ given n ds ++ d.messages ∷ [] →
-    given (if b then suc n else n) (record { messages = ms; complete = b } ∷ (ds ++ d ∷ []))
-    ≡ given (if b then suc n else n) (record { messages = ms; complete = b } ∷ ds) ++ d.messages ∷ []
-own-step ms true n ds d h = h
-own-step ms false zero ds d h = ap (λ (l : List (List RawMessage)). ms ∷ l) h
-own-step ms false (suc n) ds d h = h
-
--- a batch more belongs to the group that runs
-pub given-own : (ds : List Delivery) (d : Delivery) → given (finished ds) (ds ++ d ∷ []) ≡ given (finished ds) ds ++ d.messages ∷ []
-given-own [] d = grind arith
-given-own (x ∷ ds) d = own-step x.messages x.complete (finished ds) ds d (given-own ds d)
-
-other-step : (ms : List RawMessage) (b : Bool) (k n : ℕ) (ds : List Delivery) (d : Delivery) →
-    ((k : ℕ) → k ≢ n → given k (ds ++ d ∷ []) ≡ given k ds) → k ≢ (if b then suc n else n) →
-    given k (record { messages = ms; complete = b } ∷ (ds ++ d ∷ [])) ≡ given k (record { messages = ms; complete = b } ∷ ds)
-other-step ms true zero n ds d h apart = refl
-other-step ms true (suc k) n ds d h apart = h k (λ e. apart (ap suc e))
-other-step ms false zero n ds d h apart = ap (λ (l : List (List RawMessage)). ms ∷ l) (h zero apart)
-other-step ms false (suc k) n ds d h apart = h (suc k) apart
-
--- and to no other group
-pub given-other : (ds : List Delivery) (d : Delivery) (k : ℕ) → k ≢ finished ds → given k (ds ++ d ∷ []) ≡ given k ds
-given-other [] d zero apart = absurd (apart refl)
-given-other [] d (suc k) apart = refl
-given-other (x ∷ ds) d k apart = other-step x.messages x.complete k (finished ds) ds d (given-other ds d) apart
+use Rattle.pg_desk.proofs.Owners.{given-own, given-other, finished-more, owners-more, one-part-more, given-between, ended-counted, open-less, owner-counted}
+use Rattle.pg_desk.specs.Kept.{after-joined, legal-later}
+use Rattle.pg_desk.specs.Order.{OneAfterAnother, AllOnePart, InOrder}
+use Rattle.std.specs.Prelude.{unwrap_or}
+use Rattle.std.proofs.lemmas.List.{length_push}
+use Rattle.pg_desk.specs.History.{Change, Booked, Took, LetGo, DrewStatement, DrewPortal, WentOut, Came, ClosedAll, FailedAll, Nothing, change_of, changed, Admits, State, Delivery, Taken, start, wire, finished, given, between_ends, has_ended, may_let_go, is_open, first_from, oldest_open, has_open, next_owner, IsOldestOpen, BelongsToOldest, taken, waiting, is_in, is_hung_up, after, after_all, take_of_waiting, take_answer, out_of_rest, out_answer, Allows, IsLegal, received, reply, joined, IsFrontOf, IsSound}
 
 pub taken-own : (k : ℕ) (ts : List Taken) (t : Taken) → t.id ≡ k → taken k (ts ++ t ∷ []) ≡ taken k ts ++ t.messages ∷ []
 taken-own k [] t e = grind (arith, nat_tests)
@@ -56,22 +34,27 @@ AllCut [] = Unit {0}
 AllCut (d ∷ ds) = (is_batch d.complete d.messages ≡ true) × AllCut ds
 
 group-step : (ms : List RawMessage) (b : Bool) (k : ℕ) (ds : List Delivery) →
-    ((k : ℕ) → joined (given k ds) ≡ reply k (received ds)) → is_batch b ms ≡ true →
-    joined (given k (record { messages = ms; complete = b } ∷ ds)) ≡ reply k (ms ++ received ds)
+    ((k : ℕ) → joined (between_ends k ds) ≡ reply k (received ds)) → is_batch b ms ≡ true →
+    joined (between_ends k (record { owner = 0; messages = ms; complete = b } ∷ ds)) ≡ reply k (ms ++ received ds)
 group-step ms true zero ds h cut = rw (last-first ms (received ds) cut) (grind (arith, common_steps))
 group-step ms true (suc k) ds h cut = rw (last-later k ms (received ds) cut) (h k)
 group-step ms false zero ds h cut = rw (open-first ms (received ds) cut) (ap (λ (l : List RawMessage). ms ++ l) (h zero))
 group-step ms false (suc k) ds h cut = rw (open-later k ms (received ds) cut) (h (suc k))
 
+-- what stands between the ends of two replies is a group, as far as it came
+pub between-group : (ds : List Delivery) → AllCut ds → (k : ℕ) → joined (between_ends k ds) ≡ reply k (received ds)
+between-group [] cut k = sym (reply-none k)
+between-group (d ∷ ds) cut k = group-step d.messages d.complete k ds (between-group ds cut.1) cut.0
+
 -- what a request was given is its group, as far as it came
-pub given-group : (ds : List Delivery) → AllCut ds → (k : ℕ) → joined (given k ds) ≡ reply k (received ds)
-given-group [] cut k = sym (reply-none k)
-given-group (d ∷ ds) cut k = group-step d.messages d.complete k ds (given-group ds cut.1) cut.0
+pub given-group : (ds : List Delivery) → OneAfterAnother 0 ds → AllCut ds → (k : ℕ) → joined (given k ds) ≡ reply k (received ds)
+given-group ds order cut k = ap joined (given-between ds order k) ∙ between-group ds cut k
 
 -- what is kept from event to event
 pub record Kept (s : State) : Type 0 where
   pub taken_is_front : (k : ℕ) → IsFrontOf (taken k s.takes) (given k s.deliveries)
   pub all_cut : AllCut s.deliveries
+  pub order : InOrder s
   pub at_most_two : (k : ℕ) → is_hung_up s k ≡ false → length (given k s.deliveries) ≤ length (taken k s.takes) + 2
   pub out_is_front : IsFrontOf s.gone_out (wire s.book)
 
@@ -98,7 +81,7 @@ cut-more (x ∷ ds) d h c = (h.0, cut-more ds d h.1 c)
 -- a take of a batch takes the first that waits
 first-waits : (s : State) (id : ℕ) (messages : List RawMessage) (l : List (List RawMessage)) → taking.Batch messages ≡ take_of_waiting s id l → (more : List (List RawMessage)) × (l ≡ messages ∷ more)
 first-waits s id messages (x ∷ l) e = (l, cc)
-first-waits s id messages [] e = by_failed s.failed (nat_lt id (finished s.deliveries)) e
+first-waits s id messages [] e = by_failed s.failed (has_ended id s.deliveries) e
   where
     by_failed : (a b : Bool) → taking.Batch messages ≡ (if a then taking.Gone else (if b then taking.Over else taking.Empty)) → (more : List (List RawMessage)) × ([] ≡ messages ∷ more)
     by_failed true b e = absurd cc
@@ -113,6 +96,15 @@ take-first s id messages e = by_known (nat_lt id (length s.book)) (is_hung_up s 
     by_known true false e = first-waits s id messages (waiting s id) e
     by_known false b e = absurd cc
 
+-- a call that changes neither the book, nor what went out and came
+pub order-same : (s t : State) → s.book ≡ t.book → s.gone_out ≡ t.gone_out → s.deliveries ≡ t.deliveries → InOrder s → InOrder t
+order-same s t a b c h = record {
+  owners = subst (OneAfterAnother 0) c h.owners;
+  one_part = subst AllOnePart a h.one_part;
+  out = rw (← a, ← b) h.out;
+  ended = rw (← b, ← c) h.ended;
+}
+
 kept-take : (s : State) (id : ℕ) (messages : List RawMessage) → Kept s → taking.Batch messages ≡ take_answer s id → Kept (after s (TakeEvent id (Ok (taking.Batch messages))))
 kept-take s id messages h e =
     let t : Taken = record { id = id; messages = messages } in
@@ -124,6 +116,7 @@ kept-take s id messages h e =
         | inr apart ↦ front-equal _ _ _ _ (taken-other k s.takes t apart.1) refl (h.taken_is_front k)
       ];
       all_cut = h.all_cut;
+      order = order-same s (after s (TakeEvent id (Ok (taking.Batch messages)))) refl refl refl h.order;
       at_most_two = λ k open_. elim (eqb_tells id k) [
         | inl same ↦ let a = taken-own k s.takes t same.1 in let b = h.at_most_two k open_ in simp (a, length-append) (omega arith)
         | inr apart ↦ simp (taken-other k s.takes t apart.1) (h.at_most_two k open_)
@@ -131,39 +124,65 @@ kept-take s id messages h e =
       out_is_front = h.out_is_front;
     }
 
+-- a batch that is taken belongs to the oldest open request
+pub order-deliver : (s : State) (batch : List RawMessage) (complete : Bool) → InOrder s → has_open s ≡ true → InOrder (after s (DeliverEvent batch complete delivering.Taken))
+order-deliver s batch complete h open_ =
+    let d : Delivery = record { owner = next_owner s; messages = batch; complete = complete } in
+    record {
+      owners = owners-more 0 s.deliveries d h.owners (let e = owner-counted s h open_ in omega arith);
+      one_part = h.one_part;
+      out = h.out;
+      ended = few complete (finished-more s.deliveries d) (open-less s h open_);
+    }
+  where
+    few : (b : Bool) {n : ℕ} → n ≡ (if b then 1 else 0) + finished s.deliveries → finished s.deliveries < length s.gone_out → n ≤ length s.gone_out
+    few true e low = omega arith
+    few false e low = omega arith
+
 kept-deliver : (s : State) (batch : List RawMessage) (complete : Bool) → Kept s → Allows s (DeliverEvent batch complete delivering.Taken) → Kept (after s (DeliverEvent batch complete delivering.Taken))
 kept-deliver s batch complete h a =
-    let d : Delivery = record { messages = batch; complete = complete } in
+    let d : Delivery = record { owner = next_owner s; messages = batch; complete = complete } in
     record {
-      taken_is_front = λ k. elim (eqb_tells k (finished s.deliveries)) [
-        | inl same ↦ front-equal _ _ _ _ refl (ap (λ (n : ℕ). given n (s.deliveries ++ d ∷ [])) same.1 ∙ given-own s.deliveries d ∙ ap (λ (n : ℕ). given n s.deliveries ++ batch ∷ []) (sym same.1))
-            (front-more (taken k s.takes) (given k s.deliveries) (batch ∷ []) (h.taken_is_front k))
-        | inr apart ↦ front-equal _ _ _ _ refl (given-other s.deliveries d k apart.1) (h.taken_is_front k)
+      taken_is_front = λ k. elim (eqb_tells (next_owner s) k) [
+        | inl same ↦ front-equal _ _ _ _ refl (given-own k s.deliveries d same.1) (front-more (taken k s.takes) (given k s.deliveries) (batch ∷ []) (h.taken_is_front k))
+        | inr apart ↦ front-equal _ _ _ _ refl (given-other k s.deliveries d apart.1) (h.taken_is_front k)
       ];
       all_cut = cut-more s.deliveries d h.all_cut a.0;
-      at_most_two = λ k open_. elim (eqb_tells k (finished s.deliveries)) [
+      order = order-deliver s batch complete h.order a.1;
+      at_most_two = λ k open_. elim (eqb_tells (next_owner s) k) [
         | inl same ↦ elim a.2 [
-          | inl gone ↦ absurd (false≢true (sym open_ ∙ ap (λ (n : ℕ). is_hung_up s n) same.1 ∙ gone))
+          | inl gone ↦ absurd (false≢true (sym open_ ∙ ap (λ (n : ℕ). is_hung_up s n) (sym same.1) ∙ gone))
           | inr room ↦
-              let own : given k (s.deliveries ++ d ∷ []) ≡ given k s.deliveries ++ batch ∷ [] =
-              ap (λ (n : ℕ). given n (s.deliveries ++ d ∷ [])) same.1 ∙ given-own s.deliveries d ∙ ap (λ (n : ℕ). given n s.deliveries ++ batch ∷ []) (sym same.1) in
-              let room_k : length (drop (length (taken k s.takes)) (given k s.deliveries)) < 2 = subst (λ (n : ℕ). length (waiting s n) < 2) (sym same.1) room in
+              let own = given-own k s.deliveries d same.1 in
+              let room_k : length (drop (length (taken k s.takes)) (given k s.deliveries)) < 2 = subst (λ (n : ℕ). length (waiting s n) < 2) same.1 room in
               let short : length (given k s.deliveries) - length (taken k s.takes) < 2 = simp length-drop at room_k in
               simp (own, length-append) (omega arith)
         ]
-        | inr apart ↦ simp (given-other s.deliveries d k apart.1) (h.at_most_two k open_)
+        | inr apart ↦ simp (given-other k s.deliveries d apart.1) (h.at_most_two k open_)
       ];
       out_is_front = h.out_is_front;
     }
 
 first-part : (s : State) (part : List ℕ) (l : List (List ℕ)) → out.Part part ≡ out_of_rest s l → (more : List (List ℕ)) × (l ≡ part ∷ more)
 first-part s part (x ∷ l) e = (l, cc)
-first-part s part [] e = by_open (nat_lt (finished s.deliveries) (length s.gone_out)) s.closed e
+first-part s part [] e = by_open (has_open s) s.closed e
   where
     by_open : (a b : Bool) → out.Part part ≡ (if a then out.Nothing else (if b then out.NoMore else out.Nothing)) → (more : List (List ℕ)) × ([] ≡ part ∷ more)
     by_open true b e = absurd cc
     by_open false true e = absurd cc
     by_open false false e = absurd cc
+
+pub wire-counted : (bs : List Booking) → AllOnePart bs → length (wire bs) ≡ length bs
+wire-counted [] h = refl
+wire-counted (b ∷ bs) h = length-append b.parts (wire bs) ∙ let e : length b.parts ≡ 1 = h.0 in let f : length (wire bs) ≡ length bs = wire-counted bs h.1 in omega arith
+
+-- a part that goes out is of the next request
+pub order-out : (s : State) (part : List ℕ) → InOrder s → (more : List (List ℕ)) → drop (length s.gone_out) (wire s.book) ≡ part ∷ more → InOrder (after s (NextOut (Ok (out.Part part))))
+order-out s part h more e =
+    let left : length (wire s.book) - length s.gone_out ≡ suc (length more) = sym (length-drop (length s.gone_out) (wire s.book)) ∙ ap length e in
+    let all : length (wire s.book) ≡ length s.book = wire-counted s.book h.one_part in
+    let one : length (s.gone_out ++ part ∷ []) ≡ length s.gone_out + 1 = length_push s.gone_out part in
+    record { owners = h.owners; one_part = h.one_part; out = omega arith; ended = let k = h.ended in omega arith }
 
 kept-out : (s : State) (part : List ℕ) → Kept s → out.Part part ≡ out_answer s → Kept (after s (NextOut (Ok (out.Part part))))
 kept-out s part h e =
@@ -171,6 +190,7 @@ kept-out s part h e =
     record {
       taken_is_front = h.taken_is_front;
       all_cut = h.all_cut;
+      order = order-out s part h.order first.0 first.1;
       at_most_two = h.at_most_two;
       out_is_front = front-next s.gone_out (wire s.book) part first.0 h.out_is_front first.1;
     }
@@ -187,18 +207,32 @@ pub in-more-if : (b : Bool) (k x : ℕ) (xs : List ℕ) → is_in k (if b then x
 in-more-if true k x xs e = in-more k x xs e
 in-more-if false k x xs e = e
 
+-- who isn't booked, or hung up before, changes nothing
+pub let-go-none : (s : State) (id : ℕ) → may_let_go s id ≡ false → after s (HangUp id (Ok tt)) ≡ s
+let-go-none s id e = ap (λ (b : Bool). record s { hung_up = if b then s.hung_up ++ id ∷ [] else s.hung_up }) e
+
 kept-hang-up : (s : State) (id : ℕ) → Kept s → Kept (after s (HangUp id (Ok tt)))
 kept-hang-up s id h = record {
   taken_is_front = h.taken_is_front;
   all_cut = h.all_cut;
-  at_most_two = λ k open_. h.at_most_two k (in-more-if (nat_lt id (length s.book)) k id s.hung_up open_);
+  order = order-same s (after s (HangUp id (Ok tt))) refl refl refl h.order;
+  at_most_two = λ k open_. h.at_most_two k (in-more-if (may_let_go s id) k id s.hung_up open_);
   out_is_front = h.out_is_front;
+}
+
+pub order-book : (s : State) (stamp : Stamp) (part : List ℕ) (copying : Bool) (id : ℕ) → InOrder s → InOrder (after s (Book stamp part copying (Ok id)))
+order-book s stamp part copying id h = record {
+  owners = h.owners;
+  one_part = one-part-more s.book (record { stamp = stamp; parts = part ∷ [] }) h.one_part refl;
+  out = let e : length (s.book ++ record { stamp = stamp; parts = part ∷ [] } ∷ []) ≡ length s.book + 1 = length_push s.book (record { stamp = stamp; parts = part ∷ [] }) in let k = h.out in omega arith;
+  ended = h.ended;
 }
 
 kept-book : (s : State) (stamp : Stamp) (part : List ℕ) (copying : Bool) (id : ℕ) → Kept s → Kept (after s (Book stamp part copying (Ok id)))
 kept-book s stamp part copying id h = record {
   taken_is_front = h.taken_is_front;
   all_cut = h.all_cut;
+  order = order-book s stamp part copying id h.order;
   at_most_two = h.at_most_two;
   out_is_front = front-equal _ _ _ _ refl (wire-more s.book (record { stamp = stamp; parts = part ∷ [] })) (front-more s.gone_out (wire s.book) (part ∷ []) h.out_is_front);
 }
@@ -207,37 +241,54 @@ same-kept : (s t : State) → s.book ≡ t.book → s.gone_out ≡ t.gone_out �
 same-kept s t a b c d e h = record {
   taken_is_front = λ k. front-equal _ _ _ _ (ap (λ (l : List Taken). taken k l) (sym d)) (ap (λ (l : List Delivery). given k l) (sym c)) (h.taken_is_front k);
   all_cut = subst AllCut c h.all_cut;
+  order = order-same s t a b c h.order;
   at_most_two = λ k open_. rw (← c, ← d) (h.at_most_two k (ap (λ (l : List ℕ). is_in k l) e ∙ open_));
   out_is_front = front-equal _ _ _ _ (sym b) (ap wire (sym a)) h.out_is_front;
 }
 
+-- what legality says of what an event changes
+pub admitted : (s : State) (e : Event) → Allows s e → Admits s (change_of e)
+admitted s (Book stamp part copying (Ok id)) a = a.0
+admitted s (Book stamp part copying (Err e)) a = tt
+admitted s (TakeEvent id (Ok (taking.Batch messages))) a = a
+admitted s (TakeEvent id (Ok taking.Empty)) a = tt
+admitted s (TakeEvent id (Ok taking.Over)) a = tt
+admitted s (TakeEvent id (Ok taking.Gone)) a = tt
+admitted s (TakeEvent id (Err e)) a = tt
+admitted s (HangUp id (Ok x)) a = tt
+admitted s (HangUp id (Err e)) a = tt
+admitted s (NextStatement (Ok n)) a = a.0
+admitted s (NextStatement (Err e)) a = tt
+admitted s (NextPortal (Ok n)) a = a.0
+admitted s (NextPortal (Err e)) a = tt
+admitted s (NextOut (Ok (out.Part part))) a = a
+admitted s (NextOut (Ok out.CopyWaits)) a = tt
+admitted s (NextOut (Ok out.Nothing)) a = tt
+admitted s (NextOut (Ok out.NoMore)) a = tt
+admitted s (NextOut (Err e)) a = tt
+admitted s (DeliverEvent batch complete delivering.Taken) a = a
+admitted s (DeliverEvent batch complete (delivering.Full back)) a = tt
+admitted s (DeliverEvent batch complete (delivering.NoRequest back)) a = tt
+admitted s (DeliverEvent batch complete (delivering.OutOfMemory back)) a = tt
+admitted s (CloseRequests (Ok x)) a = tt
+admitted s (CloseRequests (Err e)) a = tt
+admitted s (Fail (Ok x)) a = tt
+admitted s (Fail (Err e)) a = tt
+
+kept-by : (s : State) (c : Change) → Kept s → Admits s c → Kept (changed s c)
+kept-by s (Booked stamp part) h a = kept-book s stamp part false 0 h
+kept-by s (Took id messages) h a = kept-take s id messages h a
+kept-by s (LetGo id) h a = kept-hang-up s id h
+kept-by s (WentOut part) h a = kept-out s part h a.1
+kept-by s (Came batch complete) h a = kept-deliver s batch complete h a
+kept-by s DrewStatement h a = same-kept s (changed s DrewStatement) refl refl refl refl refl h
+kept-by s DrewPortal h a = same-kept s (changed s DrewPortal) refl refl refl refl refl h
+kept-by s ClosedAll h a = same-kept s (changed s ClosedAll) refl refl refl refl refl h
+kept-by s FailedAll h a = same-kept s (changed s FailedAll) refl refl refl refl refl h
+kept-by s Nothing h a = h
+
 kept : (s : State) (e : Event) → Kept s → Allows s e → Kept (after s e)
-kept s (Book stamp part copying (Ok id)) h a = kept-book s stamp part copying id h
-kept s (Book stamp part copying (Err e)) h a = h
-kept s (TakeEvent id (Ok (taking.Batch messages))) h a = kept-take s id messages h a
-kept s (TakeEvent id (Ok taking.Empty)) h a = h
-kept s (TakeEvent id (Ok taking.Over)) h a = h
-kept s (TakeEvent id (Ok taking.Gone)) h a = h
-kept s (TakeEvent id (Err e)) h a = h
-kept s (HangUp id (Ok x)) h a = kept-hang-up s id h
-kept s (HangUp id (Err e)) h a = h
-kept s (NextStatement (Ok n)) h a = same-kept s (after s (NextStatement (Ok n))) refl refl refl refl refl h
-kept s (NextStatement (Err e)) h a = h
-kept s (NextPortal (Ok n)) h a = same-kept s (after s (NextPortal (Ok n))) refl refl refl refl refl h
-kept s (NextPortal (Err e)) h a = h
-kept s (NextOut (Ok (out.Part part))) h a = kept-out s part h a.1
-kept s (NextOut (Ok out.CopyWaits)) h a = h
-kept s (NextOut (Ok out.Nothing)) h a = h
-kept s (NextOut (Ok out.NoMore)) h a = h
-kept s (NextOut (Err e)) h a = h
-kept s (DeliverEvent batch complete delivering.Taken) h a = kept-deliver s batch complete h a
-kept s (DeliverEvent batch complete (delivering.Full back)) h a = h
-kept s (DeliverEvent batch complete (delivering.NoRequest back)) h a = h
-kept s (DeliverEvent batch complete (delivering.OutOfMemory back)) h a = h
-kept s (CloseRequests (Ok x)) h a = same-kept s (after s (CloseRequests (Ok x))) refl refl refl refl refl h
-kept s (CloseRequests (Err e)) h a = h
-kept s (Fail (Ok x)) h a = same-kept s (after s (Fail (Ok x))) refl refl refl refl refl h
-kept s (Fail (Err e)) h a = h
+kept s e h a = kept-by s (change_of e) h (admitted s e a)
 
 kept-all : (s : State) (es : List Event) → Kept s → IsLegal s es → Kept (after_all s es)
 kept-all s [] h l = h
@@ -247,30 +298,87 @@ kept-start : (n m : ℕ) → Kept (start n m)
 kept-start n m = record {
   taken_is_front = λ k. ([], refl);
   all_cut = tt;
+  order = record { owners = tt; one_part = tt; out = omega arith; ended = omega arith };
   at_most_two = λ k open_. omega arith;
   out_is_front = ([], refl);
 }
 
+-- what is kept up to the end of a legal list
+pub legal-kept : (n m : ℕ) (es : List Event) → IsLegal (start n m) es → Kept (after_all (start n m) es)
+legal-kept n m es l = kept-all (start n m) es (kept-start n m) l
+
 pub legal-sound : (n m : ℕ) (es : List Event) → IsLegal (start n m) es → IsSound (after_all (start n m) es)
 legal-sound n m es l =
-    let h = kept-all (start n m) es (kept-start n m) l in
+    let h = legal-kept n m es l in
+    let ds = (after_all (start n m) es).deliveries in
     record {
       taken_is_front = h.taken_is_front;
-      given_is_group = given-group (after_all (start n m) es).deliveries h.all_cut;
+      given_is_group = given-group ds h.order.owners h.all_cut;
+      given_is_between = given-between ds h.order.owners;
+      ended_in_order = ended-counted ds h.order.owners;
       at_most_two = λ k open_. let b = h.at_most_two k open_ in
-          rw (length-drop (length (taken k (after_all (start n m) es).takes)) (given k (after_all (start n m) es).deliveries)) (omega arith);
+          rw (length-drop (length (taken k (after_all (start n m) es).takes)) (given k ds)) (omega arith);
       out_is_front = h.out_is_front;
     }
 
--- a batch belongs to the group that runs, and to no other
-pub given-more : (ds : List Delivery) (d : Delivery) (k : ℕ) →
-    given k (ds ++ d ∷ []) ≡ (if k == finished ds then given k ds ++ d.messages ∷ [] else given k ds)
-given-more ds d k = elim (eqb_tells k (finished ds)) [
-  | inl same ↦ ap (λ (n : ℕ). given n (ds ++ d ∷ [])) same.1 ∙ given-own ds d ∙ ap (λ (n : ℕ). given n ds ++ d.messages ∷ []) (sym same.1)
-      ∙ sym (ap (λ (b : Bool). if b then given k ds ++ d.messages ∷ [] else given k ds) same.0)
-  | inr apart ↦ given-other ds d k apart.1 ∙ sym (ap (λ (b : Bool). if b then given k ds ++ d.messages ∷ [] else given k ds) apart.0)
-]
+-- a batch that is taken belongs to the oldest open request, and to no other
+pub given-more : (s : State) (batch : List RawMessage) (complete : Bool) (k : ℕ) →
+    given k (after s (DeliverEvent batch complete delivering.Taken)).deliveries ≡ (if next_owner s == k then given k s.deliveries ++ batch ∷ [] else given k s.deliveries)
+given-more s batch complete k =
+    let d : Delivery = record { owner = next_owner s; messages = batch; complete = complete } in
+    elim (eqb_tells (next_owner s) k) [
+      | inl same ↦ given-own k s.deliveries d same.1 ∙ sym (ap (λ (b : Bool). if b then given k s.deliveries ++ batch ∷ [] else given k s.deliveries) same.0)
+      | inr apart ↦ given-other k s.deliveries d apart.1 ∙ sym (ap (λ (b : Bool). if b then given k s.deliveries ++ batch ∷ [] else given k s.deliveries) apart.0)
+    ]
 
--- hanging up changes what no request was given
+-- the first of which it is true: of none before it, it is
+pub record IsFirst (p : ℕ → Bool) (from n k : ℕ) : Type 0 where
+  pub is : p k ≡ true
+  pub high : from ≤ k
+  pub low : k < from + n
+  pub before : (j : ℕ) → from ≤ j → j < k → p j ≡ false
+
+found-first : (p : ℕ → Bool) (from n k : ℕ) → first_from p from n ≡ Some k → IsFirst p from n k
+found-first p from zero k e = absurd cc
+found-first p from (suc n) k e = by_first (p from) refl e (found-first p (suc from) n k)
+  where
+    further : (a b : ℕ) → a ≢ b → a ≤ b → suc a ≤ b
+    further a b f low = elim (eqb_tells a b) [ inl same ↦ absurd (f same.1) | inr apart ↦ omega arith ]
+
+    by_first : (b : Bool) → p from ≡ b → (if b then Some from else first_from p (suc from) n) ≡ Some k → (first_from p (suc from) n ≡ Some k → IsFirst p (suc from) n k) → IsFirst p from (suc n) k
+    by_first true is e later = let same : from ≡ k = cc in
+        record { is = ap p (sym same) ∙ is; high = omega arith; low = omega arith; before = λ j low high. absurd (omega arith) }
+    by_first false is e later =
+        let h = later e in
+        record {
+          is = h.is;
+          high = let a = h.high in omega arith;
+          low = let a = h.low in omega arith;
+          before = λ j low high. elim (eqb_tells from j) [
+            | inl same ↦ ap p (sym same.1) ∙ is
+            | inr apart ↦ h.before j (further from j apart.1 low) high
+          ];
+        }
+
+-- the request that a batch belongs to is open, and no older one is
+pub owner-is-oldest : (s : State) → has_open s ≡ true → IsOldestOpen s (next_owner s)
+owner-is-oldest s e = by_oldest (oldest_open s) refl e
+  where
+    by_oldest : (o : Option ℕ) → oldest_open s ≡ o → is_some o ≡ true → IsOldestOpen s (unwrap_or o (length s.book))
+    by_oldest None is e = absurd cc
+    by_oldest (Some k) is e =
+        let h = found-first (is_open s) 0 (length s.book) k is in
+        record { booked = let b = h.low in omega arith; open_ = h.is; oldest = λ j low. h.before j (omega arith) low }
+
+-- a delivery at the end of a legal list
+pub legal-owner : (n m : ℕ) (es : List Event) (batch : List RawMessage) (complete : Bool) → IsLegal (start n m) (es ++ DeliverEvent batch complete delivering.Taken ∷ []) →
+    BelongsToOldest (after_all (start n m) es) batch (after_all (start n m) (es ++ DeliverEvent batch complete delivering.Taken ∷ []))
+legal-owner n m es batch complete l =
+    let s = after_all (start n m) es in
+    let e : Event = DeliverEvent batch complete delivering.Taken in
+    subst (BelongsToOldest s batch) (sym (after-joined (start n m) es (e ∷ [])))
+    (record { owner = next_owner s; is_oldest = owner-is-oldest s (legal-later (start n m) es (e ∷ []) l).0.1; given_is = given-more s batch complete })
+
+-- hanging up changes what no request was given, and to whom the next batch belongs
 pub hang-up-given : (s : State) (id k : ℕ) → given k (after s (HangUp id (Ok tt))).deliveries ≡ given k s.deliveries
 hang-up-given s id k = refl

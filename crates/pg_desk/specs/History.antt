@@ -1,6 +1,7 @@
 -- What a list of events stands for, with no queue and no mailbox in it.
-use Rattle.std.specs.Prelude.{◌≡◌, ◌⊎◌, ◌<◌, ◌≤◌, ℕ, zero, suc, ◌+◌, ◌-◌, ◌^◌, ◌==◌, List, [], ◌∷◌, ◌++◌, length, drop, Bool, true, false, ◌||◌, if◌then◌else◌, Ok, Err, nat_lt, unwrap_or, slice_get}
+use Rattle.std.specs.Prelude.{◌≡◌, ◌⊎◌, ◌<◌, ◌≤◌, ℕ, zero, suc, ◌+◌, ◌-◌, ◌^◌, ◌==◌, List, [], ◌∷◌, ◌++◌, length, drop, Bool, true, false, not, ◌&&◌, ◌||◌, if◌then◌else◌, Option, Some, None, is_some, Ok, Err, nat_lt, unwrap_or, slice_get}
 use Rattle.pg_spec.specs.RawMessages.{RawMessage, groups}
+use Rattle.pg_desk.specs.declared.event.Stamp.{Stamp}
 use Rattle.pg_desk.specs.declared.event.Booking.{Booking}
 use Rattle.pg_desk.specs.declared.event.DeskFault.TheVariants as fault
 use Rattle.pg_desk.specs.declared.event.Take.{Take}
@@ -12,8 +13,9 @@ use Rattle.pg_desk.specs.declared.event.Event.{Event}
 use Rattle.pg_desk.specs.declared.event.Event.TheVariants.{Book, Take as TakeEvent, HangUp, NextStatement, NextPortal, NextOut, Deliver as DeliverEvent, CloseRequests, Fail}
 use Rattle.pg_spec.specs.Batches.{is_batch}
 
--- a batch that was delivered
+-- a batch that was delivered, and the request that it belongs to
 pub record Delivery : Type 0 where
+  pub owner : ℕ
   pub messages : List RawMessage
   pub complete : Bool
 
@@ -61,16 +63,32 @@ abbrev pub wire : List Booking → List (List ℕ)
 wire [] = []
 wire (b ∷ bs) = b.parts ++ wire bs
 
--- how many groups have ended
+-- how many requests have begun to go out, where n parts went out
+abbrev pub started : ℕ → List Booking → ℕ
+started n [] = 0
+started zero (b ∷ bs) = 0
+started (suc n) (b ∷ bs) = suc (started (suc n - length b.parts) bs)
+
+-- how many batches ended a reply
 abbrev pub finished : List Delivery → ℕ
 finished [] = 0
 finished (d ∷ ds) = if d.complete then suc (finished ds) else finished ds
 
--- the batches that belong to request k: those behind the end of group k - 1, up to the end of group k
+-- the batches that belong to request k
 abbrev pub given : ℕ → List Delivery → List (List RawMessage)
 given k [] = []
-given zero (d ∷ ds) = d.messages ∷ (if d.complete then [] else given zero ds)
-given (suc k) (d ∷ ds) = given (if d.complete then k else suc k) ds
+given k (d ∷ ds) = if d.owner == k then d.messages ∷ given k ds else given k ds
+
+-- the reply to request k has ended: a batch that ends one belongs to it
+abbrev pub has_ended : ℕ → List Delivery → Bool
+has_ended k [] = false
+has_ended k (d ∷ ds) = (d.complete && (d.owner == k)) || has_ended k ds
+
+-- the batches behind the k-th that ends a reply, up to the next that does
+abbrev pub between_ends : ℕ → List Delivery → List (List RawMessage)
+between_ends k [] = []
+between_ends zero (d ∷ ds) = d.messages ∷ (if d.complete then [] else between_ends zero ds)
+between_ends (suc k) (d ∷ ds) = between_ends (if d.complete then k else suc k) ds
 
 -- the batches that the reader of request k took
 abbrev pub taken : ℕ → List Taken → List (List RawMessage)
@@ -90,26 +108,90 @@ is_in k (x ∷ xs) = (x == k) || is_in k xs
 abbrev pub is_hung_up : State → ℕ → Bool
 is_hung_up s k = is_in k s.hung_up
 
--- a request is open where its first part went out and its group hasn't ended. For requests of one part
-abbrev pub HasOpen : State → Type 0
-HasOpen s = finished s.deliveries < length s.gone_out
+-- its reader may still hang up: the request is booked, and it didn't
+abbrev pub may_let_go : State → ℕ → Bool
+may_let_go s k = nat_lt k (length s.book) && not (is_hung_up s k)
+
+-- the first part of request k went out
+abbrev pub has_begun : State → ℕ → Bool
+has_begun s k = nat_lt k (started (length s.gone_out) s.book)
+
+-- request k is open: its first part went out, and no batch that ends a reply belongs to it
+abbrev pub is_open : State → ℕ → Bool
+is_open s k = has_begun s k && not (has_ended k s.deliveries)
+
+-- the first of n numbers, from k on, of which this is true
+abbrev pub first_from : (ℕ → Bool) → (k n : ℕ) → Option ℕ
+first_from p k zero = None
+first_from p k (suc n) = if p k then Some k else first_from p (suc k) n
+
+-- the oldest open request
+abbrev pub oldest_open : State → Option ℕ
+oldest_open s = first_from (is_open s) 0 (length s.book)
+
+-- some request is open
+abbrev pub has_open : State → Bool
+has_open s = is_some (oldest_open s)
+
+-- a batch that comes now belongs to the oldest open request, and where none is open to none of the book
+abbrev pub next_owner : State → ℕ
+next_owner s = unwrap_or (oldest_open s) (length s.book)
 
 -- no request is taken any more
 abbrev pub ended : State → Bool
 ended s = s.closed || s.failed
 
--- the state after an event: an answer that is refused changes nothing
+-- what a call changes: an answer that refuses it, or tells that there is nothing, changes nothing
+pub data Change : Type 0 where
+  Booked : Stamp → (part : List ℕ) → Change
+  Took : (id : ℕ) → List RawMessage → Change
+  LetGo : (id : ℕ) → Change
+  DrewStatement : Change
+  DrewPortal : Change
+  WentOut : (part : List ℕ) → Change
+  Came : List RawMessage → (complete : Bool) → Change
+  ClosedAll : Change
+  FailedAll : Change
+  Nothing : Change
+
+-- by an event
+abbrev pub change_of : Event → Change
+change_of (Book stamp part copying (Ok id)) = Booked stamp part
+change_of (TakeEvent id (Ok (taking.Batch messages))) = Took id messages
+change_of (HangUp id (Ok x)) = LetGo id
+change_of (NextStatement (Ok n)) = DrewStatement
+change_of (NextPortal (Ok n)) = DrewPortal
+change_of (NextOut (Ok (out.Part part))) = WentOut part
+change_of (DeliverEvent messages complete delivering.Taken) = Came messages complete
+change_of (CloseRequests (Ok x)) = ClosedAll
+change_of (Fail (Ok x)) = FailedAll
+change_of e = Nothing
+
+-- a state with it
+abbrev pub changed : State → Change → State
+changed s (Booked stamp part) = record s { book = s.book ++ record { stamp = stamp; parts = part ∷ [] } ∷ [] }
+changed s (Took id messages) = record s { takes = s.takes ++ record { id = id; messages = messages } ∷ [] }
+changed s (LetGo id) = record s { hung_up = if may_let_go s id then s.hung_up ++ id ∷ [] else s.hung_up }
+changed s DrewStatement = record s { statements = s.statements + 1 }
+changed s DrewPortal = record s { portals = s.portals + 1 }
+changed s (WentOut part) = record s { gone_out = s.gone_out ++ part ∷ [] }
+changed s (Came messages complete) = record s { deliveries = s.deliveries ++ record { owner = next_owner s; messages = messages; complete = complete } ∷ [] }
+changed s ClosedAll = record s { closed = true }
+changed s FailedAll = record s { failed = true }
+changed s Nothing = s
+
+-- requests, batches and parts move by it. Letting go what nobody may let go any more moves nothing
+abbrev pub is_move : State → Change → Bool
+is_move s (Booked stamp part) = true
+is_move s (Took id messages) = true
+is_move s (LetGo id) = may_let_go s id
+is_move s (WentOut part) = true
+is_move s (Came messages complete) = true
+is_move s _ = false
+
+-- the state after an event
 abbrev pub after : State → Event → State
-after s (Book stamp part copying (Ok id)) = record s { book = s.book ++ record { stamp = stamp; parts = part ∷ [] } ∷ [] }
-after s (TakeEvent id (Ok (taking.Batch messages))) = record s { takes = s.takes ++ record { id = id; messages = messages } ∷ [] }
-after s (HangUp id (Ok x)) = record s { hung_up = if nat_lt id (length s.book) then s.hung_up ++ id ∷ [] else s.hung_up }
-after s (NextStatement (Ok n)) = record s { statements = s.statements + 1 }
-after s (NextPortal (Ok n)) = record s { portals = s.portals + 1 }
-after s (NextOut (Ok (out.Part part))) = record s { gone_out = s.gone_out ++ part ∷ [] }
-after s (DeliverEvent messages complete delivering.Taken) = record s { deliveries = s.deliveries ++ record { messages = messages; complete = complete } ∷ [] }
-after s (CloseRequests (Ok x)) = record s { closed = true }
-after s (Fail (Ok x)) = record s { failed = true }
-after s _ = s
+after s e = changed s (change_of e)
 
 -- the state after a list of events
 abbrev pub after_all : State → List Event → State
@@ -119,7 +201,7 @@ after_all s (e ∷ es) = after_all (after s e) es
 -- what take answers of a request that is booked and wasn't hung up, by the batches that wait for it
 abbrev pub take_of_waiting : State → ℕ → List (List RawMessage) → Take
 take_of_waiting s id (messages ∷ more) = taking.Batch messages
-take_of_waiting s id [] = if s.failed then taking.Gone else (if nat_lt id (finished s.deliveries) then taking.Over else taking.Empty)
+take_of_waiting s id [] = if s.failed then taking.Gone else (if has_ended id s.deliveries then taking.Over else taking.Empty)
 
 -- what take answers; a request that isn't booked is gone, as one whose reader hung up
 abbrev pub take_answer : State → ℕ → Take
@@ -131,13 +213,14 @@ take_answer s id =
 -- what next_out answers, where the hub hasn't failed
 abbrev pub out_of_rest : State → List (List ℕ) → Out
 out_of_rest s (part ∷ parts) = out.Part part
-out_of_rest s [] = if nat_lt (finished s.deliveries) (length s.gone_out) then out.Nothing else (if s.closed then out.NoMore else out.Nothing)
+out_of_rest s [] = if has_open s then out.Nothing else (if s.closed then out.NoMore else out.Nothing)
 
 -- the next part is the first of the wire that hasn't gone out
 abbrev pub out_answer : State → Out
 out_answer s = out_of_rest s (drop (length s.gone_out) (wire s.book))
 
--- Whether an answer follows from the state before its call. Want of memory may be answered in any state: a desk that
+-- Whether an answer follows from the state before its call, where requests aren't copies: one that is booked as a copy goes out as
+-- any other. Want of memory may be answered in any state: a desk that
 -- stores its events may lack the room for any of them. What it hands back is what was passed.
 abbrev pub Allows : State → Event → Type 0
 Allows s (Book stamp part copying (Ok id)) = (ended s ≡ false) × (id ≡ length s.book)
@@ -161,16 +244,28 @@ Allows s (NextOut (Err fault.Closed)) = s.failed ≡ true
 Allows s (NextOut (Err fault.Encode)) = ⊥
 Allows s (NextOut (Err fault.OutOfMemory)) = Unit {0}
 Allows s (DeliverEvent batch complete delivering.Taken) =
-    (is_batch complete batch ≡ true) × HasOpen s
-    × ((is_hung_up s (finished s.deliveries) ≡ true) ⊎ (length (waiting s (finished s.deliveries)) < 2))
+    (is_batch complete batch ≡ true) × (has_open s ≡ true)
+    × ((is_hung_up s (next_owner s) ≡ true) ⊎ (length (waiting s (next_owner s)) < 2))
 Allows s (DeliverEvent batch complete (delivering.Full back)) =
-    (back ≡ batch) × HasOpen s × (is_hung_up s (finished s.deliveries) ≡ false) × (2 ≤ length (waiting s (finished s.deliveries)))
-Allows s (DeliverEvent batch complete (delivering.NoRequest back)) = (back ≡ batch) × (length s.gone_out ≤ finished s.deliveries)
+    (back ≡ batch) × (has_open s ≡ true) × (is_hung_up s (next_owner s) ≡ false) × (2 ≤ length (waiting s (next_owner s)))
+Allows s (DeliverEvent batch complete (delivering.NoRequest back)) = (back ≡ batch) × (has_open s ≡ false)
 Allows s (DeliverEvent batch complete (delivering.OutOfMemory back)) = back ≡ batch
 Allows s (CloseRequests (Ok x)) = Unit {0}
 Allows s (CloseRequests (Err e)) = e ≡ fault.OutOfMemory
 Allows s (Fail (Ok x)) = Unit {0}
 Allows s (Fail (Err e)) = e ≡ fault.OutOfMemory
+
+-- what legality says of a change: all that proofs on states need of an answer
+abbrev pub Admits : State → Change → Type 0
+Admits s (Booked stamp part) = ended s ≡ false
+Admits s (Took id messages) = taking.Batch messages ≡ take_answer s id
+Admits s DrewStatement = s.failed ≡ false
+Admits s DrewPortal = s.failed ≡ false
+Admits s (WentOut part) = (s.failed ≡ false) × (out.Part part ≡ out_answer s)
+Admits s (Came batch complete) =
+    (is_batch complete batch ≡ true) × (has_open s ≡ true)
+    × ((is_hung_up s (next_owner s) ≡ true) ⊎ (length (waiting s (next_owner s)) < 2))
+Admits s change = Unit {0}
 
 -- each answer follows from the state before its call
 abbrev pub IsLegal : State → List Event → Type 0
@@ -213,24 +308,40 @@ IsFrontOf {A} xs ys = (rest : List A) × (xs ++ rest ≡ ys)
 abbrev pub reply : ℕ → List RawMessage → List RawMessage
 reply k ms = unwrap_or (slice_get (groups ms) k) []
 
+-- this request is open, and no older one is
+pub record IsOldestOpen (s : State) (k : ℕ) : Type 0 where
+  pub booked : k < length s.book
+  pub open_ : is_open s k ≡ true
+  pub oldest : (j : ℕ) → j < k → is_open s j ≡ false
+
+-- the batch belongs to the request that was the oldest open one before, and to no other
+pub record BelongsToOldest (old : State) (batch : List RawMessage) (new : State) : Type 0 where
+  pub owner : ℕ
+  pub is_oldest : IsOldestOpen old owner
+  pub given_is : (k : ℕ) → given k new.deliveries ≡ (if owner == k then given k old.deliveries ++ batch ∷ [] else given k old.deliveries)
+
 -- What holds of every state that a legal list leads to.
 pub record IsSound (s : State) : Type 0 where
   pub taken_is_front : (k : ℕ) → IsFrontOf (taken k s.takes) (given k s.deliveries)
   pub given_is_group : (k : ℕ) → joined (given k s.deliveries) ≡ reply k (received s.deliveries)
+  -- replies come one after another, so cutting at their ends gives the same
+  pub given_is_between : (k : ℕ) → given k s.deliveries ≡ between_ends k s.deliveries
+  pub ended_in_order : (k : ℕ) → has_ended k s.deliveries ≡ nat_lt k (finished s.deliveries)
   pub at_most_two : (k : ℕ) → is_hung_up s k ≡ false → length (waiting s k) ≤ 2
   pub out_is_front : IsFrontOf s.gone_out (wire s.book)
 
--- A call that wants memory leaves no event in a list that is stored. In a list that isn't, it may stand, and changes nothing.
+-- A call that wants memory, and no other, leaves no event in a list that is stored. In a list that isn't, it may stand, and changes
+-- nothing.
 abbrev pub leaves_event : Event → Bool
 leaves_event (Book stamp part copying (Err fault.OutOfMemory)) = false
-leaves_event (TakeEvent id (Err e)) = false
-leaves_event (HangUp id (Err e)) = false
+leaves_event (TakeEvent id (Err fault.OutOfMemory)) = false
+leaves_event (HangUp id (Err fault.OutOfMemory)) = false
 leaves_event (NextStatement (Err fault.OutOfMemory)) = false
 leaves_event (NextPortal (Err fault.OutOfMemory)) = false
 leaves_event (NextOut (Err fault.OutOfMemory)) = false
 leaves_event (DeliverEvent batch complete (delivering.OutOfMemory back)) = false
-leaves_event (CloseRequests (Err e)) = false
-leaves_event (Fail (Err e)) = false
+leaves_event (CloseRequests (Err fault.OutOfMemory)) = false
+leaves_event (Fail (Err fault.OutOfMemory)) = false
 leaves_event e = true
 
 -- the events that a list which is stored holds

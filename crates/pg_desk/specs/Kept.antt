@@ -65,3 +65,13 @@ legal-if-exact s (e ∷ es) h = (h.0, legal-if-exact (after s e) es h.2)
 pub legal-joined : (s : State) (es fs : List Event) → IsLegal s es → IsLegal (after_all s es) fs → IsLegal s (es ++ fs)
 legal-joined s [] fs h k = k
 legal-joined s (e ∷ es) fs h k = (h.0, legal-joined (after s e) es fs h.1 k)
+
+-- the state after joined lists
+pub after-joined : (s : State) (es fs : List Event) → after_all s (es ++ fs) ≡ after_all (after_all s es) fs
+after-joined s [] fs = refl
+after-joined s (e ∷ es) fs = after-joined (after s e) es fs
+
+-- the later part of a legal list
+pub legal-later : (s : State) (es fs : List Event) → IsLegal s (es ++ fs) → IsLegal (after_all s es) fs
+legal-later s [] fs h = h
+legal-later s (e ∷ es) fs h = legal-later (after s e) es fs h.1

@@ -2,7 +2,7 @@
 
 ghost use Rattle.std.specs.Prelude.{◌≡◌, ◌++◌, [], ◌∷◌, List, ℕ, ◌≤◌, ◌<◌, Bool, true};
 ghost use Rattle.pg_desk.specs.declared.event.Event.{Event};
-ghost use Rattle.pg_spec.specs.Batches.{is_batch};
+ghost use Rattle.pg_spec.specs.RawMessages.{ends_in, is_ready};
 ghost use Rattle.pg_desk.specs.Answers.{HasBatch, HasPart, OnlyMemory, NotEncode, HasMemory, HasRoom, HandsBack};
 
 use crate::{Deliver, DeskFault, Out, Stamp, Take};
@@ -17,6 +17,9 @@ pub trait Desk {
 
     /// Falls in each take that answers a batch. No call of a desk raises it.
     ghost undelivered: { Self → ℕ };
+
+    /// Falls in each call of an engine that hands a part out. No call but book raises it.
+    ghost waiting_parts: { Self → ℕ };
 
     /// The calls that need no memory never want it.
     ghost sure: { Bool };
@@ -43,6 +46,7 @@ pub trait Desk {
         ensures fault { OnlyMemory result }
         ensures count { undelivered self.new ≤ undelivered self.old }
         ensures memory { sure ≡ true → HasMemory result }
+        ensures parts { waiting_parts self.new ≤ waiting_parts self.old }
         ensures falls { HasBatch result → undelivered self.new < undelivered self.old };
 
     /// Drops what waits for the reader of a request, and what will come for it.
@@ -50,19 +54,22 @@ pub trait Desk {
         ensures event { becomes self.old (Event.HangUp id result ∷ []) self.new }
         ensures fault { OnlyMemory result }
         ensures memory { sure ≡ true → HasMemory result }
-        ensures count { undelivered self.new ≤ undelivered self.old };
+        ensures count { undelivered self.new ≤ undelivered self.old }
+        ensures parts { waiting_parts self.new ≤ waiting_parts self.old };
 
     /// The number of the next statement. Encode comes exactly at the last value.
     fn next_statement(&mut self) -> Result<u32, DeskFault>
         ensures event { becomes self.old (Event.NextStatement result ∷ []) self.new }
         ensures memory { sure ≡ true → HasMemory result }
-        ensures count { undelivered self.new ≤ undelivered self.old };
+        ensures count { undelivered self.new ≤ undelivered self.old }
+        ensures parts { waiting_parts self.new ≤ waiting_parts self.old };
 
     /// The number of the next portal. Encode comes exactly at the last value.
     fn next_portal(&mut self) -> Result<u32, DeskFault>
         ensures event { becomes self.old (Event.NextPortal result ∷ []) self.new }
         ensures memory { sure ≡ true → HasMemory result }
-        ensures count { undelivered self.new ≤ undelivered self.old };
+        ensures count { undelivered self.new ≤ undelivered self.old }
+        ensures parts { waiting_parts self.new ≤ waiting_parts self.old };
 
     /// No request is taken any more.
     fn is_closed(&self) -> bool
@@ -77,35 +84,34 @@ pub trait Desk {
 
 /// What the connection has of the hub: it takes parts out and delivers what comes.
 pub trait Engine: Desk {
-    /// Falls in each call that hands a part out. No call but book raises it.
-    ghost waiting_parts: { Self → ℕ };
-
     /// The next part of the oldest request that hasn't gone out whole.
     fn next_out(&mut self) -> Result<Out, DeskFault>
         ensures event { Self.becomes self.old (Event.NextOut result ∷ []) self.new }
         ensures fault { NotEncode result }
         ensures memory { Self.sure ≡ true → HasMemory result }
-        ensures count { waiting_parts self.new ≤ waiting_parts self.old }
-        ensures falls { HasPart result → waiting_parts self.new < waiting_parts self.old };
+        ensures parts { Self.waiting_parts self.new ≤ Self.waiting_parts self.old }
+        ensures falls { HasPart result → Self.waiting_parts self.new < Self.waiting_parts self.old };
 
     /// Gives a batch to the oldest open request, or discards it where that one hung up. `complete` says
-    /// that the batch ends its reply.
+    /// that the batch ends its reply, with ReadyForQuery.
     fn deliver(&mut self, batch: BackendMessages, complete: bool) -> Deliver
-        requires cut { is_batch complete batch ≡ true }
+        requires ends { complete ≡ ends_in is_ready batch }
         ensures event { Self.becomes self.old (Event.Deliver batch complete result ∷ []) self.new }
         ensures back { HandsBack batch result }
         ensures memory { Self.sure ≡ true → HasRoom result }
-        ensures count { waiting_parts self.new ≤ waiting_parts self.old };
+        ensures parts { Self.waiting_parts self.new ≤ Self.waiting_parts self.old };
 
     /// No request will be booked any more.
     fn close_requests(&mut self) -> Result<(), DeskFault>
         ensures event { Self.becomes self.old (Event.CloseRequests result ∷ []) self.new }
         ensures fault { OnlyMemory result }
-        ensures memory { Self.sure ≡ true → HasMemory result };
+        ensures memory { Self.sure ≡ true → HasMemory result }
+        ensures parts { Self.waiting_parts self.new ≤ Self.waiting_parts self.old };
 
     /// Nothing will come any more.
     fn fail(&mut self) -> Result<(), DeskFault>
         ensures event { Self.becomes self.old (Event.Fail result ∷ []) self.new }
         ensures fault { OnlyMemory result }
-        ensures memory { Self.sure ≡ true → HasMemory result };
+        ensures memory { Self.sure ≡ true → HasMemory result }
+        ensures parts { Self.waiting_parts self.new ≤ Self.waiting_parts self.old };
 }
