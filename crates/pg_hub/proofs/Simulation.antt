@@ -1,5 +1,5 @@
 -- What each call of the plain hub does to the states that it stands for.
-use Rattle.std.proofs.Common.{◌≡◌, ◌≢◌, ◌⊎◌, ◌<◌, ◌≤◌, ℕ, zero, suc, ◌+◌, ◌==◌, List, [], ◌∷◌, ◌++◌, length, drop, Bool, true, false, if◌then◌else◌, Some, None, Ok, refl, sym, ◌∙◌, ap, subst, inl, inr, arith, nat_lt, ◌||◌, slice_set}
+use Rattle.std.proofs.Common.{◌≡◌, ◌≢◌, ◌⊎◌, ◌<◌, ◌≤◌, ℕ, zero, suc, ◌+◌, ◌==◌, List, [], ◌∷◌, ◌++◌, length, drop, Bool, true, false, not, ◌&&◌, if◌then◌else◌, Some, None, Ok, refl, sym, ◌∙◌, ap, subst, inl, inr, arith, nat_lt, ◌||◌, slice_set}
 use Rattle.std.proofs.lemmas.List.{get_or_append_left, get_or_push, drop-append-le, length-set, length_push}
 use Rattle.std.proofs.lemmas.Bool.Decides.{nat_tests, eqb_tells}
 use Rattle.std.proofs.lemmas.Bool.{false≢true}
@@ -7,17 +7,19 @@ use Rattle.pg_spec.specs.RawMessages.{RawMessage}
 use Rattle.pg_desk.specs.declared.event.Booking.{Booking}
 use Rattle.pg_desk.specs.declared.event.Stamp.{Stamp}
 use Rattle.pg_desk.specs.declared.event.Take.TheVariants as taking
+use Rattle.pg_desk.specs.declared.event.Out.TheVariants as out
 use Rattle.pg_desk.specs.declared.event.Deliver.TheVariants as delivering
 use Rattle.pg_desk.specs.declared.event.Event.TheVariants as call
 use Rattle.pg_spec.specs.Batches.{is_batch}
-use Rattle.pg_desk.specs.History.{State, Delivery, Taken, wire, finished, waiting, given, taken, is_in, is_hung_up, take_answer, take_of_waiting, after, Allows}
-use Rattle.pg_desk.proofs.Soundness.{given-own, given-other, taken-own, taken-other, wire-more}
+use Rattle.pg_desk.specs.History.{State, Delivery, Taken, wire, has_ended, may_let_go, has_open, next_owner, out_of_rest, out_answer, waiting, given, taken, is_in, is_hung_up, take_answer, take_of_waiting, after, Allows}
+use Rattle.pg_desk.proofs.Owners.{given-own, given-other, finished-more, less-open, ended-counted, open-counted, owner-counted}
+use Rattle.pg_desk.proofs.Soundness.{taken-own, taken-other, wire-more, wire-counted, order-same, order-book, order-deliver, let-go-none}
 use Rattle.pg_hub.specs.declared.mailbox.Mailbox.{Mailbox}
 use Rattle.pg_hub.specs.declared.mailbox.Mailbox.TheVariants.{Empty, HungUp}
 use Rattle.pg_hub.specs.Standing.{Standing}
 use Rattle.pg_hub.specs.Mail.{waits, is_gone, first_of, rest_of, received_by, at}
 use Rattle.pg_hub.specs.Fits.{Fits, MailFits}
-use Rattle.pg_hub.proofs.Mailing.{all-set, takes-first, nothing-waits, receives, drop-one-more, more-left}
+use Rattle.pg_hub.proofs.Mailing.{all-set, takes-first, nothing-waits, receives, no-room, drop-one-more, more-left}
 
 drop-none : {A : Type 0} (n : ℕ) → drop {A = A} n [] ≡ []
 drop-none zero = refl
@@ -25,6 +27,10 @@ drop-none (suc n) = refl
 
 pub neither : (a b : Bool) → a ≡ false → b ≡ false → a || b ≡ false
 neither a b p q = cc
+
+-- each request has one part
+pub all-parts : (s : State) (h : Standing) → Fits s h → length (wire s.book) ≡ length s.book
+all-parts s h f = wire-counted s.book f.in_order.one_part
 
 -- a request more
 pub booked : (s : State) (h : Standing) (stamp : Stamp) (part : List ℕ) (copying : Bool) (book' : List Booking) (mail' : List Mailbox) (outgoing' : List (List ℕ)) →
@@ -38,7 +44,7 @@ booked s h stamp part copying book' mail' outgoing' f eb em eo =
     let lo : length outgoing' ≡ length h.outgoing + 1 = ap length eo ∙ length_push h.outgoing part in
     let ls : length (s.book ++ b ∷ []) ≡ length s.book + 1 = length_push s.book b in
     let lw : length (wire s.book ++ part ∷ []) ≡ length (wire s.book) + 1 = length_push (wire s.book) part in
-    let low : length s.gone_out ≤ length (wire s.book) = let a = f.standing.out in let e = f.gone_out in let p = f.all_parts in let q = ap length f.book in omega arith in
+    let low : length s.gone_out ≤ length (wire s.book) = let a = f.standing.out in let e = f.gone_out in let p = all-parts s h f in let q = ap length f.book in omega arith in
     let own : (k : ℕ) → MailFits s k (at h.mail k) → MailFits (after s (call.Book stamp part copying (Ok 0))) k (at h.mail k) = λ k m. record { gone = m.gone; waits = m.waits } in
     record {
       standing = record { mail = let a = f.standing.mail in omega arith; out = let a = f.standing.out in omega arith; finished = f.standing.finished };
@@ -64,7 +70,7 @@ booked s h stamp part copying book' mail' outgoing' f eb em eo =
       none_invented = f.none_invented;
       none_given = f.none_given;
       none_hung_up = λ k beyond. f.none_hung_up k (omega arith);
-      all_parts = let p = f.all_parts in ap length (wire-more s.book b) ∙ lw ∙ ap (λ (n : ℕ). n + 1) p ∙ sym ls;
+      in_order = order-book s stamp part copying 0 f.in_order;
     }
 
 -- what take answers of a request that is known and that its reader didn't hang up
@@ -116,7 +122,7 @@ took s h id batch mail' f low first em =
         ];
         none_given = f.none_given;
         none_hung_up = f.none_hung_up;
-        all_parts = f.all_parts;
+        in_order = order-same s (after s (call.Take id (Ok (taking.Batch batch)))) refl refl refl f.in_order;
       },
     )
 
@@ -144,7 +150,7 @@ waited-on s h id mail' f low here none em =
         none_invented = f.none_invented;
         none_given = f.none_given;
         none_hung_up = f.none_hung_up;
-        all_parts = f.all_parts;
+        in_order = f.in_order;
       },
     )
 
@@ -156,13 +162,44 @@ pub in-other : (k x : ℕ) (xs : List ℕ) → k ≢ x → is_in k (xs ++ x ∷ 
 in-other k x [] e = grind (arith, nat_tests)
 in-other k x (y ∷ ys) e = ap (λ (b : Bool). (y == k) || b) (in-other k x ys e)
 
--- a reader hangs up
-pub hung-up : (s : State) (h : Standing) (id : ℕ) (mail' : List Mailbox) → Fits s h → id < length h.mail → mail' ≡ slice_set h.mail id HungUp →
-    Fits (after s (call.HangUp id (Ok tt))) (record h { mail = mail'; touched = true })
-hung-up s h id mail' f low em =
+-- a reader that is there may hang up
+pub may-let-go : (s : State) (h : Standing) (id : ℕ) → Fits s h → id < length h.mail → is_gone (at h.mail id) ≡ false → may_let_go s id ≡ true
+may-let-go s h id f low here =
     let known : id < length s.book = let a = f.standing.mail in let q = ap length f.book in omega arith in
-    let more : (if nat_lt id (length s.book) then s.hung_up ++ id ∷ [] else s.hung_up) ≡ s.hung_up ++ id ∷ [] =
-    ap (λ (b : Bool). if b then s.hung_up ++ id ∷ [] else s.hung_up) (let e : nat_lt id (length s.book) ≡ true = grind (arith, nat_tests) in e) in
+    by_tests (nat_lt id (length s.book)) (is_hung_up s id) (grind (arith, nat_tests)) (sym (f.mail id known).gone ∙ here)
+  where
+    by_tests : (a b : Bool) → a ≡ true → b ≡ false → a && not b ≡ true
+    by_tests true false p q = refl
+    by_tests true true p q = absurd cc
+    by_tests false b p q = absurd cc
+
+-- and one that isn't booked, or hung up, may not
+pub may-not : (s : State) (h : Standing) (id : ℕ) → Fits s h → (length h.mail ≤ id) ⊎ (id < length h.mail) × (is_gone (at h.mail id) ≡ true) → may_let_go s id ≡ false
+may-not s h id f (inl high) = by_first (nat_lt id (length s.book)) (let a = f.standing.mail in let q = ap length f.book in grind (arith, nat_tests))
+  where
+    by_first : (a : Bool) → a ≡ false → a && not (is_hung_up s id) ≡ false
+    by_first true e = absurd cc
+    by_first false e = refl
+may-not s h id f (inr (low, gone)) =
+    let known : id < length s.book = let a = f.standing.mail in let q = ap length f.book in omega arith in
+    by_second (nat_lt id (length s.book)) (is_hung_up s id) (sym (f.mail id known).gone ∙ gone)
+  where
+    by_second : (a b : Bool) → b ≡ true → a && not b ≡ false
+    by_second true true e = refl
+    by_second true false e = absurd cc
+    by_second false b e = refl
+
+-- then nothing changes
+pub not-hung-up : (s : State) (h : Standing) (id : ℕ) → Fits s h → may_let_go s id ≡ false → Fits (after s (call.HangUp id (Ok tt))) h
+not-hung-up s h id f e = subst (λ (t : State). Fits t h) (sym (let-go-none s id e)) f
+
+-- a reader hangs up
+pub hung-up : (s : State) (h : Standing) (id : ℕ) (mail' : List Mailbox) → Fits s h → id < length h.mail → is_gone (at h.mail id) ≡ false → mail' ≡ slice_set h.mail id HungUp →
+    Fits (after s (call.HangUp id (Ok tt))) (record h { mail = mail'; touched = true })
+hung-up s h id mail' f low here em =
+    let known : id < length s.book = let a = f.standing.mail in let q = ap length f.book in omega arith in
+    let more : (if may_let_go s id then s.hung_up ++ id ∷ [] else s.hung_up) ≡ s.hung_up ++ id ∷ [] =
+    ap (λ (b : Bool). if b then s.hung_up ++ id ∷ [] else s.hung_up) (may-let-go s h id f low here) in
     record {
       standing = record { mail = ap length em ∙ length-set h.mail id HungUp ∙ f.standing.mail; out = f.standing.out; finished = f.standing.finished };
       book = f.book;
@@ -181,21 +218,8 @@ hung-up s h id mail' f low em =
       none_invented = f.none_invented;
       none_given = f.none_given;
       none_hung_up = λ k beyond. ap (λ (l : List ℕ). is_in k l) more ∙ in-other k id s.hung_up (λ e. absurd (omega arith)) ∙ f.none_hung_up k beyond;
-      all_parts = f.all_parts;
+      in_order = order-same s (after s (call.HangUp id (Ok tt))) refl refl refl f.in_order;
     }
-
-ended-step : (ms : List RawMessage) (b : Bool) (ds : List Delivery) (d : Delivery) (n : ℕ) → finished (ds ++ d ∷ []) ≡ n + finished ds →
-    finished (record { messages = ms; complete = b } ∷ (ds ++ d ∷ [])) ≡ n + finished (record { messages = ms; complete = b } ∷ ds)
-ended-step ms true ds d n h = omega arith
-ended-step ms false ds d n h = h
-
-pub finished-more : (ds : List Delivery) (d : Delivery) → finished (ds ++ d ∷ []) ≡ (if d.complete then 1 else 0) + finished ds
-finished-more [] d = by_complete d.complete
-  where
-    by_complete : (b : Bool) → (if b then 1 else 0) ≡ (if b then 1 else 0) + 0
-    by_complete true = refl
-    by_complete false = refl
-finished-more (x ∷ ds) d = ended-step x.messages x.complete ds d (if d.complete then 1 else 0) (finished-more ds d)
 
 -- a batch is delivered
 pub delivered : (s : State) (h : Standing) (batch : List RawMessage) (complete : Bool) (m : Mailbox) (mail' : List Mailbox) (finished' : ℕ) → Fits s h →
@@ -208,13 +232,14 @@ delivered s h batch complete m mail' finished' f cut open_ received em ef bound 
     let low : id < length h.mail = let a = f.standing.mail in let q = ap length f.book in omega arith in
     let r = receives (at h.mail id) batch m received in
     let o = f.mail id known in
-    let d : Delivery = record { messages = batch; complete = complete } in
-    let own : given id (s.deliveries ++ d ∷ []) ≡ given id s.deliveries ++ batch ∷ [] =
-    ap (λ (n : ℕ). given n (s.deliveries ++ d ∷ [])) f.finished ∙ given-own s.deliveries d ∙ ap (λ (n : ℕ). given n s.deliveries ++ batch ∷ []) (sym f.finished) in
-    let other : (k : ℕ) → k ≢ id → given k (s.deliveries ++ d ∷ []) ≡ given k s.deliveries = λ k apart. given-other s.deliveries d k (λ e. apart (e ∙ sym f.finished)) in
+    let some_open : has_open s ≡ true = less-open s f.in_order (subst (λ (n : ℕ). n < length s.gone_out) f.finished (subst (λ (n : ℕ). id < n) f.gone_out open_)) in
+    let owner : id ≡ next_owner s = f.finished ∙ sym (owner-counted s f.in_order some_open) in
+    let d : Delivery = record { owner = next_owner s; messages = batch; complete = complete } in
+    let own : given id (s.deliveries ++ d ∷ []) ≡ given id s.deliveries ++ batch ∷ [] = given-own id s.deliveries d (sym owner) in
+    let other : (k : ℕ) → k ≢ id → given k (s.deliveries ++ d ∷ []) ≡ given k s.deliveries = λ k apart. given-other k s.deliveries d (λ e. apart (sym e ∙ sym owner)) in
     let gone : is_gone (at h.mail id) ≡ is_hung_up s id = o.gone in
     let room : (is_hung_up s id ≡ true) ⊎ (length (waiting s id) < 2) = by_gone (is_gone (at h.mail id)) (is_hung_up s id) gone (λ e. subst (λ (l : List (List RawMessage)). length l < 2) (o.waits (sym gone ∙ e)) (r.waits e).1) in (
-      ((cut, subst (λ (n : ℕ). n < length s.gone_out) f.finished (subst (λ (n : ℕ). id < n) f.gone_out open_), subst (λ (n : ℕ). (is_hung_up s n ≡ true) ⊎ (length (waiting s n) < 2)) f.finished room), tt, tt),
+      ((cut, some_open, subst (λ (n : ℕ). (is_hung_up s n ≡ true) ⊎ (length (waiting s n) < 2)) owner room), tt, tt),
       record {
         standing = record { mail = ap length em ∙ length-set h.mail id m ∙ f.standing.mail; out = f.standing.out; finished = bound };
         book = f.book;
@@ -242,10 +267,77 @@ delivered s h batch complete m mail' finished' f cut open_ received em ef bound 
         ];
         none_given = λ k beyond. other k (λ e. let g = f.gone_out in absurd (omega arith)) ∙ f.none_given k beyond;
         none_hung_up = f.none_hung_up;
-        all_parts = f.all_parts;
+        in_order = order-deliver s batch complete f.in_order some_open;
       },
     )
   where
     by_gone : (a b : Bool) {A : Type 0} → a ≡ b → (a ≡ false → A) → (b ≡ true) ⊎ A
     by_gone true b e g = inl (sym e)
     by_gone false b e g = inr (g refl)
+
+-- ---- what the hub counts
+
+-- which replies have ended
+pub ended-is : (s : State) (h : Standing) (k : ℕ) → Fits s h → has_ended k s.deliveries ≡ nat_lt k h.finished
+ended-is s h k f = ended-counted s.deliveries f.in_order.owners k ∙ ap (λ (n : ℕ). nat_lt k n) (sym f.finished)
+
+-- whether some request is open
+pub open-is : (s : State) (h : Standing) → Fits s h → has_open s ≡ nat_lt h.finished h.gone_out
+open-is s h f = open-counted s f.in_order ∙ ap (λ (n : ℕ). nat_lt n (length s.gone_out)) (sym f.finished) ∙ ap (λ (n : ℕ). nat_lt h.finished n) (sym f.gone_out)
+
+-- where nothing waits, a reply that has ended is over
+pub none-over : (s : State) (h : Standing) (id : ℕ) → Fits s h → h.failed ≡ false → id < h.finished → taking.Over ≡ take_of_waiting s id []
+none-over s h id f here low = by_tests s.failed (has_ended id s.deliveries) (sym f.failed ∙ here) (ended-is s h id f ∙ grind (arith, nat_tests))
+  where
+    by_tests : (a b : Bool) → a ≡ false → b ≡ true → taking.Over ≡ (if a then taking.Gone else (if b then taking.Over else taking.Empty))
+    by_tests true b p q = absurd cc
+    by_tests false true p q = refl
+    by_tests false false p q = absurd cc
+
+-- and the mailbox of another is empty
+pub none-empty : (s : State) (h : Standing) (id : ℕ) → Fits s h → h.failed ≡ false → h.finished ≤ id → taking.Empty ≡ take_of_waiting s id []
+none-empty s h id f here high = by_tests s.failed (has_ended id s.deliveries) (sym f.failed ∙ here) (ended-is s h id f ∙ grind (arith, nat_tests))
+  where
+    by_tests : (a b : Bool) → a ≡ false → b ≡ false → taking.Empty ≡ (if a then taking.Gone else (if b then taking.Over else taking.Empty))
+    by_tests true b p q = absurd cc
+    by_tests false false p q = refl
+    by_tests false true p q = absurd cc
+
+-- where no part is left
+pub out-none : (s : State) (h : Standing) → Fits s h → h.outgoing ≡ [] → out_answer s ≡ (if nat_lt h.finished h.gone_out then out.Nothing else (if h.closed then out.NoMore else out.Nothing))
+out-none s h f none =
+    ap (out_of_rest s) (sym f.outgoing ∙ none)
+    ∙ ap (λ (b : Bool). if b then out.Nothing else (if s.closed then out.NoMore else out.Nothing)) (open-is s h f)
+    ∙ ap (λ (b : Bool). if nat_lt h.finished h.gone_out then out.Nothing else (if b then out.NoMore else out.Nothing)) (sym f.closed)
+
+-- the same parts and mailboxes under other names
+pub refits : (s : State) (h : Standing) (mail' : List Mailbox) (outgoing' : List (List ℕ)) → Fits s h → mail' ≡ h.mail → outgoing' ≡ h.outgoing → Fits s (record h { mail = mail'; outgoing = outgoing' })
+refits s h mail' outgoing' f em eo = record {
+  standing = record { mail = ap length em ∙ f.standing.mail; out = ap (λ (l : List (List ℕ)). h.gone_out + length l) eo ∙ f.standing.out; finished = f.standing.finished };
+  book = f.book;
+  mail = subst (λ (l : List Mailbox). (k : ℕ) → k < length s.book → MailFits s k (at l k)) (sym em) f.mail;
+  outgoing = eo ∙ f.outgoing;
+  gone_out = f.gone_out;
+  finished = f.finished;
+  statements = f.statements;
+  portals = f.portals;
+  closed = f.closed;
+  failed = f.failed;
+  none_given = f.none_given;
+  none_hung_up = f.none_hung_up;
+  none_invented = f.none_invented;
+  in_order = f.in_order;
+}
+
+-- a batch for which there is no room
+pub full : (s : State) (h : Standing) (batch : List RawMessage) (complete : Bool) (back : List RawMessage) → Fits s h → h.finished < h.gone_out →
+    back ≡ batch → received_by (at h.mail h.finished) batch ≡ None → Allows s (call.Deliver batch complete (delivering.Full back))
+full s h batch complete back f open_ same none =
+    let known : h.finished < length s.book = let a = f.standing.out in let q = ap length f.book in omega arith in
+    let some_open : has_open s ≡ true = open-is s h f ∙ grind (arith, nat_tests) in
+    let owner : h.finished ≡ next_owner s = f.finished ∙ sym (owner-counted s f.in_order some_open) in
+    let m = f.mail h.finished known in
+    let r = no-room (at h.mail h.finished) batch none in
+    let here : is_hung_up s h.finished ≡ false = sym m.gone ∙ r.0 in
+    let two : 2 ≤ length (waiting s h.finished) = subst (λ (l : List (List RawMessage)). 2 ≤ length l) (m.waits here) r.1 in
+    (same, some_open, subst (λ (n : ℕ). is_hung_up s n ≡ false) owner here, subst (λ (n : ℕ). 2 ≤ length (waiting s n)) owner two)

@@ -4,11 +4,7 @@ use Rattle.pg_desk.specs.declared.event.Event.{Event}
 use Rattle.pg_hub.specs.Standing.{Standing}
 use Rattle.pg_hub.specs.Fits.{Fits, HubBecomes, moves_one, moves}
 use Rattle.pg_desk.specs.History.{State, after, after_all, IsExact}
-
--- the state after joined lists
-pub after-joined : (s : State) (es fs : List Event) → after_all s (es ++ fs) ≡ after_all (after_all s es) fs
-after-joined s [] fs = refl
-after-joined s (e ∷ es) fs = after-joined (after s e) es fs
+pub use Rattle.pg_desk.specs.Kept.{after-joined}
 
 -- exact lists are joined
 pub exact-joined : (s : State) (es fs : List Event) → IsExact s es → IsExact (after_all s es) fs → IsExact s (es ++ fs)
@@ -16,9 +12,9 @@ exact-joined s [] fs h k = k
 exact-joined s (e ∷ es) fs h k = (h.0, h.1, exact-joined (after s e) es fs h.2 k)
 
 -- whether something moved, in joined lists
-pub moves-joined : (es fs : List Event) (before : Bool) → (moves (es ++ fs) || before) ≡ (moves fs || (moves es || before))
-moves-joined [] fs before = refl
-moves-joined (e ∷ es) fs before = by_first (moves_one e) (moves (es ++ fs)) (moves es) (moves fs) (moves-joined es fs before)
+pub moves-joined : (s : State) (es fs : List Event) (before : Bool) → (moves s (es ++ fs) || before) ≡ (moves (after_all s es) fs || (moves s es || before))
+moves-joined s [] fs before = refl
+moves-joined s (e ∷ es) fs before = by_first (moves_one s e) (moves (after s e) (es ++ fs)) (moves (after s e) es) (moves (after_all (after s e) es) fs) (moves-joined (after s e) es fs before)
   where
     by_last : (c : Bool) → true ≡ (c || true)
     by_last true = refl
@@ -30,7 +26,7 @@ moves-joined (e ∷ es) fs before = by_first (moves_one e) (moves (es ++ fs)) (m
 
 -- no event leaves the hub as it is
 pub stays : (a : Standing) → HubBecomes a [] a
-stays a = record { stands = λ s f. (tt, f); touched = refl }
+stays a = record { stands = λ s f. (tt, f); touched = λ s f. refl }
 
 -- lists of events are joined
 pub joins : (a b c : Standing) (es fs : List Event) → HubBecomes a es b → HubBecomes b fs c → HubBecomes a (es ++ fs) c
@@ -39,7 +35,9 @@ joins a b c es fs h k = record {
       let first = h.stands s f in
       let second = k.stands (after_all s es) first.1 in
       (exact-joined s es fs first.0 second.0, subst (λ (t : State). Fits t c) (sym (after-joined s es fs)) second.1);
-  touched = k.touched ∙ ap (λ (b : Bool). moves fs || b) h.touched ∙ sym (moves-joined es fs a.touched);
+  touched = λ s f.
+      let first = h.stands s f in
+      k.touched (after_all s es) first.1 ∙ ap (λ (b : Bool). moves (after_all s es) fs || b) (h.touched s f) ∙ sym (moves-joined s es fs a.touched);
 }
 
 -- a hub stands for the same states whether something moved or not
@@ -58,5 +56,5 @@ fits-touched s h t f = record {
   none_given = f.none_given;
   none_hung_up = f.none_hung_up;
   none_invented = f.none_invented;
-  all_parts = f.all_parts;
+  in_order = f.in_order;
 }

@@ -2,13 +2,10 @@
 use Rattle.std.specs.Prelude.{◌≡◌, ◌≤◌, ◌<◌, ℕ, List, [], ◌∷◌, length, drop, Bool, true, false, ◌||◌, Ok}
 use Rattle.pg_hub.specs.declared.mailbox.Mailbox.{Mailbox}
 use Rattle.pg_desk.specs.declared.event.Event.{Event}
-use Rattle.pg_desk.specs.declared.event.Event.TheVariants.{Book, Take as TakeEvent, HangUp, NextOut, Deliver as DeliverEvent}
-use Rattle.pg_desk.specs.declared.event.Take.TheVariants.{Batch}
-use Rattle.pg_desk.specs.declared.event.Out.TheVariants.{Part}
-use Rattle.pg_desk.specs.declared.event.Deliver.TheVariants.{Taken}
 use Rattle.pg_hub.specs.Standing.{Standing, IsStanding}
 use Rattle.pg_hub.specs.Mail.{waits, is_gone, at}
-use Rattle.pg_desk.specs.History.{State, wire, finished, given, taken, waiting, is_hung_up, after_all, IsExact}
+use Rattle.pg_desk.specs.Order.{InOrder}
+use Rattle.pg_desk.specs.History.{State, wire, finished, given, taken, waiting, is_hung_up, change_of, is_move, after, after_all, IsExact}
 
 -- a mailbox has what waits, and knows whether its reader hung up
 pub record MailFits (s : State) (k : ℕ) (mailbox : Mailbox) : Type 0 where
@@ -32,28 +29,23 @@ pub record Fits (s : State) (h : Standing) : Type 0 where
   pub none_hung_up : (k : ℕ) → length s.book ≤ k → is_hung_up s k ≡ false
   -- nobody took more than came
   pub none_invented : (k : ℕ) → length (taken k s.takes) ≤ length (given k s.deliveries)
-  -- each request has one part
-  pub all_parts : length (wire s.book) ≡ length s.book
+  -- requests go out and replies come one after another
+  pub in_order : InOrder s
 
--- Something was booked, taken as a batch, hung up, taken out as a part, delivered or discarded.
-abbrev pub moves_one : Event → Bool
-moves_one (Book stamp part copying (Ok id)) = true
-moves_one (TakeEvent id (Ok (Batch messages))) = true
-moves_one (HangUp id (Ok x)) = true
-moves_one (NextOut (Ok (Part part))) = true
-moves_one (DeliverEvent messages complete Taken) = true
-moves_one e = false
+-- the event moves requests, batches or parts
+abbrev pub moves_one : State → Event → Bool
+moves_one s e = is_move s (change_of e)
 
 -- one of the events moves something
-abbrev pub moves : List Event → Bool
-moves [] = false
-moves (e ∷ es) = moves_one e || moves es
+abbrev pub moves : State → List Event → Bool
+moves s [] = false
+moves s (e ∷ es) = moves_one s e || moves (after s e) es
 
 -- From every state that the hub stands for, the events are legal and exact, and lead to a state that it stands for
 -- then. And the hub knows whether they moved something.
 pub record HubBecomes (a : Standing) (es : List Event) (b : Standing) : Type 0 where
   pub stands : (s : State) → Fits s a → IsExact s es × Fits (after_all s es) b
-  pub touched : b.touched ≡ (moves es || a.touched)
+  pub touched : (s : State) → Fits s a → b.touched ≡ (moves s es || a.touched)
 
 -- what is_closed answers
 abbrev pub IsClosedBy : Standing → Bool → Type 0

@@ -90,7 +90,7 @@ impl Hub {
     }
 
     /// Whether, since its last call, something was booked, taken as a batch, taken out as a part,
-    /// delivered, discarded or hung up. A call of `hang_up` counts whatever its request is. It changes
+    /// delivered, discarded or hung up. A call of `hang_up` that changes nothing doesn't count. It changes
     /// nothing else.
     pub fn touched(&mut self) -> bool
         ensures answer { result ≡ self.old.touched }
@@ -116,12 +116,14 @@ fn booking_of(alloc: Global, stamp: Stamp, part: &Bytes) -> Result<Booking, OutO
 
 impl Desk for Hub {
     ghost use Rattle.pg_hub.specs.Fits.{HubBecomes, IsClosedBy};
-    ghost use Rattle.pg_hub.specs.Waiting.{undelivered_of};
+    ghost use Rattle.pg_hub.specs.Waiting.{undelivered_of, parts_of};
     ghost use Rattle.pg_hub.specs.Becomes.{stays, joins};
 
     ghost becomes = { HubBecomes };
 
     ghost undelivered = { undelivered_of };
+
+    ghost waiting_parts = { parts_of };
 
     ghost sure = { true };
 
@@ -181,12 +183,15 @@ impl Desk for Hub {
     }
 
     fn hang_up(&mut self, id: u64) -> Result<(), DeskFault> {
-        self.touched = true;
         let place = id as usize;
-        if place < self.mail.len() {
-            hang_up_at(&mut self.mail, place);
+        if place >= self.mail.len() {
             return Ok(());
         }
+        if is_hung_up_at(&self.mail, place) {
+            return Ok(());
+        }
+        hang_up_at(&mut self.mail, place);
+        self.touched = true;
         Ok(())
     }
 
@@ -224,10 +229,6 @@ impl Desk for Hub {
 }
 
 impl Engine for Hub {
-    ghost use Rattle.pg_hub.specs.Waiting.{parts_of};
-
-    ghost waiting_parts = { parts_of };
-
     fn next_out(&mut self) -> Result<Out, DeskFault> {
         if self.failed {
             return Err(DeskFault::Closed);
@@ -251,6 +252,7 @@ impl Engine for Hub {
     }
 
     fn deliver(&mut self, batch: BackendMessages, complete: bool) -> Deliver {
+        batch.batch_law();
         if self.finished >= self.gone_out {
             return Deliver::NoRequest(batch);
         }

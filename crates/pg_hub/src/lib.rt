@@ -6,8 +6,6 @@ mod hub;
 mod laws;
 mod mailbox;
 mod responses;
-#[cfg(test)]
-mod tests;
 
 pub use hub::Hub;
 pub use laws::every_hub;

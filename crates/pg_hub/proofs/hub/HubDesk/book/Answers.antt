@@ -18,7 +18,7 @@ returns-clause-event c = record {
         ((neither s.closed s.failed (sym g.closed ∙ c.if-self.false) (sym g.failed ∙ c.if-self-2.false), grind (arith, common_steps, g)), tt, tt),
         booked s (standing c.self.inside) c.args.stamp c.args.part c.args.copying _ _ _ g book mail out,
       );
-  touched = refl;
+  touched = λ s f. refl;
 }
 
 pub returns-clause-count : goal.returns-clause-count
