@@ -1,7 +1,7 @@
 -- What is left to do where a command is given up reads nothing.
 use Rattle.std.proofs.Common.{List, [], ◌∷◌}
-use Rattle.pg_query.specs.declared.query.Cleanup.{Cleanup}
-use Rattle.pg_query.specs.declared.query.Cleanup.TheVariants.{Release, Post}
+use Rattle.pg_query.specs.declared.desk_call.Cleanup.{Cleanup}
+use Rattle.pg_query.specs.declared.desk_call.Cleanup.TheVariants.{Release, Post}
 use Rattle.pg_query.specs.Dialogue.{cleaning}
 use Rattle.pg_query.specs.Scripts.{IsRead}
 

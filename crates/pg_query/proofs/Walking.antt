@@ -17,12 +17,12 @@ use Rattle.pg_query.specs.declared.script.Action.TheVariants as act
 use Rattle.pg_query.specs.declared.script.Want.{Want}
 use Rattle.pg_query.specs.Faults.{of_fault}
 use Rattle.pg_desk.specs.declared.event.DeskFault.{DeskFault}
-use Rattle.pg_query.specs.declared.query.Query.{Query}
-use Rattle.pg_query.specs.declared.query.Reply.{Reply}
+use Rattle.pg_query.specs.declared.desk_call.DeskCall.{DeskCall}
+use Rattle.pg_query.specs.declared.desk_call.Reply.{Reply}
 use Rattle.pg_query.specs.Dialogue.{Dialogue, Answer, Ask, Send, Leave, Read, HangUp, Call, Hear, feed, feed_one, after_reply, Told, Steps, Walks}
 use Rattle.pg_query.specs.Scripts.{IsRead, IsLast, Waiting, wanting, GoesOn}
 use Rattle.pg_query.specs.declared.running.Running.{Running}
-use Rattle.pg_query.specs.Meaning.{Place, meaning_at, PullsOne, Goes, GoesToAnswer}
+use Rattle.pg_query.specs.Meaning.{Place, left_by, meaning_at, PullsOne, Goes, GoesToAnswer}
 
 pub feed-answer : {T : Type 0} (ms : List RawMessage) (r : Result T Error) → feed ms (Answer r) ≡ Answer r
 feed-answer [] r = refl
@@ -44,7 +44,7 @@ pub feed-hang-up : {T : Type 0} (ms : List RawMessage) (d : Dialogue T) → feed
 feed-hang-up [] d = refl
 feed-hang-up (m ∷ ms) d = feed-hang-up ms d
 
-feed-call : {T : Type 0} (ms : List RawMessage) (q : Query) (next : Reply → Dialogue T) → feed ms (Call q next) ≡ Call q (λ r. feed ms (next r))
+feed-call : {T : Type 0} (ms : List RawMessage) (q : DeskCall) (next : Reply → Dialogue T) → feed ms (Call q next) ≡ Call q (λ r. feed ms (next r))
 feed-call [] q next = refl
 feed-call (m ∷ ms) q next = feed-call ms q (λ r. feed_one m (next r))
 
@@ -77,7 +77,7 @@ hung-up stamp ms id d = step stamp (feed ms (HangUp d)) (HangUp d) id _ d id (fe
 pub hang-up-refused : {T : Type 0} (stamp : Stamp) (ms : List RawMessage) (id : ℕ) (d : Dialogue T) (e : DeskFault) → Walks stamp (feed ms (HangUp d)) id (call.HangUp id (Err e) ∷ []) (Answer (Err (of_fault e))) id
 hang-up-refused stamp ms id d e = step stamp (feed ms (HangUp d)) (HangUp d) id _ _ id (feed-hang-up ms d) (refl, refl, refl)
 
-pub called : {T : Type 0} (stamp : Stamp) (ms : List RawMessage) (id : ℕ) (q : Query) (next : Reply → Dialogue T) (e : Event) (r : Result Reply DeskFault) → Told q e r →
+pub called : {T : Type 0} (stamp : Stamp) (ms : List RawMessage) (id : ℕ) (q : DeskCall) (next : Reply → Dialogue T) (e : Event) (r : Result Reply DeskFault) → Told q e r →
     Walks stamp (feed ms (Call q next)) id (e ∷ []) (after_reply r (λ x. feed ms (next x))) id
 called stamp ms id q next e r h = step stamp (feed ms (Call q next)) (Call q (λ x. feed ms (next x))) id e _ id (feed-call ms q next) (r, h, refl, refl)
 
@@ -217,15 +217,18 @@ took-over stamp (HangUp d) id s = absurd s
 took-over stamp (Call q next) id s = absurd s
 took-over stamp (Hear next) id s = absurd s
 
-pub took-gone : {T : Type 0} (stamp : Stamp) (d : Dialogue T) (id : ℕ) → IsRead d → Walks stamp d id (call.Take id (Ok taking.Gone) ∷ []) (Answer (Err Closed)) id
-took-gone stamp (Read cleanup decides next) id s = (_, id, (refl, refl, refl), (refl, refl))
-took-gone stamp (Answer r) id s = absurd s
-took-gone stamp (Ask copying part d) id s = absurd s
-took-gone stamp (Send part d) id s = absurd s
-took-gone stamp (Leave i d) id s = absurd s
-took-gone stamp (HangUp d) id s = absurd s
-took-gone stamp (Call q next) id s = absurd s
-took-gone stamp (Hear next) id s = absurd s
+-- a request that is gone is hung up
+pub took-gone : {T : Type 0} (stamp : Stamp) (d : Dialogue T) (id : ℕ) (answer : Result (Unit {0}) DeskFault) → IsRead d →
+    Walks stamp d id (call.Take id (Ok taking.Gone) ∷ call.HangUp id answer ∷ []) (Answer (Err (left_by answer))) id
+took-gone stamp (Read cleanup decides next) id (Ok x) s = (HangUp (Answer (Err Closed)), id, (refl, refl, refl), (Answer (Err Closed), id, (refl, refl, refl), (refl, refl)))
+took-gone stamp (Read cleanup decides next) id (Err e) s = (HangUp (Answer (Err Closed)), id, (refl, refl, refl), (Answer (Err (of_fault e)), id, (refl, refl, refl), (refl, refl)))
+took-gone stamp (Answer r) id answer s = absurd s
+took-gone stamp (Ask copying part d) id answer s = absurd s
+took-gone stamp (Send part d) id answer s = absurd s
+took-gone stamp (Leave i d) id answer s = absurd s
+took-gone stamp (HangUp d) id answer s = absurd s
+took-gone stamp (Call q next) id answer s = absurd s
+took-gone stamp (Hear next) id answer s = absurd s
 
 pub take-refused : {T : Type 0} (stamp : Stamp) (d : Dialogue T) (id : ℕ) (e : DeskFault) → IsRead d → Walks stamp d id (call.Take id (Err e) ∷ []) (Answer (Err (of_fault e))) id
 take-refused stamp (Read cleanup decides next) id e s = (_, id, (refl, refl, refl), (refl, refl))

@@ -9,12 +9,12 @@ use Rattle.pg_desk.specs.declared.event.Event.{Event}
 use Rattle.pg_desk.specs.declared.event.Event.TheVariants as call
 use Rattle.pg_errors.specs.declared.error.Error.{Error}
 use Rattle.pg_errors.specs.declared.error.Error.TheVariants.{Closed}
-use Rattle.pg_query.specs.declared.query.Query.{Query}
-use Rattle.pg_query.specs.declared.query.Query.TheVariants as query
-use Rattle.pg_query.specs.declared.query.Reply.{Reply}
-use Rattle.pg_query.specs.declared.query.Reply.TheVariants as reply
-use Rattle.pg_query.specs.declared.query.Cleanup.{Cleanup}
-use Rattle.pg_query.specs.declared.query.Cleanup.TheVariants.{Release, Post}
+use Rattle.pg_query.specs.declared.desk_call.DeskCall.{DeskCall}
+use Rattle.pg_query.specs.declared.desk_call.DeskCall.TheVariants as desk_call
+use Rattle.pg_query.specs.declared.desk_call.Reply.{Reply}
+use Rattle.pg_query.specs.declared.desk_call.Reply.TheVariants as reply
+use Rattle.pg_query.specs.declared.desk_call.Cleanup.{Cleanup}
+use Rattle.pg_query.specs.declared.desk_call.Cleanup.TheVariants.{Release, Post}
 use Rattle.pg_query.specs.Faults.{of_fault}
 
 -- A command from one moment on. It ends in its answer.
@@ -31,7 +31,7 @@ pub data Dialogue (T : Type 0) : Type 0 where
   -- hangs up the request that is read
   HangUp : Dialogue T → Dialogue T
   -- asks the desk something, and goes on with what it is told
-  Call : Query → (Reply → Dialogue T) → Dialogue T
+  Call : DeskCall → (Reply → Dialogue T) → Dialogue T
   -- stands between a query and its reply; no command writes it
   Hear : (Reply → Dialogue T) → Dialogue T
 
@@ -53,13 +53,13 @@ feed [] d = d
 feed (m ∷ ms) d = feed ms (feed_one m d)
 
 -- what a query is told by an event
-abbrev pub Told : Query → Event → Result Reply DeskFault → Type 0
-Told query.NextStatement (call.NextStatement (Ok n)) r = r ≡ Ok (reply.Number n)
-Told query.NextStatement (call.NextStatement (Err fault.Encode)) r = r ≡ Ok reply.Spent
-Told query.NextStatement (call.NextStatement (Err e)) r = r ≡ Err e
-Told query.NextPortal (call.NextPortal (Ok n)) r = r ≡ Ok (reply.Number n)
-Told query.NextPortal (call.NextPortal (Err fault.Encode)) r = r ≡ Ok reply.Spent
-Told query.NextPortal (call.NextPortal (Err e)) r = r ≡ Err e
+abbrev pub Told : DeskCall → Event → Result Reply DeskFault → Type 0
+Told desk_call.NextStatement (call.NextStatement (Ok n)) r = r ≡ Ok (reply.Number n)
+Told desk_call.NextStatement (call.NextStatement (Err fault.Encode)) r = r ≡ Ok reply.Spent
+Told desk_call.NextStatement (call.NextStatement (Err e)) r = r ≡ Err e
+Told desk_call.NextPortal (call.NextPortal (Ok n)) r = r ≡ Ok (reply.Number n)
+Told desk_call.NextPortal (call.NextPortal (Err fault.Encode)) r = r ≡ Ok reply.Spent
+Told desk_call.NextPortal (call.NextPortal (Err e)) r = r ≡ Err e
 Told _ _ r = ⊥
 
 -- where a reply leads
@@ -67,7 +67,8 @@ abbrev pub after_reply : {T : Type 0} → Result Reply DeskFault → (Reply → 
 after_reply (Ok r) next = next r
 after_reply (Err e) next = Answer (Err (of_fault e))
 
--- By this event a dialogue that reads request `id` goes on as another, which reads `id'`.
+-- By this event a dialogue that reads request `id` goes on as another, which reads `id'`. A reply that is over was read to its
+-- end; a request that is gone wasn't, and is hung up.
 abbrev pub Steps : {T : Type 0} → Stamp → Dialogue T → ℕ → Event → Dialogue T → ℕ → Type 0
 Steps stamp (Ask copying part d) id (call.Book stamp' part' copying' (Ok new)) d' id' =
     (stamp' ≡ stamp) × (part' ≡ part) × (copying' ≡ copying) × (d' ≡ d) × (id' ≡ new)
@@ -83,7 +84,7 @@ Steps stamp (Read cleanup decides next) id (call.Take which (Ok (taking.Batch ms
     (which ≡ id) × (d' ≡ feed ms (Read cleanup decides next)) × (id' ≡ id)
 Steps stamp (Read cleanup decides next) id (call.Take which (Ok taking.Empty)) d' id' = (which ≡ id) × (d' ≡ Read cleanup decides next) × (id' ≡ id)
 Steps stamp (Read cleanup decides next) id (call.Take which (Ok taking.Over)) d' id' = (which ≡ id) × (d' ≡ Answer (Err Closed)) × (id' ≡ id)
-Steps stamp (Read cleanup decides next) id (call.Take which (Ok taking.Gone)) d' id' = (which ≡ id) × (d' ≡ Answer (Err Closed)) × (id' ≡ id)
+Steps stamp (Read cleanup decides next) id (call.Take which (Ok taking.Gone)) d' id' = (which ≡ id) × (d' ≡ HangUp (Answer (Err Closed))) × (id' ≡ id)
 Steps stamp (Read cleanup decides next) id (call.Take which (Err e)) d' id' = (which ≡ id) × (d' ≡ Answer (Err (of_fault e))) × (id' ≡ id)
 Steps stamp (HangUp d) id (call.HangUp which (Ok x)) d' id' = (which ≡ id) × (d' ≡ d) × (id' ≡ id)
 Steps stamp (HangUp d) id (call.HangUp which (Err e)) d' id' = (which ≡ id) × (d' ≡ Answer (Err (of_fault e))) × (id' ≡ id)
@@ -100,23 +101,3 @@ abbrev pub cleaning : List Cleanup → Dialogue (Unit {0})
 cleaning [] = Answer (Ok tt)
 cleaning (Release ∷ cs) = HangUp (cleaning cs)
 cleaning (Post part ∷ cs) = Send part (cleaning cs)
-
--- One dialogue, and another behind its answer. What is left to do at each message of the first is done behind its own.
-abbrev pub behind : {A T : Type 0} → List Cleanup → Dialogue A → (Result A Error → Dialogue T) → Dialogue T
-behind extra (Answer r) f = f r
-behind extra (Ask copying part d) f = Ask copying part (behind extra d f)
-behind extra (Send part d) f = Send part (behind extra d f)
-behind extra (Leave id d) f = Leave id (behind extra d f)
-behind extra (Read cleanup decides next) f = Read (cleanup ++ extra) decides (λ ms. behind extra (next ms) f)
-behind extra (HangUp d) f = HangUp (behind extra d f)
-behind extra (Call q next) f = Call q (λ r. behind extra (next r) f)
-behind extra (Hear next) f = Hear (λ r. behind extra (next r) f)
-
--- the same, where an error is the whole answer
-abbrev pub or_answer : {A T : Type 0} → (A → Dialogue T) → Result A Error → Dialogue T
-or_answer f (Ok x) = f x
-or_answer f (Err e) = Answer (Err e)
-
--- one dialogue, and another behind its value
-abbrev pub then_do : {A T : Type 0} → Dialogue A → (A → Dialogue T) → Dialogue T
-then_do d f = behind [] d (or_answer f)

@@ -5,8 +5,8 @@ use Rattle.pg_wire.specs.declared.message.Message.{Message}
 use Rattle.pg_query.specs.declared.script.Want.{Want}
 use Rattle.pg_query.specs.declared.script.Want.TheVariants as want
 use Rattle.pg_query.specs.declared.script.Action.TheVariants as act
-use Rattle.pg_query.specs.declared.query.Reply.{Reply}
-use Rattle.pg_query.specs.declared.query.Cleanup.{Cleanup}
+use Rattle.pg_query.specs.declared.desk_call.Reply.{Reply}
+use Rattle.pg_query.specs.declared.desk_call.Cleanup.{Cleanup}
 use Rattle.pg_query.specs.Dialogue.{Dialogue, Answer, Ask, Send, Leave, Read, HangUp, Call, Hear}
 
 -- a message is read here

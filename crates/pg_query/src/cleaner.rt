@@ -1,6 +1,6 @@
 //! What is left to do where a command is given up, as a script of its own.
 
-use crate::query::{Cleanup, Reply};
+use crate::desk_call::{Cleanup, Reply};
 use crate::script::{Action, Script, Want};
 use pg_wire::{Message, WireFault};
 use std::alloc::{AllocError, Global};

@@ -1,14 +1,14 @@
 //! The one loop that runs every script.
 
 ghost use Rattle.std.specs.Prelude.{◌≡◌, ◌≤◌, ◌<◌, [], length, MatchResult, MatchOption, IfOk, IfNone};
-ghost use Rattle.pg_query.specs.Meaning.{meaning, meaning_at, Goes, GoesToAnswer, Reads, Waits, MatchPoll, Pulls};
+ghost use Rattle.pg_query.specs.Meaning.{meaning, meaning_at, Goes, GoesToAnswer, Reads, Waits, MatchPoll, Pulls, Leaves};
 ghost use Rattle.pg_query.specs.Scripts.{ReadsAt, HearsAt, IsWanted, heard, GoesOn, Falls};
 ghost use Rattle.pg_query.specs.declared.script.Want.TheVariants.{Act};
 ghost use Rattle.pg_query.specs.declared.script.Action.TheVariants.{Ask, Send, HangUp, Call};
 
 use crate::asking::ask_desk;
+use crate::desk_call::{DeskCall, Reply};
 use crate::fault::{error_of, is_want_of_memory};
-use crate::query::{Query, Reply};
 use crate::script::{Action, Script, Want};
 use bytes::Bytes;
 use futures::task::Poll;
@@ -176,18 +176,18 @@ impl<S: Script> Running<S> {
         alloc: Global,
         desk: &mut D,
         stamp: Stamp,
-        query: Query,
+        desk_call: DeskCall,
     ) -> Result<Want<S::Output>, Error>
         requires { HearsAt S.dialogue S.waits self.old.script }
         ensures goes { MatchResult result
-            (λ want. Goes D.becomes stamp desk.old (meaning_at S.dialogue self.old (Act (Call query))) desk.new (meaning_at S.dialogue self.new want))
-            (λ e. GoesToAnswer D.becomes stamp desk.old (meaning_at S.dialogue self.old (Act (Call query))) desk.new (Err e)) }
+            (λ want. Goes D.becomes stamp desk.old (meaning_at S.dialogue self.old (Act (Call desk_call))) desk.new (meaning_at S.dialogue self.new want))
+            (λ e. GoesToAnswer D.becomes stamp desk.old (meaning_at S.dialogue self.old (Act (Call desk_call))) desk.new (Err e)) }
         ensures wanted { IfOk result (λ want. IsWanted S.dialogue S.waits want self.new.script) }
         ensures falls { IfOk result (λ want. Falls want (S.steps self.old.script) (S.steps self.new.script)) }
         ensures count { D.undelivered desk.new ≤ D.undelivered desk.old }
         ensures batch { length self.new.batch ≤ length self.old.batch }
     {
-        match ask_desk(desk, query) {
+        match ask_desk(desk, desk_call) {
             Ok(reply) => self.reply(alloc, reply),
             Err(fault) => Err(error_of(fault)),
         }
@@ -214,7 +214,7 @@ impl<S: Script> Running<S> {
             Action::Ask(copying, part) => self.ask(alloc, desk, stamp, copying, part),
             Action::Send(part) => self.send(alloc, desk, stamp, part),
             Action::HangUp => self.hang_up_own(alloc, desk, stamp),
-            Action::Call(query) => self.call(alloc, desk, stamp, query),
+            Action::Call(desk_call) => self.call(alloc, desk, stamp, desk_call),
         }
     }
 
@@ -280,6 +280,16 @@ impl<S: Script> Running<S> {
         self.batch = batch;
     }
 
+    /// Hangs up a request of which nothing comes any more, and gives the error that is answered then.
+    fn leave<D: Desk>(&self, desk: &mut D) -> Error
+        ensures { Leaves D.becomes desk.old self.now.id desk.new result }
+    {
+        if let Err(fault) = desk.hang_up(self.id) {
+            return error_of(fault);
+        }
+        Error::Closed
+    }
+
     /// Takes batches and reads them, until the script answers or its mailbox is empty.
     pub(crate) fn go_on<D: Desk>(
         &mut self,
@@ -300,7 +310,7 @@ impl<S: Script> Running<S> {
                 Ok(Take::Batch(batch)) => self.refill(batch),
                 Ok(Take::Empty) => return Poll::Pending,
                 Ok(Take::Over) => return Poll::Ready(Err(Error::Closed)),
-                Ok(Take::Gone) => return Poll::Ready(Err(Error::Closed)),
+                Ok(Take::Gone) => return Poll::Ready(Err(self.leave(desk))),
                 Err(fault) => return Poll::Ready(Err(error_of(fault))),
             }
         }

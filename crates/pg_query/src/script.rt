@@ -6,7 +6,7 @@ ghost use Rattle.pg_query.specs.Dialogue.{Dialogue, feed_one};
 ghost use Rattle.pg_query.specs.Messages.{Means};
 ghost use Rattle.pg_query.specs.Scripts.{Waiting, IsMessage, IsReply, heard, GoesOn, Stops, Falls, cleanup_of};
 
-use crate::query::{Cleanup, Query, Reply};
+use crate::desk_call::{Cleanup, DeskCall, Reply};
 use bytes::Bytes;
 use pg_errors::Error;
 use pg_wire::{Message, WireFault};
@@ -23,7 +23,7 @@ pub enum Action {
     /// Hangs up the request that is read.
     HangUp,
     /// Asks the desk something. The reply comes by `reply`.
-    Call(Query),
+    Call(DeskCall),
 }
 
 /// What a script wants next.

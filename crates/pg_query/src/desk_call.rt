@@ -3,9 +3,9 @@
 
 use bytes::Bytes;
 
-/// A question to the desk.
+/// A call of the desk that asks it something.
 #[derive(Drop)]
-pub enum Query {
+pub enum DeskCall {
     NextStatement,
     NextPortal,
 }
