@@ -1,3 +1,4 @@
 pub mod Telling
 pub mod Asking
 pub mod Life
+pub mod Leaving

@@ -2,7 +2,7 @@
 use Rattle.std.specs.Prelude.{List}
 use Rattle.pg_query.specs.Commands.{place_of, IsLive}
 use Rattle.pg_query.specs.Meaning.{Place}
-use Rattle.pg_query.specs.Ones.{dialogue_of}
+use Rattle.pg_query.specs.SingleRequests.{dialogue_of}
 use Rattle.pg_query.specs.Scripts.{waiting_at}
 use Rattle.pg_query.specs.declared.simple_message.SimpleMessage.{SimpleMessage}
 use Rattle.pg_client.specs.Simple.{reading_of}

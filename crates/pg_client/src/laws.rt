@@ -1,9 +1,10 @@
 //! What the events of a state's whole life say of its answer. Each body does nothing.
 
-ghost use Rattle.std.specs.Prelude.{◌≡◌, ℕ, List, Option, Result};
+ghost use Rattle.std.specs.Prelude.{◌≡◌, ℕ, List, Option, Result, Err};
 ghost use Rattle.pg_spec.specs.Frames.{query_frame};
 ghost use Rattle.pg_errors.specs.declared.error.Error.{Error};
 ghost use Rattle.pg_query.specs.Dialogue.{Answer};
+ghost use Rattle.pg_query.specs.Leaving.{AllOwed, AllLetGo};
 ghost use Rattle.pg_query.specs.Scripts.{IsRead};
 ghost use Rattle.pg_query.specs.Meaning.{Place};
 ghost use Rattle.pg_query.specs.Lives.{Turn, Lives, deeds};
@@ -24,4 +25,12 @@ pub fn simple_query_awaits()
     ensures { (text : List ℕ) (take : Option ℕ) (begin end : Place (List SimpleMessage)) (turns : List Turn) →
         begin.dialogue ≡ simple_query text take → Lives begin turns end → IsRead end.dialogue →
         AwaitsBy take (query_frame text) (deeds turns) }
+{}
+
+/// A simple query that answered anything but want of memory leaves no request open: the one that it booked
+/// was hung up, or its reply was read to the end. Every desk owes `AllOwed`.
+pub fn simple_query_leaves_none()
+    ensures { (text : List ℕ) (take : Option ℕ) (begin end : Place (List SimpleMessage)) (turns : List Turn) (r : Result (List SimpleMessage) Error) →
+        begin.dialogue ≡ simple_query text take → Lives begin turns end → end.dialogue ≡ Answer r →
+        (r ≡ Err Error.OutOfMemory → ⊥) → AllOwed (deeds turns) → AllLetGo (deeds turns) }
 {}

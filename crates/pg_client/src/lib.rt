@@ -5,5 +5,5 @@ mod laws;
 mod simple_query;
 mod simple_reading;
 
-pub use laws::{simple_query_answers, simple_query_awaits};
+pub use laws::{simple_query_answers, simple_query_awaits, simple_query_leaves_none};
 pub use simple_query::SimpleQueryState;

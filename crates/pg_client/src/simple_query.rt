@@ -2,7 +2,7 @@
 
 ghost use Rattle.std.specs.Prelude.{◌≡◌, []};
 ghost use Rattle.pg_query.specs.Scripts.{cleanup_of};
-ghost use Rattle.pg_query.specs.Ones.{dialogue_of};
+ghost use Rattle.pg_query.specs.SingleRequests.{dialogue_of};
 ghost use Rattle.pg_client.specs.Simple.{reading_of, FramesQuery, AsksQuery};
 
 use crate::simple_reading::SimpleReading;
@@ -10,7 +10,7 @@ use bytes::{Bytes, BytesMut};
 use futures::task::Poll;
 use pg_desk::{Desk, Stamp};
 use pg_errors::{Cause, Error};
-use pg_query::{Command, One, Polled, SimpleMessage};
+use pg_query::{Command, Polled, SimpleMessage, SingleRequest};
 use pg_types::List;
 use pg_wire::{FrameFault, query};
 use std::alloc::Global;
@@ -31,7 +31,11 @@ fn query_frame(alloc: Global, text: &str) -> Result<Bytes, Error>
 }
 
 /// The script of a text. Where memory lacks it asks nothing.
-fn script(alloc: Global, text: &str, take: Option<u64>) -> One<SimpleReading, List<SimpleMessage>>
+fn script(
+    alloc: Global,
+    text: &str,
+    take: Option<u64>,
+) -> SingleRequest<SimpleReading, List<SimpleMessage>>
     ensures asks { AsksQuery text.now take (dialogue_of reading_of result) }
     ensures fresh { cleanup_of (dialogue_of reading_of result) ≡ [] }
 {
@@ -39,18 +43,18 @@ fn script(alloc: Global, text: &str, take: Option<u64>) -> One<SimpleReading, Li
     let reading = SimpleReading::new(alloc, take);
     let frame = match query_frame(alloc, text) {
         Ok(frame) => frame,
-        Err(error) => return One::refused(reading, error),
+        Err(error) => return SingleRequest::refused(reading, error),
     };
     if reading.has_enough() {
-        return One::skipping(reading, frame, Ok(List::empty(alloc)));
+        return SingleRequest::skipping(reading, frame, Ok(List::empty(alloc)));
     }
-    One::new(reading, frame, stops)
+    SingleRequest::new(reading, frame, stops)
 }
 
 /// The state of a simple query.
 #[derive(Drop)]
 pub struct SimpleQueryState {
-    command: Command<One<SimpleReading, List<SimpleMessage>>>,
+    command: Command<SingleRequest<SimpleReading, List<SimpleMessage>>>,
 }
 
 impl SimpleQueryState {

@@ -82,10 +82,10 @@ impl SimpleReading {
         ensures seen { IfOk result (λ seen. IsSeen (next_of_complete (state_of self.old) body.now.tag) seen (state_of self.new)) }
     {
         match extract_row_affected(body) {
-            Ok(affected) => match self.add(SimpleMessage::Complete(affected)) {
-                Ok(()) => Ok(Seen::More),
-                Err(_) => Err(AllocError),
-            },
+            Ok(affected) => {
+                self.add(SimpleMessage::Complete(affected))?;
+                Ok(Seen::More)
+            }
             Err(error) => Ok(Seen::Fails(error)),
         }
     }
@@ -97,10 +97,8 @@ impl SimpleReading {
         match column_names(alloc, body) {
             Ok(names) => {
                 self.columns = Some(names.as_slice().len());
-                match self.add(SimpleMessage::Columns(names)) {
-                    Ok(()) => Ok(Seen::More),
-                    Err(_) => Err(AllocError),
-                }
+                self.add(SimpleMessage::Columns(names))?;
+                Ok(Seen::More)
             }
             Err(fault) => match unreadable(fault) {
                 Some(error) => Ok(Seen::Fails(error)),
@@ -121,10 +119,8 @@ impl SimpleReading {
                 if cells.as_slice().len() != columns {
                     return Ok(Seen::Fails(Error::Parse(Cause::FieldCount)));
                 }
-                match self.add(SimpleMessage::Row(cells)) {
-                    Ok(()) => Ok(Seen::More),
-                    Err(_) => Err(AllocError),
-                }
+                self.add(SimpleMessage::Row(cells))?;
+                Ok(Seen::More)
             }
             Err(fault) => match unreadable(fault) {
                 Some(error) => Ok(Seen::Fails(error)),
@@ -140,17 +136,14 @@ impl SimpleReading {
     {
         match message {
             Message::CommandComplete(body) => self.complete(body),
-            Message::EmptyQueryResponse => match self.add(SimpleMessage::Complete(0)) {
-                Ok(()) => Ok(Seen::More),
-                Err(_) => Err(AllocError),
-            },
+            Message::EmptyQueryResponse => {
+                self.add(SimpleMessage::Complete(0))?;
+                Ok(Seen::More)
+            }
             Message::RowDescription(body) => self.describe(alloc, body),
             Message::DataRow(body) => self.row(alloc, body),
             Message::ReadyForQuery(_) => Ok(Seen::Ends),
-            Message::ErrorResponse(body) => match server_error(alloc, body) {
-                Ok(error) => Ok(Seen::Fails(error)),
-                Err(_) => Err(AllocError),
-            },
+            Message::ErrorResponse(body) => Ok(Seen::Fails(server_error(alloc, body)?)),
             _ => Ok(Seen::Fails(Error::UnexpectedMessage)),
         }
     }
