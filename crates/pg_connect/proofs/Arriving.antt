@@ -4,7 +4,7 @@ use Rattle.std.specs.Prelude.{min, max}
 use Rattle.std.specs.List.{list_any}
 use Rattle.std.proofs.lemmas.List.{append-nil}
 use Rattle.pg_spec.specs.Batches.{is_nothing}
-use Rattle.pg_spec.specs.Links.{LinkView, Grew}
+use Rattle.pg_spec.specs.Links.{LinkView, Grew, Rose}
 use Rattle.pg_spec.specs.Messages.{message_of}
 use Rattle.pg_spec.specs.Parameters.{parameter_reports}
 use Rattle.pg_spec.specs.RawMessages.{RawMessage, messages, bytes_left, sync_of, async_of, is_aside}
@@ -46,6 +46,10 @@ no_end s t way = way.at_end ∙ or_false s.at_end
 stirred : {P : Type 0} (b : Bool) → b ≡ true → b ≡ false → P
 stirred b one other = let no : true ≡ false = sym one ∙ other in cc
 
+-- the end wasn't given
+not_there : {P : Type 0} → false ≡ true → P
+not_there never = cc
+
 -- calls that send nothing
 pub reads : (s t : Streams) (before after : LinkView) (got : List ℕ) (read lost : List RawMessage) (over : Bool) (events : List Event) (handed : List RawMessage) →
     s.unread ≡ None → IsUnread t.unread lost →
@@ -56,8 +60,8 @@ pub reads : (s t : Streams) (before after : LinkView) (got : List ℕ) (read los
     t.parameters ≡ keep_all s.parameters (parameter_reports read) →
     SameSent s t → bytes_out_by events ≡ [] → t.given ≡ s.given + length got → t.delivered ≡ risen s.delivered (length (delivered_by events)) →
     t.moved ≡ (s.moved || (moves got [] handed events || over)) → t.at_end ≡ (s.at_end || over) → (t.moved ≡ false → Untouched before after) →
-    Keeps before after → Passes s t before after events handed
-reads s t before after got read lost over events handed all_read unread given taken off left delivered out kept same none count counted moved at_end still link = record {
+    (over ≡ true → Rose before.ends after.ends) → Keeps before after → Passes s t before after events handed
+reads s t before after got read lost over events handed all_read unread given taken off left delivered out kept same none count counted moved at_end still ended link = record {
   got = got;
   sent = [];
   read = read;
@@ -82,6 +86,7 @@ reads s t before after got read lost over events handed all_read unread given ta
   flag = same.ended;
   moved = moved;
   at_end = at_end;
+  ended_there = ended;
   still = still;
   link = link;
 }
@@ -109,16 +114,16 @@ reads_nothing s t before after read still same way moved link =
     reads s t before after [] [] [] false [] [] read (unread_none t.unread same.unread) (grew_same before.given after.given still.bytes.given) still.bytes.taken
     (ap messages (append-nil s.buffer.items ∙ sym same.buffer)) (ap bytes_left (append-nil s.buffer.items ∙ sym same.buffer))
     (append-nil (waiting s.held) ∙ sym same.held) (append-nil (delayed_in s) ∙ sym same.delayed) same.parameters
-    (sent_in s t way) refl (omega (arith, same.given)) (not_risen s.delivered t.delivered same.delivered) (moved ∙ or_false s.moved) (no_end s t way) (λ none. still) link
+    (sent_in s t way) refl (omega (arith, same.given)) (not_risen s.delivered t.delivered same.delivered) (moved ∙ or_false s.moved) (no_end s t way) (λ none. still) not_there link
 
 -- the link gave its end
 pub reads_end : (s t : Streams) (before after : LinkView) → s.unread ≡ None → SameBytes before after → SameRead s t → SameSent s t → t.moved ≡ true →
-    t.at_end ≡ true → Keeps before after → Passes s t before after [] []
-reads_end s t before after read bytes same way moved at_end link =
+    t.at_end ≡ true → Rose before.ends after.ends → Keeps before after → Passes s t before after [] []
+reads_end s t before after read bytes same way moved at_end rose link =
     reads s t before after [] [] [] true [] [] read (unread_none t.unread same.unread) (grew_same before.given after.given bytes.given) bytes.taken
     (ap messages (append-nil s.buffer.items ∙ sym same.buffer)) (ap bytes_left (append-nil s.buffer.items ∙ sym same.buffer))
     (append-nil (waiting s.held) ∙ sym same.held) (append-nil (delayed_in s) ∙ sym same.delayed) same.parameters
-    way refl (omega (arith, same.given)) (not_risen s.delivered t.delivered same.delivered) (moved ∙ or_true s.moved) (at_end ∙ or_true s.at_end) (λ none. stirred t.moved moved none) link
+    way refl (omega (arith, same.given)) (not_risen s.delivered t.delivered same.delivered) (moved ∙ or_true s.moved) (at_end ∙ or_true s.at_end) (λ none. stirred t.moved moved none) (λ is. rose) link
 
 -- a batch came off, and is held
 pub reads_batch : (s t : Streams) (l : LinkView) (batch : List RawMessage) (complete : Bool) → s.unread ≡ None → t.unread ≡ None →
@@ -131,7 +136,7 @@ reads_batch s t l batch complete read unread cut none held delayed parameters gi
     (ap (λ x. x ++ sync_of batch) none ∙ calm_sync batch calm ∙ sym held)
     (ap (λ x. delayed_in s ++ x) (calm_async batch calm) ∙ append-nil (delayed_in s) ∙ sym delayed)
     (parameters ∙ ap (keep_all s.parameters) (sym (calm_reports batch calm)))
-    (sent_in s t way) refl (omega (arith, given)) (not_risen s.delivered t.delivered delivered) (moved ∙ or_false s.moved) (no_end s t way) (λ none. untouched_same l) (keeps_same l)
+    (sent_in s t way) refl (omega (arith, given)) (not_risen s.delivered t.delivered delivered) (moved ∙ or_false s.moved) (no_end s t way) (λ none. untouched_same l) not_there (keeps_same l)
 
 -- a message aside came off, and is kept or handed out
 pub reads_aside : (s t : Streams) (l : LinkView) (raw : RawMessage) (async : List RawMessage) (reports : List (List ℕ × List ℕ)) → s.unread ≡ None → t.unread ≡ None →
@@ -144,7 +149,7 @@ reads_aside s t l raw async reports read unread cuts sorted held none delayed pa
     (ap (λ x. waiting s.held ++ x) sorted.sync ∙ append-nil (waiting s.held) ∙ sym held)
     (ap (λ x. x ++ async_of (raw ∷ [])) none ∙ sorted.async_is ∙ sym (append-nil async) ∙ ap (λ x. async ++ x) (sym (delayed ∙ none)))
     (parameters ∙ ap (keep_all s.parameters) (sym sorted.reports_are))
-    (sent_in s t way) refl (omega (arith, given)) (not_risen s.delivered t.delivered delivered) (moved ∙ ap (λ x. s.moved || x) (or_false (not (is_nothing async)) ∙ or_false (not (is_nothing async) || false))) (no_end s t way) (λ none. untouched_same l) (keeps_same l)
+    (sent_in s t way) refl (omega (arith, given)) (not_risen s.delivered t.delivered delivered) (moved ∙ ap (λ x. s.moved || x) (or_false (not (is_nothing async)) ∙ or_false (not (is_nothing async) || false))) (no_end s t way) (λ none. untouched_same l) not_there (keeps_same l)
 
 -- a message aside came off, and can't be read
 pub reads_lost : (s t : Streams) (l : LinkView) (raw : RawMessage) (message : Message) → s.unread ≡ None → t.unread ≡ Some message →
@@ -157,7 +162,7 @@ reads_lost s t l raw message read unread cuts aside means held delayed parameter
     (grew_same l.given l.given refl) refl
     (ap messages (append-nil s.buffer.items) ∙ cuts.messages) (ap bytes_left (append-nil s.buffer.items) ∙ cuts.left)
     (append-nil (waiting s.held) ∙ sym held) (append-nil (delayed_in s) ∙ sym delayed) parameters
-    (sent_in s t way) refl (omega (arith, given)) (not_risen s.delivered t.delivered delivered) (moved ∙ or_false s.moved) (no_end s t way) (λ none. untouched_same l) (keeps_same l)
+    (sent_in s t way) refl (omega (arith, given)) (not_risen s.delivered t.delivered delivered) (moved ∙ or_false s.moved) (no_end s t way) (λ none. untouched_same l) not_there (keeps_same l)
 
 -- the hub answered to the batch that is held
 pub delivers : (s t : Streams) (l : LinkView) (e : Event) → s.unread ≡ None → t.unread ≡ None → waiting s.held ≡ delivered_in e ++ waiting t.held → bytes_out_in e ≡ [] →
@@ -169,7 +174,7 @@ delivers s t l e read unread held none buffer delayed parameters given delivered
     (append-nil (waiting s.held) ∙ held ∙ ap (λ x. x ++ waiting t.held) (sym (append-nil (delivered_in e))))
     (append-nil (delayed_in s) ∙ sym delayed) parameters (sent_in s t way) (ap (λ x. x ++ []) none) (omega (arith, given))
     (delivered ∙ ap (λ x. risen s.delivered (length x)) (sym (append-nil (delivered_in e))))
-    (moved ∙ ap (λ x. s.moved || x) (or_false (moves_in e) ∙ or_false (moves_in e || false))) (no_end s t way) (λ none. untouched_same l) (keeps_same l)
+    (moved ∙ ap (λ x. s.moved || x) (or_false (moves_in e) ∙ or_false (moves_in e || false))) (no_end s t way) (λ none. untouched_same l) not_there (keeps_same l)
 
 -- the link gave a piece
 pub reads_piece : (s t : Streams) (before after : LinkView) (piece : List ℕ) → s.unread ≡ None → t.unread ≡ None → Grew before.given after.given piece → after.taken ≡ before.taken →
@@ -178,7 +183,7 @@ pub reads_piece : (s t : Streams) (before after : LinkView) (piece : List ℕ) �
 reads_piece s t before after piece read unread given taken buffer held delayed parameters count delivered way some moved link =
     reads s t before after piece [] [] false [] [] read (unread_none t.unread unread) given taken (ap messages (sym buffer)) (ap bytes_left (sym buffer))
     (append-nil (waiting s.held) ∙ sym held) (append-nil (delayed_in s) ∙ sym delayed) parameters (sent_in s t way) refl count (not_risen s.delivered t.delivered delivered)
-    (moved ∙ or_true s.moved ∙ ap (λ x. s.moved || (((not x || false) || (false || false)) || false)) (sym some)) (no_end s t way) (λ none. stirred t.moved moved none) link
+    (moved ∙ or_true s.moved ∙ ap (λ x. s.moved || (((not x || false) || (false || false)) || false)) (sym some)) (no_end s t way) (λ none. stirred t.moved moved none) not_there link
 
 -- a notice that was delayed is handed out
 pub reads_delayed : (s t : Streams) (l : LinkView) (raw : RawMessage) → s.unread ≡ None → t.unread ≡ None → t.buffer.items ≡ s.buffer.items → waiting t.held ≡ waiting s.held →
@@ -188,4 +193,4 @@ reads_delayed s t l raw read unread buffer held delayed parameters given deliver
     reads s t l l [] [] [] false [] (raw ∷ []) read (unread_none t.unread unread) (grew_same l.given l.given refl) refl
     (ap messages (append-nil s.buffer.items ∙ sym buffer)) (ap bytes_left (append-nil s.buffer.items ∙ sym buffer))
     (append-nil (waiting s.held) ∙ sym held) (append-nil (delayed_in s) ∙ delayed) parameters (sent_in s t way) refl (omega (arith, given)) (not_risen s.delivered t.delivered delivered)
-    (moved ∙ or_true s.moved) (no_end s t way) (λ none. untouched_same l) (keeps_same l)
+    (moved ∙ or_true s.moved) (no_end s t way) (λ none. untouched_same l) not_there (keeps_same l)

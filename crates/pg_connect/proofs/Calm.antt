@@ -17,3 +17,6 @@ calm_call a b moved keeps promise = record { steady = keeps.steady; no_lull = pr
 -- and one behind others
 pub calm_more : (a b c : LinkView) (moved : Bool) → StaysCalm a b → Keeps b c → KeepsPromise b c moved → StaysCalm a c
 calm_more a b c moved h keeps promise = calm_then a b c h (calm_call b c moved keeps promise)
+
+-- for the calls of a function, one behind the other
+pub ruleset no_lulls = (calm_then, calm_call, calm_more, calm_same)

@@ -9,18 +9,6 @@ use Rattle.pg_connect.specs.Passed.{delivered_by}
 use Rattle.pg_connect.specs.Passes.{Passes, OnlySends, waiting, notice_of, delayed_in}
 use Rattle.pg_connect.specs.Reads.{IsCleared}
 
-no_length : {X : Type 0} (xs : List X) → length xs ≡ 0 → xs ≡ []
-no_length [] e = refl
-no_length (x ∷ xs) e = absurd (omega (arith, e))
-
-first_none : {X : Type 0} (xs ys : List X) → xs ++ ys ≡ [] → xs ≡ []
-first_none [] ys e = refl
-first_none (x ∷ xs) ys e = absurd cc
-
-last_none : {X : Type 0} (xs ys : List X) → xs ++ ys ≡ [] → ys ≡ []
-last_none [] ys e = e
-last_none (x ∷ xs) ys e = absurd cc
-
 -- by its fields
 pub cleared_by : (s : Streams) → s.held ≡ None → s.delayed.items ≡ [] → s.unread ≡ None → IsCleared s
 cleared_by s held delayed unread = record {
@@ -29,17 +17,10 @@ cleared_by s held delayed unread = record {
   unread = unread;
 }
 
--- where nothing lay there and no whole message is buffered, nothing lies there behind a step that only sends
-pub still_cleared : (s t : Streams) (l m : LinkView) (es : List Event) (hs : List RawMessage) → Passes s t l m es hs → OnlySends s t l m →
-    messages s.buffer.items ≡ [] → IsCleared s → IsCleared t
-still_cleared s t l m es hs p only decoded was =
-    let got : p.got ≡ [] = no_length p.got (omega (arith, p.count, only.count)) in
-    let all : messages (s.buffer.items ++ p.got) ≡ [] = ap (λ (x : List ℕ). messages (s.buffer.items ++ x)) got ∙ ap messages (append-nil s.buffer.items) ∙ decoded in
-    let read : p.read ≡ [] = first_none p.read (p.lost ++ messages t.buffer.items) (sym p.came_off ∙ all) in
-    let held : delivered_by es ++ waiting t.held ≡ [] = sym p.delivered ∙ ap (λ (x : List RawMessage). x ++ sync_of p.read) was.held ∙ ap sync_of read in
-    let late : hs ++ delayed_in t ≡ [] = sym p.handed_out ∙ ap (λ (x : List RawMessage). x ++ async_of p.read) was.delayed ∙ ap async_of read in
-    record {
-      held = last_none (delivered_by es) (waiting t.held) held;
-      delayed = last_none hs (delayed_in t) late;
-      unread = only.unread ∙ was.unread;
-    }
+-- where nothing lay there, nothing lies there behind a step that only sends
+pub still_cleared : (s t : Streams) (l m : LinkView) → OnlySends s t l m → IsCleared s → IsCleared t
+still_cleared s t l m only was = record {
+  held = ap waiting only.held ∙ was.held;
+  delayed = only.delayed ∙ was.delayed;
+  unread = only.unread ∙ was.unread;
+}

@@ -12,7 +12,7 @@ use Rattle.pg_connect.specs.declared.streams.Held.{Held}
 use Rattle.pg_connect.specs.declared.streams.Streams.{Streams}
 use Rattle.pg_connect.specs.Passed.{delivered_in, bytes_out_in, moves_in}
 use Rattle.pg_connect.specs.Passes.{Passes, waiting, risen}
-use Rattle.pg_connect.specs.Reads.{IsUnasked, DeliverEnds, has_no_request}
+use Rattle.pg_connect.specs.Reads.{IsUnasked, DeliverEnds, GivesBack, has_no_request}
 use Rattle.pg_connect.proofs.Sends.{or_false, or_true}
 use Rattle.pg_connect.proofs.Arriving.{delivers}
 
@@ -41,8 +41,8 @@ delivered_back s held t l e back read none no_part still was holds is =
 
 -- no request is open for it
 pub unasked_back : (t : Streams) (batch : List RawMessage) (f : ConnectionFault) (e : Event) → has_no_request e ≡ true → waiting t.held ≡ batch → IsUnasked batch f →
-    DeliverEnds t (Err f) (e ∷ [])
-unasked_back t batch (fault.Unasked error) e is holds means = (is, subst (λ (x : List RawMessage). IsUnasked x (fault.Unasked error)) (sym holds) means)
-unasked_back t batch fault.OutOfMemory e is holds means = tt
-unasked_back t [] _ e is holds means = absurd means
-unasked_back t (m ∷ batch) _ e is holds means = absurd means
+    GivesBack (waiting t.held) e → DeliverEnds t (Err f) (e ∷ [])
+unasked_back t batch (fault.Unasked error) e is holds means back = (is, subst (λ (x : List RawMessage). IsUnasked x (fault.Unasked error)) (sym holds) means, back)
+unasked_back t batch fault.OutOfMemory e is holds means back = tt
+unasked_back t [] _ e is holds means back = absurd means
+unasked_back t (m ∷ batch) _ e is holds means back = absurd means

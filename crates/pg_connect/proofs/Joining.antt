@@ -13,6 +13,7 @@ use Rattle.pg_spec.specs.Parameters.{parameter_reports}
 use Rattle.pg_spec.specs.RawMessages.{RawMessage, messages, bytes_left, sync_of, async_of}
 use Rattle.pg_spec.proofs.MessageLaws.{messages-append, bytes_left-append}
 use Rattle.pg_wire.specs.LinkCalls.{Keeps}
+use Rattle.pg_wire.proofs.KeepLaws.{keeps-same, keeps-then}
 use Rattle.pg_wire.specs.declared.message.Message.{Message}
 use Rattle.pg_desk.specs.declared.event.DeskFault.{DeskFault}
 use Rattle.pg_desk.specs.declared.event.DeskFault.TheVariants as desk
@@ -47,27 +48,10 @@ bytes_out_by-append (e ∷ es) fs = ap (λ x. bytes_out_in e ++ x) (bytes_out_by
 -- ---- the link
 
 pub keeps_same : (l : LinkView) → Keeps l l
-keeps_same l = record {
-  counts = record { faults = omega arith; quiet = omega arith; dry = omega arith; blocked = omega arith; lulls = omega arith; ends = omega arith };
-  plan = refl;
-  steady = λ x. x;
-  in_plan = λ x. x;
-}
+keeps_same l = keeps-same l
 
 pub keeps_then : (a b c : LinkView) → Keeps a b → Keeps b c → Keeps a c
-keeps_then a b c k m = record {
-  counts = record {
-    faults = omega (arith, k.counts.faults, m.counts.faults);
-    quiet = omega (arith, k.counts.quiet, m.counts.quiet);
-    dry = omega (arith, k.counts.dry, m.counts.dry);
-    blocked = omega (arith, k.counts.blocked, m.counts.blocked);
-    lulls = omega (arith, k.counts.lulls, m.counts.lulls);
-    ends = omega (arith, k.counts.ends, m.counts.ends);
-  };
-  plan = m.plan ∙ k.plan;
-  steady = λ x. m.steady (k.steady x);
-  in_plan = λ x. m.in_plan (k.in_plan x);
-}
+keeps_then a b c first then = keeps-then a b c first then
 
 pub untouched_same : (l : LinkView) → Untouched l l
 untouched_same l = record { bytes = record { given = refl; taken = refl; due = refl }; promised = refl }
@@ -103,6 +87,11 @@ rose_later a b c up rose = omega arith
 
 pub rose_before : (a b c : ℕ) → Rose a b → b ≤ c → Rose a c
 rose_before a b c rose up = omega arith
+
+-- the end was given in the first calls or in the others
+ends_then : (o p : Bool) (a b c : ℕ) → (o ≡ true → Rose a b) → (p ≡ true → Rose b c) → a ≤ b → b ≤ c → (o || p) ≡ true → Rose a c
+ends_then true p a b c first then up more is = rose_before a b c (first refl) more
+ends_then false p a b c first then up more is = rose_later a b c up (then is)
 
 -- ---- messages and bytes
 
@@ -245,9 +234,16 @@ passes-joined a b c l m n es fs hs js p q = record {
   moved = moved_then a.moved b.moved c.moved (moves p.got p.sent hs es) p.over (moves q.got q.sent js fs) q.over _ p.moved q.moved
       (moves-append p.got q.got p.sent q.sent hs js es fs);
   at_end = ended_then a.at_end b.at_end c.at_end p.over q.over p.at_end q.at_end;
+  ended_there = λ is. ends_then p.over q.over l.ends m.ends n.ends p.ended_there q.ended_there p.link.counts.ends q.link.counts.ends is;
   still = λ none. untouched_then l m n (p.still (unmoved_before b.moved c.moved _ q.moved none)) (q.still none);
   link = keeps_then l m n p.link q.link;
 }
+
+-- what was given in both
+pub joined-got : (a b c : Streams) (l m n : LinkView) (es fs : List Event) (hs js : List RawMessage) (p : Passes a b l m es hs) (q : Passes b c m n fs js) →
+    (passes-joined a b c l m n es fs hs js p q).got ≡ p.got ++ q.got
+unfolding passes-joined
+joined-got a b c l m n es fs hs js p q = refl
 
 -- ---- with the events of the hub
 

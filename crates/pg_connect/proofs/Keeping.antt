@@ -1,5 +1,9 @@
 -- What the store of parameters keeps.
-use Rattle.std.proofs.Common.{◌≡◌, ℕ, Bool, true, false, if◌then◌else◌, List, [], ◌∷◌, map, Option, Some, option_map, refl, sym, ap, ◌∙◌}
+use Rattle.std.proofs.Common.{◌≡◌, ℕ, Bool, true, false, if◌then◌else◌, List, [], ◌∷◌, map, Option, Some, option_map, Result, Ok, Err, refl, sym, ap, subst, ◌∙◌}
+use Rattle.std.specs.Prelude.{OnOk}
+use Rattle.std.specs.Result.{OnErr}
+use Rattle.pg_spec.specs.Parameters.{NamesRise}
+use Rattle.pg_connect.proofs.LastValues.{rise-insert}
 use Rattle.std.specs.Map.{lookup}
 use Rattle.std.specs.Ordering.{nat_cmp, match_ordering}
 use Rattle.std.specs.declared.cmp.Ordering.{Ordering}
@@ -36,3 +40,11 @@ lookup-map {K} {V} f g test (e ∷ es) =
     chosen : (b : Bool) (v : V) (o : Option V) → (if b then Some (g v) else option_map g o) ≡ option_map g (if b then Some v else o)
     chosen true v o = refl
     chosen false v o = refl
+
+-- a report that was kept, or couldn't be for want of memory, leaves names that rise
+pub rises : {K V A E : Type 0} (cmp : K → K → Ordering) (f : K → List ℕ) (g : V → List ℕ) → ((a b : K) → cmp a b ≡ slice_cmp nat_cmp (f a) (f b)) → (r : Result A E) (new old : List (K × V)) (k : K) (v : V) →
+    OnOk r (new ≡ insert_entry cmp old k v) → OnErr r (new ≡ old) → NamesRise (map (λ e. (f e.0, g e.1)) old) → NamesRise (map (λ e. (f e.0, g e.1)) new)
+rises {K} {V} {A} {E} cmp f g same (Ok x) new old k v kept lacked was =
+    subst NamesRise (sym (ap (λ (es : List (K × V)). map (λ e. (f e.0, g e.1)) es) kept ∙ map-insert_entry cmp f g same old k v))
+    (rise-insert (map (λ e. (f e.0, g e.1)) old) (f k) (g v) was)
+rises {K} {V} {A} {E} cmp f g same (Err e) new old k v kept lacked was = subst (λ (es : List (K × V)). NamesRise (map (λ e. (f e.0, g e.1)) es)) (sym lacked) was

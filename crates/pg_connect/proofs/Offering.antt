@@ -8,21 +8,25 @@ use Rattle.pg_connect.specs.StartupPolls.{Sends}
 use Rattle.pg_connect.proofs.Joining.{keeps_same, keeps_then, grew_same, grew_then, untouched_same, untouched_then}
 
 -- a call of the link that took nothing
-pub sends-none : (s : Startup) (a b : LinkView) → Untouched a b → Keeps a b → Sends s s a b
-sends-none s a b same keeps = record {
+pub sends-none : (s : Startup) (a b : LinkView) → Untouched a b → b.flushed ≡ a.flushed → Keeps a b → Sends s s a b
+sends-none s a b same flushed keeps = record {
   sent = [];
   taken = grew_same a.taken b.taken same.bytes.taken;
   given = same.bytes.given;
   out = refl;
   same = refl;
   link = keeps;
-  flushes = λ h. inl h;
+  flushed = λ was is. let before = was is in (before.0, flushed ∙ before.1);
+  flag = λ is. is;
   still = λ none. (none, same);
   stirs = λ moved. inl moved;
 }
 
 pub sends-nothing : (s : Startup) (a : LinkView) → Sends s s a a
-sends-nothing s a = sends-none s a a (untouched_same a) (keeps_same a)
+sends-nothing s a = sends-none s a a (untouched_same a) refl (keeps_same a)
+
+nothing-left : (unsent : List ℕ) (n : ℕ) → 1 ≤ n → n ≤ length unsent → unsent ≡ [] → ⊥
+nothing-left unsent n some fits none = omega (arith, some, fits, ap (λ (l : List ℕ). length l) none)
 
 -- one call that took a piece
 pub sends-piece : (s : Startup) (a b : LinkView) (n : ℕ) → Takes a b s.unsent n → Keeps a b → Sends s (record s { unsent = drop n s.unsent; moved = true }) a b
@@ -33,21 +37,11 @@ sends-piece s a b n takes keeps = record {
   out = sym (take-append-drop n s.unsent);
   same = refl;
   link = keeps;
-  flushes = λ h. inl h;
+  flushed = λ was is. absurd (nothing-left s.unsent n takes.some takes.fits (was is).0);
+  flag = λ is. is;
   still = λ none. absurd cc;
   stirs = λ moved. inr (omega (arith, takes.some, takes.fits, length-drop n s.unsent));
 }
-
-by_flag : (s t u : Startup) → u.flushed ≡ true → (u.flushed ≡ true → (t.flushed ≡ true) ⊎ (u.unsent ≡ [])) → (t.flushed ≡ true → (s.flushed ≡ true) ⊎ (t.unsent ≡ [])) →
-    (t.unsent ≡ [] → u.unsent ≡ []) → (s.flushed ≡ true) ⊎ (u.unsent ≡ [])
-by_flag s t u h f g none = elim (f h) [
-  | inl t_is ↦ elim (g t_is) [ inl s_is ↦ inl s_is | inr empty ↦ inr (none empty) ]
-  | inr empty ↦ inr empty
-]
-
-rest-none : (xs ys : List ℕ) → xs ++ ys ≡ [] → ys ≡ []
-rest-none [] ys e = e
-rest-none (x ∷ xs) ys e = absurd cc
 
 shorter : (sent old new : List ℕ) → old ≡ sent ++ new → length new ≤ length old
 shorter sent old new is = let e = ap (λ (l : List ℕ). length l) is in omega (arith, e, length-append sent new)
@@ -61,7 +55,8 @@ sends-then s t u a b c first then = record {
   out = first.out ∙ ap (λ (l : List ℕ). first.sent ++ l) then.out ∙ sym (append_assoc first.sent then.sent u.unsent);
   same = then.same ∙ ap (λ (x : Startup). record x { unsent = u.unsent; flushed = u.flushed; moved = u.moved }) first.same;
   link = keeps_then a b c first.link then.link;
-  flushes = λ h. by_flag s t u h then.flushes first.flushes (λ empty. rest-none then.sent u.unsent (sym then.out ∙ empty));
+  flushed = λ was. then.flushed (first.flushed was);
+  flag = λ is. then.flag (first.flag is);
   still = λ none.
       let later = then.still none in
       let before = first.still later.0 in

@@ -1,5 +1,5 @@
 -- Where a startup stands behind each step of a poll.
-use Rattle.std.proofs.Common.{◌≡◌, ◌≢◌, ℕ, ◌+◌, ◌<◌, ◌≤◌, false, List, [], ◌∷◌, ◌++◌, length, Ok, Err, append-nil, append_assoc, length-append, arith, sym, ◌∙◌, ap, subst}
+use Rattle.std.proofs.Common.{◌≡◌, ◌≢◌, ◌⊎◌, inl, inr, ℕ, ◌+◌, ◌<◌, ◌≤◌, true, false, List, [], ◌∷◌, ◌++◌, length, Ok, Err, append-nil, append_assoc, length-append, arith, sym, ◌∙◌, ap, subst}
 use Rattle.pg_spec.specs.Links.{LinkView, Grew}
 use Rattle.pg_spec.specs.RawMessages.{RawMessage, messages, bytes_left, has_bad_header}
 use Rattle.pg_spec.proofs.MessageLaws.{messages-append, bytes_left-append}
@@ -26,13 +26,15 @@ opening-sends name nonce begin a b s t o sends = record {
   out = append_assoc o.sent sends.sent t.unsent ∙ ap (λ (l : List ℕ). o.sent ++ l) (sym sends.out) ∙ o.out ∙ sym (ap (λ (x : Startup). x.opening.items) sends.same);
   frame = o.frame ∙ ap (λ (l : List ℕ). Ok l) (sym (ap (λ (x : Startup). x.opening.items) sends.same));
   leads = subst (λ (x : Startup). Leads name nonce o.read (phase_of x.phase)) (sym sends.same) o.leads;
+  flushed = sends.flushed o.flushed;
+  behind = elim o.behind [ inl none ↦ inl none | inr is ↦ inr (sends.flag is) ];
   count = ap (λ (x : Startup). x.given) sends.same ∙ o.count;
   link = keeps_then begin a b o.link sends.link;
 }
 
 -- a piece came
-pub opening-reads : (name nonce : List ℕ) (begin a b : LinkView) (s t : Startup) → Opening name nonce begin a s → Reads s t a b → Opening name nonce begin b t
-opening-reads name nonce begin a b s t o reads = record {
+pub opening-reads : (name nonce : List ℕ) (begin a b : LinkView) (s t : Startup) → Opening name nonce begin a s → s.flushed ≡ true → Reads s t a b → Opening name nonce begin b t
+opening-reads name nonce begin a b s t o passed reads = record {
   got = o.got ++ reads.got;
   sent = o.sent;
   read = o.read;
@@ -49,6 +51,8 @@ opening-reads name nonce begin a b s t o reads = record {
   out = ap (λ (x : Startup). o.sent ++ x.unsent) reads.same ∙ o.out ∙ sym (ap (λ (x : Startup). x.opening.items) reads.same);
   frame = o.frame ∙ ap (λ (l : List ℕ). Ok l) (sym (ap (λ (x : Startup). x.opening.items) reads.same));
   leads = subst (λ (x : Startup). Leads name nonce o.read (phase_of x.phase)) (sym reads.same) o.leads;
+  flushed = λ is. (ap (λ (x : Startup). x.unsent) reads.same ∙ (o.flushed passed).0, reads.flushed ∙ (o.flushed passed).1);
+  behind = inr (ap (λ (x : Startup). x.flushed) reads.same ∙ passed);
   count = reads.count ∙ ap (λ (n : ℕ). n + length reads.got) o.count ∙ sym (length-append o.got reads.got);
   link = keeps_then begin a b o.link reads.link;
 }
@@ -69,15 +73,19 @@ opening-heard name nonce begin a s t o same h = record {
   out = ap (λ (x : Startup). o.sent ++ x.unsent) same ∙ o.out ∙ sym (ap (λ (x : Startup). x.opening.items) same);
   frame = o.frame ∙ ap (λ (l : List ℕ). Ok l) (sym (ap (λ (x : Startup). x.opening.items) same));
   leads = h.leads;
+  flushed = λ is.
+      let was = o.flushed (sym (ap (λ (x : Startup). x.flushed) same) ∙ is) in
+      (ap (λ (x : Startup). x.unsent) same ∙ was.0, was.1);
+  behind = elim o.behind [ inl none ↦ inl none | inr is ↦ inr (ap (λ (x : Startup). x.flushed) same ∙ is) ];
   count = ap (λ (x : Startup). x.given) same ∙ o.count;
   link = o.link;
 }
 
 -- ReadyForQuery was heard
 pub opening-done : (name nonce : List ℕ) (begin a : LinkView) (s t : Startup) → (o : Opening name nonce begin a s) →
-    t ≡ record s { phase = t.phase; buffer = t.buffer } → s.unsent ≡ [] → s.given ≤ s.max_bytes →
+    t ≡ record s { phase = t.phase; buffer = t.buffer } → s.unsent ≡ [] → s.flushed ≡ true → s.given ≤ s.max_bytes →
     HearsAll name nonce o.read s.buffer.items t.buffer.items t.phase (Ok heard.Done) → Opened name nonce begin a t
-opening-done name nonce begin a s t o same sent within h =
+opening-done name nonce begin a s t o same sent passed within h =
     let whole : o.sent ≡ t.opening.items = sym (append-nil o.sent) ∙ ap (λ (l : List ℕ). o.sent ++ l) (sym sent) ∙ o.out ∙ sym (ap (λ (x : Startup). x.opening.items) same) in
     record {
       got = o.got;
@@ -89,6 +97,7 @@ opening-done name nonce begin a s t o same sent within h =
         left = o.came.left ∙ sym h.0;
       };
       frame = o.frame ∙ ap (λ (l : List ℕ). Ok l) (sym (ap (λ (x : Startup). x.opening.items) same));
+      flushed = (o.flushed passed).1;
       done = h.1.2;
       count = ap (λ (x : Startup). x.given) same ∙ o.count;
       within = subst (λ (x : Startup). x.given ≤ x.max_bytes) (sym same) within;
@@ -104,6 +113,12 @@ opening-failed name nonce begin a s t e o same fails within = record {
   given = o.given;
   taken = o.taken;
   front = (s.unsent, o.out ∙ sym same);
+  behind = elim o.behind [
+    | inl none ↦ inl none
+    | inr is ↦
+        let was = o.flushed is in
+        inr (sym (append-nil o.sent) ∙ ap (λ (l : List ℕ). o.sent ++ l) (sym was.0) ∙ o.out ∙ sym same, was.1)
+  ];
   frame = o.frame ∙ ap (λ (l : List ℕ). Ok l) (sym same);
   link = o.link;
   fails = fails;
@@ -160,7 +175,7 @@ piece-fails name nonce begin a b s t (error.Io cause.Ended) o keeps whole header
       subst (λ (l : List ℕ). l ≢ []) (sym left) (not_none t.buffer.items was.1),
       ap has_bad_header (left ∙ was.2) ∙ header,
     )
-piece-fails name nonce begin a b s t (error.LimitReached given limit) o keeps whole header was = (was.0 ∙ o.count, was.1, was.2)
+piece-fails name nonce begin a b s t (error.LimitReached given limit) o keeps whole header was = (was.0 ∙ o.count, was.1, was.2, was.3)
 piece-fails name nonce begin a b s t error.OutOfMemory o keeps whole header was = tt
 piece-fails name nonce begin a b s t _ o keeps whole header was = absurd was
 
@@ -176,6 +191,8 @@ opening-again name nonce begin a s o = record {
   out = o.out;
   frame = o.frame;
   leads = o.leads;
+  flushed = o.flushed;
+  behind = o.behind;
   count = o.count;
   link = o.link;
 }

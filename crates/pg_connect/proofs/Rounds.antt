@@ -1,5 +1,5 @@
 -- A read step and then the write and flush steps, as one turn.
-use Rattle.std.proofs.Common.{◌≡◌, ℕ, ◌≤◌, Bool, true, false, not, ◌||◌, List, [], ◌∷◌, ◌++◌, Option, None, Result, Ok, Err, refl, sym, ap, subst, ◌∙◌, arith, inl, inr, ◌⊎◌}
+use Rattle.std.proofs.Common.{◌≡◌, ℕ, ◌≤◌, Bool, true, false, IsTrue, not, ◌||◌, List, [], ◌∷◌, ◌++◌, Option, None, Result, Ok, Err, refl, sym, ap, subst, ◌∙◌, arith, inl, inr, ◌⊎◌}
 use Rattle.std.specs.Prelude.{IfSome, OnOk}
 use Rattle.std.proofs.lemmas.List.{append-nil}
 use Rattle.pg_spec.specs.Links.{LinkView, Plan, Rose, due_by}
@@ -19,14 +19,16 @@ use Rattle.pg_connect.specs.declared.ends.TurnEnd.{TurnEnd}
 use Rattle.pg_connect.specs.declared.ends.TurnEnd.TheVariants as turn
 use Rattle.pg_connect.specs.declared.ends.WriteEnd.{WriteEnd}
 use Rattle.pg_connect.specs.declared.ends.WriteEnd.TheVariants as writes
+use Rattle.pg_connect.specs.declared.streams.Held.{Held}
 use Rattle.pg_connect.specs.declared.streams.Streams.{Streams}
-use Rattle.pg_connect.specs.Passes.{Passes, Goes, Hands, OnlyReads, OnlySends, Untouched}
-use Rattle.pg_connect.specs.Ends.{WasBlocked, last_is, has_no_more, Closes, Written, WriteEnds}
-use Rattle.pg_connect.specs.Reads.{ReadEnds, NothingDue, WasDry, AllDecoded, IsCleared, EndsInside, Carries, HandedBy, is_full}
-use Rattle.pg_connect.specs.Polls.{ClosesThen, FlushEnds, SendEnds, SendWaits, Sends, StopsWriting, TurnEnds, TurnFails, ClosesBy, Turns, HandedTurn, Waits, ReadDry, BeganToClose, NothingDueBefore, some_is}
+use Rattle.pg_connect.specs.Passes.{Passes, Goes, Hands, OnlyReads, OnlySends, Untouched, waiting}
+use Rattle.pg_connect.specs.Ends.{WasBlocked, last_is, some_is, has_no_more, Closes, Written, WriteEnds}
+use Rattle.pg_connect.specs.Reads.{EndsAt, Paced, ReadsOn, ReadStops, StopsAt, ReadEnds, LastGivesBack, NothingDue, WasDry, AllDecoded, IsCleared, EndsInside, Carries, HandedBy, is_full}
+use Rattle.pg_connect.specs.Polls.{SomeGivesBack, TurnStops, ClosesThen, FlushEnds, SendEnds, SendWaits, Sends, StopsWriting, TurnEnds, TurnFails, ClosesBy, Turns, HandedTurn, Waits, ReadDry, BeganToClose, NothingDueBefore}
 use Rattle.pg_connect.proofs.Clearing.{still_cleared}
-use Rattle.pg_connect.proofs.Joining.{calls-then, passes-joined, goes-also, rose_later, rose_before, blocked_later, unmoved_before}
+use Rattle.pg_connect.proofs.Joining.{calls-then, joined-got, passes-joined, goes-also, rose_later, rose_before, blocked_later, unmoved_before}
 use Rattle.pg_connect.proofs.Sends.{passes_nothing}
+use Rattle.pg_connect.proofs.Pacing.{paced_later, paced_none, no_more, handed-as}
 use Rattle.pg_connect.proofs.Parts.{Joins}
 use Rattle.pg_connect.proofs.Passing.{last_behind, decoded_same, untouched_first}
 
@@ -62,12 +64,14 @@ not_both b one other = let e : true ≡ false = sym one ∙ other in cc
 pub flush_done : (t : Streams) (l m n : LinkView) (f : FlushEnd) (es : List Event) → f ≡ flushing.Flushed → FlushEnds t.closing m n (Ok f) →
     WriteEnds t l m (Ok writes.AllTaken) es → SendEnds t l n (Ok sending.Waits) es
 flush_done t l m n f es is ends was =
-    let active : t.closing ≡ false = subst (λ (x : FlushEnd). FlushEnds t.closing m n (Ok x)) is ends in
-    record { writing = inr (was.0, was.1 active); closing = λ x. absurd (not_both t.closing x active) }
+    let done : (t.closing ≡ false) × IsTrue n.flushed = subst (λ (x : FlushEnd). FlushEnds t.closing m n (Ok x)) is ends in
+    record { writing = inr (was.0, was.1 done.0, done.1); closing = λ x. absurd (not_both t.closing x done.0) }
 
 pub flush_over : (t : Streams) (l m n : LinkView) (f : FlushEnd) (es : List Event) → f ≡ flushing.ShutDown → FlushEnds t.closing m n (Ok f) →
     WriteEnds t l m (Ok writes.AllTaken) es → SendEnds t l n (Ok sending.Over) es
-flush_over t l m n f es is ends was = (subst (λ (x : FlushEnd). FlushEnds t.closing m n (Ok x)) is ends, was.0)
+flush_over t l m n f es is ends was =
+    let done : (t.closing ≡ true) × IsTrue n.flushed × IsTrue n.shut = subst (λ (x : FlushEnd). FlushEnds t.closing m n (Ok x)) is ends in
+    (done.0, was.0, done.1, done.2)
 
 pub flush_error : (t : Streams) (closing : Bool) (l m n : LinkView) (e : ConnectionFault) (events : List Event) → Keeps l m → FlushEnds closing m n (Err e) → SendEnds t l n (Err e) events
 flush_error t closing l m n fault.Link events keeps is = rose_later l.faults m.faults n.faults keeps.counts.faults is
@@ -90,6 +94,11 @@ some_of_last p [] fs is = absurd cc
 some_of_last p (e ∷ []) fs is = some_first (p e) (some_is p fs) is
 some_of_last p (e ∷ f ∷ es) fs is = some_later (p e) (some_is p ((f ∷ es) ++ fs)) (some_of_last p (f ∷ es) fs is)
 
+back_of_last : (held : List RawMessage) (es fs : List Event) → LastGivesBack held es → SomeGivesBack held (es ++ fs)
+back_of_last held [] fs is = absurd is
+back_of_last held (e ∷ []) fs is = inl is
+back_of_last held (e ∷ f ∷ es) fs is = inr (back_of_last held (f ∷ es) fs is)
+
 -- by its parts: what the plan lets come was given
 abbrev due : Option Plan → Option (List ℕ) → Option (List ℕ) → Type 0
 due p g t = IfSome p (λ plan. IfSome g (λ given. IfSome t (λ taken. due_by plan given taken ≡ [])))
@@ -104,7 +113,7 @@ written_later : (t : Streams) (l m n : LinkView) (es fs : List Event) → Keeps 
     StopsWriting t l n (es ++ fs)
 written_later t l m n es fs keeps still was = elim was [
   | inl blocked ↦ inl (blocked_later t.moved l m n keeps still blocked)
-  | inr none ↦ inr (none.0, last_behind _ es fs none.1)
+  | inr none ↦ inr (none.0, last_behind _ es fs none.1, none.2)
 ]
 
 -- what the read step says of the link, at the end of the turn
@@ -114,7 +123,7 @@ dry_turn s mid t l m n fs more reads sends (dry, decoded, cleared) = record {
   rose = rose_before l.dry m.dry n.dry dry.rose more.link.counts.dry;
   quiet = rose_before l.quiet m.quiet n.quiet dry.quiet more.link.counts.quiet;
   decoded = decoded_same mid t sends.buffer decoded;
-  cleared = still_cleared mid t m n fs [] more sends decoded.none_whole cleared;
+  cleared = still_cleared mid t m n sends cleared;
   nothing_due = λ steady. due_before l m n reads.taken sends.given more.link.plan (dry.nothing_due steady);
   empty = λ none steady. (more.still none).bytes.due ∙ dry.empty steady;
   lulls = λ none promised. rose_before l.lulls m.lulls n.lulls (dry.lulls (unmoved_before mid.moved t.moved _ more.moved none) promised) more.link.counts.lulls;
@@ -178,99 +187,131 @@ read_fails s t l n fault.Ended es active same is = is
 read_fails s t l n fault.BadLength es active same is = is
 read_fails s t l n fault.Layout es active same is = is
 read_fails s t l n (fault.Unreadable c) es active same is = is
-read_fails s t l n (fault.Unasked e) es active same is = (is.0, is.1, same ∙ active)
+read_fails s t l n (fault.Unasked e) es active same is = (is.0, is.1, same ∙ active, is.2)
 read_fails s t l n (fault.LimitReached given limit) es active same is = is
 read_fails s t l n fault.OutOfMemory es active same is = tt
 
 pub read_error : (s t : Streams) (l n : LinkView) (e : ConnectionFault) (es : List Event) → s.closing ≡ false → t.closing ≡ s.closing → ReadEnds t l n (Err e) es → TurnEnds s t l n (Err e) es
-read_error s t l n e es active same is = (λ x. inl (sym same ∙ x), read_fails s t l n e es active same is)
+read_error s t l n e es active same is = (λ x. inl (sym same ∙ x), read_fails s t l n e es active same is, λ x. absurd (not_both s.closing x active))
 
--- both steps, with what each says of its events
-goes-all : {H : Type 0} (becomes : H → List Event → H → Type 0) → Joins becomes → (h i k : H) (a b c : Streams) (l m n : LinkView)
-    (hs : List RawMessage) (E F G : List Event → Type 0) →
-    Goes becomes h i a b l m hs E → Goes becomes i k b c m n [] F → ((es fs : List Event) → E es → F fs → G (es ++ fs)) → Goes becomes h k a c l n hs G
-goes-all becomes joins h i k a b c l m n hs E F G first more ends =
-    subst (λ (x : List RawMessage). Goes becomes h k a c l n x G) (append-nil hs) (record {
-      events = first.events ++ more.events;
-      calls = calls-then first.events more.events first.calls more.calls;
-      became = joins h i k first.events more.events first.became more.became;
-      passes = passes-joined a b c l m n first.events more.events hs [] first.passes more.passes;
-      ended = ends first.events more.events first.ended more.ended;
-    })
+-- a write step leaves what was read
+handed_stops : (a b c : Streams) (message : AsyncMessage) (got : List ℕ) → c.buffer.items ≡ b.buffer.items → StopsAt a b message got → StopsAt a c message got
+handed_stops a b c message got same was =
+    subst (λ (x : List ℕ). ((got ≡ []) × (x ≡ a.buffer.items)) ⊎ EndsAt (a.buffer.items ++ got) x message) (sym same) was
+
+-- a turn whose read step failed
+pub turned_read : {H : Type 0} (becomes : H → List Event → H → Type 0) (h i : H) (s t : Streams) (l m : LinkView) (e : ConnectionFault) → s.closing ≡ false → t.closing ≡ s.closing →
+    ReadsOn becomes h i s t l m (HandedBy (Err e)) (ReadEnds t l m (Err e)) (ReadStops s t (Err e)) → Turns becomes h i s t l m (Err e)
+turned_read becomes h i s t l m e active same first =
+    let goes = first.hands.goes in
+    record {
+      handed = first.hands.handed;
+      which = tt;
+      goes = record {
+        events = goes.events;
+        calls = goes.calls;
+        became = goes.became;
+        passes = goes.passes;
+        ended = read_error s t l m e goes.events active same goes.ended;
+      };
+      paced = first.paced;
+      stops = tt;
+    }
+
+-- both steps, with what each says of its events, as one turn
+turns-all : {H : Type 0} (becomes : H → List Event → H → Type 0) → Joins becomes → (h i k : H) (a b c : Streams) (l m n : LinkView)
+    (W : List RawMessage → Type 0) (E F : List Event → Type 0) (S : List ℕ → Type 0) (r : Result TurnEnd ConnectionFault) →
+    (first : ReadsOn becomes h i a b l m W E S) → Goes becomes i k b c m n [] F → c.given ≡ b.given → HandedTurn r first.hands.handed →
+    ((es fs : List Event) → E es → F fs → TurnEnds a c l n r (es ++ fs)) → ((got : List ℕ) → S got → TurnStops a c r got) → Turns becomes h k a c l n r
+turns-all becomes joins h i k a b c l m n W E F S r first more same which ends stops =
+    let hs = first.hands.handed in
+    let goes = first.hands.goes in
+    let es = goes.events in
+    let fs = more.events in
+    let passes : Passes a c l n (es ++ fs) (hs ++ []) = passes-joined a b c l m n es fs hs [] goes.passes more.passes in
+    record {
+      handed = hs;
+      which = which;
+      goes = record {
+        events = es ++ fs;
+        calls = calls-then es fs goes.calls more.calls;
+        became = joins h i k es fs goes.became more.became;
+        passes = handed-as a c l n (es ++ fs) (hs ++ []) hs (append-nil hs) passes;
+        ended = ends es fs goes.ended more.ended;
+      };
+      paced = subst (λ (x : List ℕ). Paced a x (es ++ fs))
+          (sym (joined-got a b c l m n es fs hs [] goes.passes more.passes))
+          (paced_later a goes.passes.got more.passes.got es fs (no_more b c m n fs [] more.passes same) first.paced);
+      stops = subst (λ (x : List ℕ). TurnStops a c r x)
+          (sym (joined-got a b c l m n es fs hs [] goes.passes more.passes ∙ ap (λ (x : List ℕ). goes.passes.got ++ x) (no_more b c m n fs [] more.passes same) ∙ append-nil goes.passes.got))
+          (stops goes.passes.got first.stops_there);
+    }
 
 -- what the read step did, at the arm's own value
 pub at_read : {H : Type 0} (becomes : H → List Event → H → Type 0) (h i : H) (s t : Streams) (l m : LinkView) (x y : ReadEnd) → y ≡ x →
-    Hands becomes h i s t l m (HandedBy (Ok y)) (ReadEnds t l m (Ok y)) → Hands becomes h i s t l m (HandedBy (Ok x)) (ReadEnds t l m (Ok x))
-at_read becomes h i s t l m x y is hands = subst (λ (z : ReadEnd). Hands becomes h i s t l m (HandedBy (Ok z)) (ReadEnds t l m (Ok z))) is hands
+    ReadsOn becomes h i s t l m (HandedBy (Ok y)) (ReadEnds t l m (Ok y)) (ReadStops s t (Ok y)) → ReadsOn becomes h i s t l m (HandedBy (Ok x)) (ReadEnds t l m (Ok x)) (ReadStops s t (Ok x))
+at_read becomes h i s t l m x y is hands = subst (λ (z : ReadEnd). ReadsOn becomes h i s t l m (HandedBy (Ok z)) (ReadEnds t l m (Ok z)) (ReadStops s t (Ok z))) is hands
 
 pub at_send : {H : Type 0} (becomes : H → List Event → H → Type 0) (h i : H) (s t : Streams) (l m : LinkView) (may : Bool) (x y : SendEnd) → y ≡ x →
     Goes becomes h i s t l m [] (Sends s t l m may (Ok y)) → Goes becomes h i s t l m [] (Sends s t l m may (Ok x))
 at_send becomes h i s t l m may x y is goes = subst (λ (z : SendEnd). Goes becomes h i s t l m [] (Sends s t l m may (Ok z))) is goes
 
 pub turned_handed : {H : Type 0} (becomes : H → List Event → H → Type 0) → Joins becomes → (h i k : H) (a b c : Streams) (l m n : LinkView) (message : AsyncMessage) →
-    a.closing ≡ false → OnlyReads a b l m → Hands becomes h i a b l m (HandedBy (Ok (ending.Handed message))) (ReadEnds b l m (Ok (ending.Handed message))) →
+    a.closing ≡ false → OnlyReads a b l m → OnlySends b c m n → ReadsOn becomes h i a b l m (HandedBy (Ok (ending.Handed message))) (ReadEnds b l m (Ok (ending.Handed message))) (ReadStops a b (Ok (ending.Handed message))) →
     Goes becomes i k b c m n [] (Sends b c m n false (Ok sending.Waits)) → Turns becomes h k a c l n (Ok (turn.Handed message))
-turned_handed becomes joins h i k a b c l m n message active reads first more = record {
-  handed = first.handed;
-  which = first.is;
-  goes = goes-all becomes joins h i k a b c l m n first.handed (ReadEnds b l m (Ok (ending.Handed message))) (Sends b c m n false (Ok sending.Waits)) (TurnEnds a c l n (Ok (turn.Handed message))) first.goes more
-      (λ es fs e f. record {
-        active = active;
-        stays = stays_open a b c fs active reads.closing f.closes;
-        writing = written_later c l m n es fs first.goes.passes.link (untouched_first a b c l m n _ _ _ _ first.goes.passes more.passes) f.end.writing;
-      });
-}
+turned_handed becomes joins h i k a b c l m n message active reads sends first more =
+    turns-all becomes joins h i k a b c l m n (HandedBy (Ok (ending.Handed message))) (ReadEnds b l m (Ok (ending.Handed message))) (Sends b c m n false (Ok sending.Waits)) (ReadStops a b (Ok (ending.Handed message))) (Ok (turn.Handed message)) first more sends.count first.hands.is
+    (λ es fs e f. record {
+      active = active;
+      stays = stays_open a b c fs active reads.closing f.closes;
+      writing = written_later c l m n es fs first.hands.goes.passes.link (untouched_first a b c l m n _ _ _ _ first.hands.goes.passes more.passes) f.end.writing;
+    }) (λ got was. handed_stops a b c message got sends.buffer was)
 
 pub turned_full : {H : Type 0} (becomes : H → List Event → H → Type 0) → Joins becomes → (h i k : H) (a b c : Streams) (l m n : LinkView) →
-    a.closing ≡ false → OnlyReads a b l m → Hands becomes h i a b l m (HandedBy (Ok ending.Full)) (ReadEnds b l m (Ok ending.Full)) →
+    a.closing ≡ false → OnlyReads a b l m → OnlySends b c m n → ReadsOn becomes h i a b l m (HandedBy (Ok ending.Full)) (ReadEnds b l m (Ok ending.Full)) (ReadStops a b (Ok ending.Full)) →
     Goes becomes i k b c m n [] (Sends b c m n false (Ok sending.Waits)) → Turns becomes h k a c l n (Ok turn.Waits)
-turned_full becomes joins h i k a b c l m n active reads first more = record {
-  handed = first.handed;
-  which = first.is;
-  goes = goes-all becomes joins h i k a b c l m n first.handed (ReadEnds b l m (Ok ending.Full)) (Sends b c m n false (Ok sending.Waits)) (TurnEnds a c l n (Ok turn.Waits)) first.goes more
-      (λ es fs e f. record {
-        reading = inr (inl (some_of_last is_full es fs e));
-        writing = written_later c l m n es fs first.goes.passes.link (untouched_first a b c l m n _ _ _ _ first.goes.passes more.passes) f.end.writing;
-        closing = λ x. absurd (not_both c.closing x (stays_open a b c fs active reads.closing f.closes));
-        began = λ x. absurd (not_both c.closing x (stays_open a b c fs active reads.closing f.closes));
-        must = λ allowed none. absurd (not_full (some_is is_full (es ++ fs)) (some_of_last is_full es fs e) allowed);
-        still = λ x. absurd (not_both a.closing x active);
-      });
-}
+turned_full becomes joins h i k a b c l m n active reads sends first more =
+    turns-all becomes joins h i k a b c l m n (HandedBy (Ok ending.Full)) (ReadEnds b l m (Ok ending.Full)) (Sends b c m n false (Ok sending.Waits)) (ReadStops a b (Ok ending.Full)) (Ok turn.Waits) first more sends.count first.hands.is
+    (λ es fs e f. record {
+      reading = inr (inl (some_of_last is_full es fs e.0.0, subst (λ (x : Option Held). SomeGivesBack (waiting x) (es ++ fs)) (sym sends.held) (back_of_last (waiting b.held) es fs e.0.1)));
+      no_delayed = λ x. sends.delayed ∙ e.1;
+      writing = written_later c l m n es fs first.hands.goes.passes.link (untouched_first a b c l m n _ _ _ _ first.hands.goes.passes more.passes) f.end.writing;
+      closing = λ x. absurd (not_both c.closing x (stays_open a b c fs active reads.closing f.closes));
+      began = λ x. absurd (not_both c.closing x (stays_open a b c fs active reads.closing f.closes));
+      must = λ allowed none. absurd (not_full (some_is is_full (es ++ fs)) (some_of_last is_full es fs e.0.0) allowed);
+      still = λ x. absurd (not_both a.closing x active);
+    }) (λ got was. tt)
 
 pub turned_dry : {H : Type 0} (becomes : H → List Event → H → Type 0) → Joins becomes → (h i k : H) (a b c : Streams) (l m n : LinkView) →
-    a.closing ≡ false → OnlyReads a b l m → OnlySends b c m n → Hands becomes h i a b l m (HandedBy (Ok ending.Dry)) (ReadEnds b l m (Ok ending.Dry)) →
+    a.closing ≡ false → OnlyReads a b l m → OnlySends b c m n → ReadsOn becomes h i a b l m (HandedBy (Ok ending.Dry)) (ReadEnds b l m (Ok ending.Dry)) (ReadStops a b (Ok ending.Dry)) →
     Goes becomes i k b c m n [] (Sends b c m n true (Ok sending.Waits)) → Turns becomes h k a c l n (Ok turn.Waits)
-turned_dry becomes joins h i k a b c l m n active reads sends first more = record {
-  handed = first.handed;
-  which = first.is;
-  goes = goes-all becomes joins h i k a b c l m n first.handed (ReadEnds b l m (Ok ending.Dry)) (Sends b c m n true (Ok sending.Waits)) (TurnEnds a c l n (Ok turn.Waits)) first.goes more
-      (λ es fs e f.
-      let dry = dry_turn a b c l m n more.events more.passes reads sends e in
-      record {
-        reading = inr (inr dry);
-        writing = written_later c l m n es fs first.goes.passes.link (untouched_first a b c l m n _ _ _ _ first.goes.passes more.passes) f.end.writing;
-        closing = λ x. blocked_later c.moved l m n first.goes.passes.link (untouched_first a b c l m n _ _ _ _ first.goes.passes more.passes) (f.end.closing x);
-        began = closes_dry a b c l n es fs reads.closing dry f.closes;
-        must = λ allowed none. must_close c l m n es fs first.goes.passes.link (untouched_first a b c l m n _ _ _ _ first.goes.passes more.passes) f.end.writing f.must none;
-        still = λ x. absurd (not_both a.closing x active);
-      });
-}
+turned_dry becomes joins h i k a b c l m n active reads sends first more =
+    turns-all becomes joins h i k a b c l m n (HandedBy (Ok ending.Dry)) (ReadEnds b l m (Ok ending.Dry)) (Sends b c m n true (Ok sending.Waits)) (ReadStops a b (Ok ending.Dry)) (Ok turn.Waits) first more sends.count first.hands.is
+    (λ es fs e f.
+    let dry = dry_turn a b c l m n more.events more.passes reads sends e in
+    record {
+      reading = inr (inr dry);
+      no_delayed = λ x. dry.cleared.delayed;
+      writing = written_later c l m n es fs first.hands.goes.passes.link (untouched_first a b c l m n _ _ _ _ first.hands.goes.passes more.passes) f.end.writing;
+      closing = λ x. blocked_later c.moved l m n first.hands.goes.passes.link (untouched_first a b c l m n _ _ _ _ first.hands.goes.passes more.passes) (f.end.closing x);
+      began = closes_dry a b c l n es fs reads.closing dry f.closes;
+      must = λ allowed none. must_close c l m n es fs first.hands.goes.passes.link (untouched_first a b c l m n _ _ _ _ first.hands.goes.passes more.passes) f.end.writing f.must none;
+      still = λ x. absurd (not_both a.closing x active);
+    }) (λ got was. tt)
 
 pub turned_over : {H : Type 0} (becomes : H → List Event → H → Type 0) → Joins becomes → (h i k : H) (a b c : Streams) (l m n : LinkView) →
-    a.closing ≡ false → OnlyReads a b l m → OnlySends b c m n → Hands becomes h i a b l m (HandedBy (Ok ending.Dry)) (ReadEnds b l m (Ok ending.Dry)) →
+    a.closing ≡ false → OnlyReads a b l m → OnlySends b c m n → ReadsOn becomes h i a b l m (HandedBy (Ok ending.Dry)) (ReadEnds b l m (Ok ending.Dry)) (ReadStops a b (Ok ending.Dry)) →
     Goes becomes i k b c m n [] (Sends b c m n true (Ok sending.Over)) → Turns becomes h k a c l n (Ok turn.Over)
-turned_over becomes joins h i k a b c l m n active reads sends first more = record {
-  handed = first.handed;
-  which = first.is;
-  goes = goes-all becomes joins h i k a b c l m n first.handed (ReadEnds b l m (Ok ending.Dry)) (Sends b c m n true (Ok sending.Over)) (TurnEnds a c l n (Ok turn.Over)) first.goes more
-      (λ es fs e f. record {
-        closing = f.end.0;
-        sent = f.end.1;
-        began = closes_dry a b c l n es fs reads.closing (dry_turn a b c l m n more.events more.passes reads sends e) f.closes;
-        still = λ x. absurd (not_both a.closing x active);
-      });
-}
+turned_over becomes joins h i k a b c l m n active reads sends first more =
+    turns-all becomes joins h i k a b c l m n (HandedBy (Ok ending.Dry)) (ReadEnds b l m (Ok ending.Dry)) (Sends b c m n true (Ok sending.Over)) (ReadStops a b (Ok ending.Dry)) (Ok turn.Over) first more sends.count first.hands.is
+    (λ es fs e f. record {
+      closing = f.end.0;
+      sent = f.end.1;
+      flushed = f.end.2;
+      shut = f.end.3;
+      began = closes_dry a b c l n es fs reads.closing (dry_turn a b c l m n more.events more.passes reads sends e) f.closes;
+      still = λ x. absurd (not_both a.closing x active);
+    }) (λ got was. tt)
 
 -- a connection that may not close isn't over
 pub never_over : {H R : Type 0} (becomes : H → List Event → H → Type 0) (i k : H) (a b c : Streams) (l m n : LinkView) → a.closing ≡ false → OnlyReads a b l m →
@@ -279,28 +320,28 @@ never_over becomes i k a b c l m n active reads more =
     absurd (not_both c.closing more.ended.end.0 (stays_open a b c more.events active reads.closing more.ended.closes))
 
 pub turned_error : {H : Type 0} (becomes : H → List Event → H → Type 0) → Joins becomes → (h i k : H) (a b c : Streams) (l m n : LinkView) (may : Bool)
-    (W : List RawMessage → Type 0) (E : List Event → Type 0) (e : ConnectionFault) →
-    OnlyReads a b l m → Hands becomes h i a b l m W E → Goes becomes i k b c m n [] (Sends b c m n may (Err e)) → Turns becomes h k a c l n (Err e)
-turned_error becomes joins h i k a b c l m n may W E e reads first more = record {
-  handed = first.handed;
-  which = tt;
-  goes = goes-all becomes joins h i k a b c l m n first.handed E (Sends b c m n may (Err e)) (TurnEnds a c l n (Err e)) first.goes more
-      (λ es fs x f. (closes_by a b c may es fs reads.closing f.closes, send_error a c l m n e es fs first.goes.passes.link f.end));
-}
+    (W : List RawMessage → Type 0) (E : List Event → Type 0) (S : List ℕ → Type 0) (e : ConnectionFault) →
+    a.closing ≡ false → OnlyReads a b l m → OnlySends b c m n → ReadsOn becomes h i a b l m W E S → Goes becomes i k b c m n [] (Sends b c m n may (Err e)) → Turns becomes h k a c l n (Err e)
+turned_error becomes joins h i k a b c l m n may W E S e active reads sends first more =
+    turns-all becomes joins h i k a b c l m n W E (Sends b c m n may (Err e)) S (Err e) first more sends.count tt
+    (λ es fs x f. (closes_by a b c may es fs reads.closing f.closes, send_error a c l m n e es fs first.hands.goes.passes.link f.end, λ x. absurd (not_both a.closing x active))) (λ got was. tt)
 
 -- a turn that reads nothing
 pub turned_closing : {H : Type 0} (becomes : H → List Event → H → Type 0) (h i : H) (s t : Streams) (l m : LinkView) (x : SendEnd) (r : Result TurnEnd ConnectionFault) →
-    ((handed : List RawMessage) → handed ≡ [] → HandedTurn r handed) → Goes becomes h i s t l m [] (Sends s t l m false (Ok x)) →
+    ((handed : List RawMessage) → handed ≡ [] → HandedTurn r handed) → ((got : List ℕ) → TurnStops s t r got) → OnlySends s t l m → Goes becomes h i s t l m [] (Sends s t l m false (Ok x)) →
     ((es : List Event) → Sends s t l m false (Ok x) es → TurnEnds s t l m r es) → Turns becomes h i s t l m r
-turned_closing becomes h i s t l m x r none goes ends = record {
+turned_closing becomes h i s t l m x r none stops only goes ends = record {
   handed = [];
   which = none [] refl;
   goes = record { events = goes.events; calls = goes.calls; became = goes.became; passes = goes.passes; ended = ends goes.events goes.ended };
+  paced = paced_none s goes.passes.got goes.events (no_more s t l m goes.events [] goes.passes only.count);
+  stops = stops goes.passes.got;
 }
 
 pub closing_waits : (s t : Streams) (l m : LinkView) (es : List Event) → s.closing ≡ true → t.closing ≡ true → OnlySends s t l m → Sends s t l m false (Ok sending.Waits) es → TurnEnds s t l m (Ok turn.Waits) es
 closing_waits s t l m es closing stays only was = record {
   reading = inl closing;
+  no_delayed = λ x. absurd (not_both s.closing closing x);
   writing = was.end.writing;
   closing = was.end.closing;
   began = λ x. inl closing;
@@ -309,7 +350,7 @@ closing_waits s t l m es closing stays only was = record {
 }
 
 pub closing_over : (s t : Streams) (l m : LinkView) (es : List Event) → s.closing ≡ true → OnlySends s t l m → Sends s t l m false (Ok sending.Over) es → TurnEnds s t l m (Ok turn.Over) es
-closing_over s t l m es closing only was = record { closing = was.end.0; sent = was.end.1; began = λ x. inl closing; still = λ x. only }
+closing_over s t l m es closing only was = record { closing = was.end.0; sent = was.end.1; flushed = was.end.2; shut = was.end.3; began = λ x. inl closing; still = λ x. only }
 
 closing_failed : (s t : Streams) (l m : LinkView) (e : ConnectionFault) (es : List Event) → SendEnds t l m (Err e) es → TurnFails s t l m e es
 closing_failed s t l m fault.Link es is = is
@@ -318,9 +359,11 @@ closing_failed s t l m fault.OutOfMemory es is = tt
 closing_failed s t l m _ es is = absurd is
 
 pub closing_error : {H : Type 0} (becomes : H → List Event → H → Type 0) (h i : H) (s t : Streams) (l m : LinkView) (e : ConnectionFault) →
-    s.closing ≡ true → Goes becomes h i s t l m [] (Sends s t l m false (Err e)) → Turns becomes h i s t l m (Err e)
-closing_error becomes h i s t l m e closing goes = record {
+    s.closing ≡ true → OnlySends s t l m → Goes becomes h i s t l m [] (Sends s t l m false (Err e)) → Turns becomes h i s t l m (Err e)
+closing_error becomes h i s t l m e closing only goes = record {
   handed = [];
   which = tt;
-  goes = record { events = goes.events; calls = goes.calls; became = goes.became; passes = goes.passes; ended = (λ x. inl closing, closing_failed s t l m e goes.events goes.ended.end) };
+  goes = record { events = goes.events; calls = goes.calls; became = goes.became; passes = goes.passes; ended = (λ x. inl closing, closing_failed s t l m e goes.events goes.ended.end, λ x. only) };
+  paced = paced_none s goes.passes.got goes.events (no_more s t l m goes.events [] goes.passes only.count);
+  stops = tt;
 }

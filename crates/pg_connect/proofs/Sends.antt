@@ -54,6 +54,7 @@ sends s unsent closing moved before after sent events read given taken none out 
   flag = refl;
   moved = moves;
   at_end = or_false s.at_end;
+  ended_there = λ never. let no : false ≡ true = never in cc;
   still = untouched;
   link = link;
 }

@@ -21,7 +21,7 @@ use Rattle.pg_errors.specs.Parsing.{IsHandedOut}
 use Rattle.pg_connect.specs.declared.streams.Streams.{Streams}
 use Rattle.pg_connect.specs.Kept.{keep}
 use Rattle.pg_connect.specs.Reads.{KeepsReport}
-use Rattle.pg_connect.proofs.Reports.{reported, report, read, no_report}
+use Rattle.pg_connect.proofs.Tags.{reported, report, read, no_report}
 
 -- ---- the messages of a batch
 

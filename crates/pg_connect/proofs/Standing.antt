@@ -11,12 +11,12 @@ use Rattle.pg_wire.specs.declared.message.Message.{Message}
 use Rattle.pg_desk.specs.declared.event.Event.{Event}
 use Rattle.pg_connect.specs.declared.streams.Streams.{Streams}
 use Rattle.pg_connect.specs.Answers.{fresh, left_open}
-use Rattle.pg_connect.specs.Ends.{last_is, has_none}
+use Rattle.pg_connect.specs.Ends.{last_is, some_is, has_none}
 use Rattle.pg_connect.specs.Kept.{keep, keep_all}
 use Rattle.pg_connect.specs.Passed.{delivered_by, bytes_out_by}
 use Rattle.pg_connect.specs.Passes.{Passes, waiting, delayed_in, IsUnread, goodbye, risen}
 use Rattle.pg_connect.specs.Reads.{AllDecoded, is_full}
-use Rattle.pg_connect.specs.Polls.{Waits, ReadDry, some_is}
+use Rattle.pg_connect.specs.Polls.{Waits, ReadDry}
 use Rattle.pg_connect.specs.Histories.{History, Stands, Settled, extended}
 use Rattle.pg_connect.proofs.Joining.{relay, grew_then, keeps_then, came_off_then, rest_then, out_then, delivered_by-append, bytes_out_by-append, none_lost, risen_then}
 
@@ -78,17 +78,18 @@ is_open false never = refl
 
 pub settled : (s t : Streams) (l m : LinkView) (es : List Event) → Waits s t l m es → IsTrue l.steady → s.closing ≡ false → some_is is_full es ≡ false → Settled t l m es
 settled s t l m es waits steady active not_full =
-    let writes : (t.unsent ≡ []) × (last_is has_none es ≡ true) =
+    let writes : (t.unsent ≡ []) × (last_is has_none es ≡ true) × IsTrue m.flushed =
     elim waits.writing [ inl blocked ↦ absurd (blocked.not_steady steady) | inr done ↦ done ] in
     let reads : ReadDry t l m =
     elim waits.reading [
       | inl closing ↦ absurd (not_both s.closing closing active)
-      | inr more ↦ elim more [ inl full ↦ absurd (not_both (some_is is_full es) full not_full) | inr dry ↦ dry ]
+      | inr more ↦ elim more [ inl full ↦ absurd (not_both (some_is is_full es) full.0 not_full) | inr dry ↦ dry ]
     ] in
     record {
       active = is_open t.closing (λ x. (waits.closing x).not_steady steady);
       sent = writes.0;
       none_left = writes.1;
+      flushed = writes.2;
       decoded = reads.decoded;
       nothing_due = reads.nothing_due steady;
     }

@@ -1,5 +1,5 @@
 -- How a startup goes on from message to message.
-use Rattle.std.proofs.Common.{◌≡◌, ℕ, zero, suc, ◌+◌, Bool, true, ◌&&◌, List, [], ◌∷◌, ◌++◌, length, Option, Some, None, Ok, Err, append-nil, refl, sym, ◌∙◌, ap, subst, arith, append_assoc, length-append}
+use Rattle.std.proofs.Common.{◌≡◌, ℕ, zero, suc, ◌+◌, Bool, true, false, inl, ◌&&◌, List, [], ◌∷◌, ◌++◌, length, Option, Some, None, Ok, Err, append-nil, refl, sym, ◌∙◌, ap, subst, arith, append_assoc, length-append}
 use Rattle.std.specs.List.{list_all}
 use Rattle.std.proofs.lemmas.Bool.{and_from, and_parts}
 use Rattle.pg_spec.specs.Causes.{is_built}
@@ -95,8 +95,8 @@ leads-nil name nonce read at leads = subst (λ (l : List RawMessage). Leads name
 
 -- a startup before its first poll
 pub opens : (name nonce : List ℕ) (begin : LinkView) (s : StartupState) → s.buffer.items ≡ [] → s.unsent ≡ s.opening.items →
-    frame_of name ≡ Ok s.opening.items → phase_of s.phase ≡ First → s.given ≡ 0 → Opening name nonce begin begin s
-opens name nonce begin s empty unsent frame at count = record {
+    frame_of name ≡ Ok s.opening.items → phase_of s.phase ≡ First → s.flushed ≡ false → s.given ≡ 0 → Opening name nonce begin begin s
+opens name nonce begin s empty unsent frame at not_yet count = record {
   got = [];
   sent = [];
   read = [];
@@ -106,6 +106,8 @@ opens name nonce begin s empty unsent frame at count = record {
   out = unsent;
   frame = frame;
   leads = subst (λ (p : Phase). Leads name nonce [] p) (sym at) (leads-none name nonce);
+  flushed = λ is. absurd (let no : true ≡ false = sym is ∙ not_yet in cc);
+  behind = inl refl;
   count = count;
   link = keeps_same begin;
 }

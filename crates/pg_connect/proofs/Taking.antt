@@ -1,10 +1,10 @@
 -- What is taken off the front of the bytes.
-use Rattle.std.proofs.Common.{◌≡◌, ℕ, ◌+◌, Bool, true, false, not, List, [], ◌∷◌, ◌++◌, length, map, take, drop, Option, Some, None, Result, Ok, Err, refl, sym, ap, subst, ◌∙◌}
+use Rattle.std.proofs.Common.{◌≡◌, ℕ, ◌<◌, ◌+◌, Bool, true, false, not, List, [], ◌∷◌, ◌++◌, length, map, take, drop, Option, Some, None, Result, Ok, Err, refl, sym, ap, subst, ◌∙◌}
 use Rattle.std.specs.declared.alloc.Global.{Global}
 use Rattle.bytes.specs.declared.unique.BytesMut.{BytesMut}
 use Rattle.pg_spec.specs.Batches.{is_nothing}
 use Rattle.pg_spec.specs.Bytes.{◌>>=◌}
-use Rattle.pg_spec.specs.Links.{LinkView}
+use Rattle.pg_spec.specs.Links.{LinkView, Rose}
 use Rattle.pg_spec.specs.Report as said
 use Rattle.pg_wire.specs.LinkCalls.{Keeps, Gives, SameBytes}
 use Rattle.pg_errors.specs.declared.async_message.AsyncMessage.TheVariants.{Notice}
@@ -21,7 +21,9 @@ use Rattle.pg_connect.specs.declared.ends.Off.TheVariants as off
 use Rattle.pg_connect.specs.declared.streams.Streams.{Streams}
 use Rattle.pg_connect.specs.Kept.{keep}
 use Rattle.pg_connect.specs.Passes.{Passes, PassesOn, Untouched, notice_of, delayed_in}
-use Rattle.pg_connect.specs.Reads.{TakesAside, HandedOff, Carries, FirstReads}
+use Rattle.pg_spec.specs.RawMessages.{messages}
+use Rattle.pg_connect.specs.Reads.{TakesAside, HandedOff, OffEnds, Carries, FirstReads}
+use Rattle.pg_connect.specs.declared.fault.ConnectionFault.TheVariants as fault
 use Rattle.pg_connect.proofs.Joining.{keeps_same}
 use Rattle.pg_connect.proofs.Sends.{or_false, or_true, some_taken}
 use Rattle.pg_connect.proofs.Sorting.{sorted_handed, kept_aside}
@@ -63,6 +65,28 @@ aside_taken s mid t l message (Err e) read none cut same takes =
           (record { unsent = refl; closing = refl; limit = refl; ended = refl; at_end = refl }) refl);
     }
 
+-- how taking a message aside off ended
+pub aside_ends : (s mid t : Streams) (message : Message) (r : Result Off ConnectionFault) → s.held ≡ None → CutsAside s.buffer.items mid.buffer.items message →
+    mid ≡ record s { buffer = mid.buffer } → TakesAside mid t message r → OffEnds s t r
+aside_ends s mid t message (Ok (off.Handed handed)) none cut same takes =
+    let left : mid.buffer.items ≡ t.buffer.items = sym (ap (λ (x : Streams). x.buffer.items) takes.1) in
+    record {
+      front = [];
+      raw = cut.raw;
+      is = cut.cuts.messages ∙ ap (λ (x : List ℕ). cut.raw ∷ messages x) left;
+      means = (sorted_handed cut.raw (message_view message) (errors.async_of handed) cut.aside cut.means takes.0).1;
+    }
+aside_ends s mid t message (Ok off.Kept) none cut same takes =
+    let kept = kept_aside mid t message cut.raw cut.aside cut.means takes in (
+      subst (λ (x : Streams). length x.buffer.items < length s.buffer.items) (sym kept.same) cut.cuts.shorter,
+      ap (λ (x : Streams). x.held) kept.same ∙ ap (λ (x : Streams). x.held) same ∙ none,
+    )
+aside_ends s mid t message (Ok off.Held) none cut same takes = absurd takes
+aside_ends s mid t message (Ok off.Nothing) none cut same takes = absurd takes
+aside_ends s mid t message (Err (fault.Unreadable c)) none cut same takes = record { message = message; unread = ap (λ (x : Streams). x.unread) takes.1; means = takes.0 }
+aside_ends s mid t message (Err fault.OutOfMemory) none cut same takes = tt
+aside_ends s mid t message (Err _) none cut same takes = absurd takes.0
+
 -- a refusal leaves the bytes
 pub decode_refused : (old new : List ℕ) (e : WireFault) → Decodes old new (Err e) → new ≡ old
 decode_refused old new wire.OutOfMemory is = is
@@ -92,12 +116,12 @@ piece_none s b l m read same bytes keeps =
     (record { unsent = refl; closing = refl; limit = refl; ended = refl; at_end = refl }) refl keeps
 
 -- the link gave its end
-pub piece_end : (s : Streams) (b : BytesMut Global) (l m : LinkView) → s.unread ≡ None → b.items ≡ s.buffer.items → SameBytes l m → Keeps l m →
+pub piece_end : (s : Streams) (b : BytesMut Global) (l m : LinkView) → s.unread ≡ None → b.items ≡ s.buffer.items → SameBytes l m → Rose l.ends m.ends → Keeps l m →
     Passes s (record s { buffer = b; moved = true; at_end = true }) l m [] []
-piece_end s b l m read same bytes keeps =
+piece_end s b l m read same bytes rose keeps =
     reads_end s (record s { buffer = b; moved = true; at_end = true }) l m read bytes
     (record { buffer = same; unread = read; held = refl; delayed = refl; parameters = refl; given = refl; delivered = refl })
-    (record { unsent = refl; closing = refl; limit = refl; ended = refl }) refl refl keeps
+    (record { unsent = refl; closing = refl; limit = refl; ended = refl }) refl refl rose keeps
 
 -- a notice that was delayed is handed out
 pub delayed_taken : (s t : Streams) (l : LinkView) (e : DbError) → s.unread ≡ None → FirstReads s e → t.delayed.items ≡ drop 1 s.delayed.items →

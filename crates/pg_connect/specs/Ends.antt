@@ -1,5 +1,5 @@
 -- How a write step may end, and why.
-use Rattle.std.specs.Prelude.{◌≡◌, ◌⊎◌, Bool, true, false, IsTrue, List, [], ◌∷◌, Result, Ok, Err}
+use Rattle.std.specs.Prelude.{◌≡◌, ◌⊎◌, ◌||◌, Bool, true, false, IsTrue, List, [], ◌∷◌, Result, Ok, Err}
 use Rattle.pg_spec.specs.Links.{LinkView, Rose}
 use Rattle.pg_desk.specs.declared.event.Event.{Event}
 use Rattle.pg_desk.specs.declared.event.Event.TheVariants.{NextOut}
@@ -26,6 +26,11 @@ abbrev pub last_is : (Event → Bool) → List Event → Bool
 last_is p [] = false
 last_is p (e ∷ []) = p e
 last_is p (e ∷ f ∷ es) = last_is p (f ∷ es)
+
+-- some event passes the test
+abbrev pub some_is : (Event → Bool) → List Event → Bool
+some_is p [] = false
+some_is p (e ∷ es) = p e || some_is p es
 
 -- the hub has no part to hand out now
 abbrev pub has_none : Event → Bool

@@ -1,6 +1,6 @@
 -- All that passed through a connection since its startup began, and what a connection that stands there
 -- holds. A session speaks of histories and events alone: buffers and bytes stand only in `Stands`.
-use Rattle.std.specs.Prelude.{◌≡◌, ℕ, true, false, List, [], ◌++◌, length}
+use Rattle.std.specs.Prelude.{◌≡◌, ℕ, true, false, IsTrue, List, [], ◌++◌, length}
 use Rattle.pg_spec.specs.Links.{LinkView, Grew}
 use Rattle.pg_spec.specs.Parameters.{parameter_reports}
 use Rattle.pg_spec.specs.RawMessages.{RawMessage, messages, bytes_left, sync_of, async_of}
@@ -10,7 +10,7 @@ use Rattle.pg_connect.specs.declared.streams.Streams.{Streams}
 use Rattle.pg_connect.specs.Ends.{last_is, has_none}
 use Rattle.pg_connect.specs.Kept.{keep_all}
 use Rattle.pg_connect.specs.Passed.{delivered_by, bytes_out_by}
-use Rattle.pg_connect.specs.Passes.{waiting, delayed_in, IsUnread, goodbye, risen}
+use Rattle.pg_connect.specs.Passes.{held_bytes, waiting, delayed_in, IsUnread, goodbye, risen}
 use Rattle.pg_connect.specs.Polls.{NothingDueBefore}
 use Rattle.pg_connect.specs.Reads.{AllDecoded}
 
@@ -40,8 +40,8 @@ pub record Stands (s : Streams) (base link : LinkView) (h : History) : Type 0 wh
   pub gave : Grew base.given link.given given
   pub took : Grew base.taken link.taken taken
   pub keeps : Keeps base link
-  pub came_off : messages given ≡ (h.startup ++ h.read) ++ (lost ++ messages s.buffer.items)
-  pub rest : bytes_left given ≡ bytes_left s.buffer.items
+  pub came_off : messages given ≡ (h.startup ++ h.read) ++ (lost ++ messages (held_bytes s))
+  pub rest : bytes_left given ≡ bytes_left (held_bytes s)
   pub unread : IsUnread s.unread lost
   pub out : (h.opening ++ bytes_out_by h.events) ++ goodbye false s.closing ≡ taken ++ s.unsent
   pub delivered : sync_of h.read ≡ delivered_by h.events ++ waiting s.held
@@ -51,11 +51,12 @@ pub record Stands (s : Streams) (base link : LinkView) (h : History) : Type 0 wh
   pub counted : s.delivered ≡ risen 0 (length (delivered_by h.events))
 
 -- Over a steady link a poll that had to wait, and met no full mailbox, left nothing to be done: the link took
--- all that went out, the hub has no part, all that came is decoded, and what the plan lets come by the bytes
+-- all that went out and was flushed, the hub has no part, all that came is decoded, and what the plan lets come by the bytes
 -- taken before was given.
 pub record Settled (s : Streams) (before after : LinkView) (events : List Event) : Type 0 where
   pub active : s.closing ≡ false
   pub sent : s.unsent ≡ []
   pub none_left : last_is has_none events ≡ true
+  pub flushed : IsTrue after.flushed
   pub decoded : AllDecoded s
   pub nothing_due : NothingDueBefore before after

@@ -4,7 +4,7 @@ use Rattle.std.specs.List.{list_any}
 use Rattle.std.specs.Str.{byte}
 use Rattle.pg_spec.specs.Batches.{is_nothing}
 use Rattle.pg_spec.specs.Frames.{terminate_frame}
-use Rattle.pg_spec.specs.Links.{LinkView, Grew}
+use Rattle.pg_spec.specs.Links.{LinkView, Grew, Rose}
 use Rattle.pg_spec.specs.Messages.{message_of}
 use Rattle.pg_spec.specs.Parameters.{parameter_reports}
 use Rattle.pg_spec.specs.RawMessages.{RawMessage, messages, bytes_left, is_aside, sync_of, async_of}
@@ -22,6 +22,10 @@ use Rattle.pg_connect.specs.Passed.{AllEngineCalls, delivered_by, bytes_out_by, 
 abbrev pub waiting : Option Held → List RawMessage
 waiting None = []
 waiting (Some held) = held.batch
+
+-- the bytes that were given and aren't decoded
+abbrev pub held_bytes : Streams → List ℕ
+held_bytes s = s.buffer.items
 
 -- a notice as it stood on the wire
 abbrev pub notice_of : ErrorResponseBody → RawMessage
@@ -95,6 +99,7 @@ pub record Passes (old new : Streams) (before after : LinkView) (events : List E
   pub flag : new.ended ≡ old.ended
   pub moved : new.moved ≡ (old.moved || (moves got sent handed events || over))
   pub at_end : new.at_end ≡ (old.at_end || over)
+  pub ended_there : over ≡ true → Rose before.ends after.ends
   pub still : new.moved ≡ false → Untouched before after
   pub link : Keeps before after
 
@@ -125,6 +130,8 @@ pub record OnlySends (old new : Streams) (before after : LinkView) : Type 0 wher
   pub given : after.given ≡ before.given
   pub count : new.given ≡ old.given
   pub buffer : new.buffer.items ≡ old.buffer.items
+  pub held : new.held ≡ old.held
+  pub delayed : delayed_in new ≡ delayed_in old
   pub unread : new.unread ≡ old.unread
   pub at_end : new.at_end ≡ old.at_end
 

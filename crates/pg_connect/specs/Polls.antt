@@ -1,5 +1,5 @@
 -- How a turn of the connection ends, and why.
-use Rattle.std.specs.Prelude.{◌≡◌, ◌<◌, ◌⊎◌, Bool, true, false, not, IsTrue, ◌||◌, List, [], ◌∷◌, length, Some, IfSome, OnOk, Result, Ok, Err}
+use Rattle.std.specs.Prelude.{◌≡◌, ℕ, ◌<◌, ◌⊎◌, Bool, true, false, not, IsTrue, ◌||◌, List, [], ◌∷◌, length, Some, IfSome, OnOk, Result, Ok, Err}
 use Rattle.pg_spec.specs.Links.{LinkView, Rose, due_by}
 use Rattle.pg_spec.specs.RawMessages.{RawMessage, has_bad_header}
 use Rattle.pg_desk.specs.declared.event.Event.{Event}
@@ -12,21 +12,21 @@ use Rattle.pg_connect.specs.declared.ends.SendEnd.TheVariants as send
 use Rattle.pg_connect.specs.declared.ends.TurnEnd.{TurnEnd}
 use Rattle.pg_connect.specs.declared.ends.TurnEnd.TheVariants as turn
 use Rattle.pg_connect.specs.declared.streams.Streams.{Streams}
-use Rattle.pg_connect.specs.Ends.{WasBlocked, last_is, has_none, has_no_more, is_closed_out, Closes}
-use Rattle.pg_connect.specs.Passes.{waiting, Goes, OnlySends}
-use Rattle.pg_connect.specs.Reads.{AllDecoded, BreaksLayout, Carries, EndsInside, IsCleared, IsUnasked, LeavesDelayed, LeavesUnread, is_full, has_no_request}
+use Rattle.pg_connect.specs.Ends.{WasBlocked, last_is, some_is, has_none, has_no_more, is_closed_out, Closes}
+use Rattle.pg_connect.specs.Passes.{waiting, delayed_in, Goes, OnlySends}
+use Rattle.pg_connect.specs.Reads.{AllDecoded, BreaksLayout, Carries, EndsInside, GivesBack, IsCleared, IsOnePastLimit, IsUnasked, LastGivesBack, LeavesDelayed, LeavesUnread, Paced, StopsAt, is_full, has_no_request}
 
--- how a flush step ended; `closing`: Terminate is queued
+-- how a flush step ended, where nothing is unsent; `closing`: Terminate is queued
 abbrev pub FlushEnds : Bool → LinkView → LinkView → Result FlushEnd ConnectionFault → Type 0
 FlushEnds closing before after (Ok flush.Blocked) = WasBlocked false before after
-FlushEnds closing before after (Ok flush.Flushed) = closing ≡ false
-FlushEnds closing before after (Ok flush.ShutDown) = closing ≡ true
+FlushEnds closing before after (Ok flush.Flushed) = (closing ≡ false) × IsTrue after.flushed
+FlushEnds closing before after (Ok flush.ShutDown) = (closing ≡ true) × IsTrue after.flushed × IsTrue after.shut
 FlushEnds closing before after (Err fault.Link) = Rose before.faults after.faults
 FlushEnds closing before after (Err _) = ⊥
 
--- Why no more was written: the link wasn't ready, or it took all that went out and the hub has no part.
+-- Why no more was written: the link wasn't ready, or it took all that went out and was flushed, and the hub has no part.
 abbrev pub StopsWriting : Streams → LinkView → LinkView → List Event → Type 0
-StopsWriting new before after events = WasBlocked new.moved before after ⊎ ((new.unsent ≡ []) × (last_is has_none events ≡ true))
+StopsWriting new before after events = WasBlocked new.moved before after ⊎ ((new.unsent ≡ []) × (last_is has_none events ≡ true) × IsTrue after.flushed)
 
 -- Why sending has to wait.
 pub record SendWaits (new : Streams) (before after : LinkView) (events : List Event) : Type 0 where
@@ -36,7 +36,7 @@ pub record SendWaits (new : Streams) (before after : LinkView) (events : List Ev
 -- how the write step and the flush step ended
 abbrev pub SendEnds : Streams → LinkView → LinkView → Result SendEnd ConnectionFault → List Event → Type 0
 SendEnds new before after (Ok send.Waits) events = SendWaits new before after events
-SendEnds new before after (Ok send.Over) events = (new.closing ≡ true) × (new.unsent ≡ [])
+SendEnds new before after (Ok send.Over) events = (new.closing ≡ true) × (new.unsent ≡ []) × IsTrue after.flushed × IsTrue after.shut
 SendEnds new before after (Err fault.Link) events = Rose before.faults after.faults
 SendEnds new before after (Err fault.Closed) events = last_is is_closed_out events ≡ true
 SendEnds new before after (Err fault.OutOfMemory) events = Unit {0}
@@ -52,11 +52,6 @@ pub record Sends (old new : Streams) (before after : LinkView) (may_close : Bool
   pub end : SendEnds new before after result events
   pub closes : Closes old new may_close events
   pub must : OnOk result (ClosesThen new before after may_close events)
-
--- some event passes the test
-abbrev pub some_is : (Event → Bool) → List Event → Bool
-some_is p [] = false
-some_is p (e ∷ es) = p e || some_is p es
 
 -- What the plan lets come, by the bytes that the link took before the call, was given.
 abbrev pub NothingDueBefore : LinkView → LinkView → Type 0
@@ -79,9 +74,16 @@ abbrev pub BeganToClose : Streams → Streams → LinkView → LinkView → List
 BeganToClose old new before after events =
     new.closing ≡ true → (old.closing ≡ true) ⊎ (ReadDry new before after × (last_is has_no_more events ≡ true))
 
--- Why a poll has to wait. Where the connection was closing, it read nothing.
+-- some call gave the batch back that is held
+abbrev pub SomeGivesBack : List RawMessage → List Event → Type 0
+SomeGivesBack held [] = ⊥
+SomeGivesBack held (e ∷ es) = GivesBack held e ⊎ SomeGivesBack held es
+
+-- Why a poll has to wait: it was closing, a mailbox gave back the batch that is held, or all that came is passed
+-- on. Where the connection was closing, it read nothing; else no notice is delayed.
 pub record Waits (old new : Streams) (before after : LinkView) (events : List Event) : Type 0 where
-  pub reading : (old.closing ≡ true) ⊎ ((some_is is_full events ≡ true) ⊎ ReadDry new before after)
+  pub reading : (old.closing ≡ true) ⊎ (((some_is is_full events ≡ true) × SomeGivesBack (waiting new.held) events) ⊎ ReadDry new before after)
+  pub no_delayed : old.closing ≡ false → delayed_in new ≡ []
   pub writing : StopsWriting new before after events
   pub closing : new.closing ≡ true → WasBlocked new.moved before after
   pub began : BeganToClose old new before after events
@@ -98,6 +100,8 @@ pub record HandsOut (old new : Streams) (before after : LinkView) (events : List
 pub record IsOver (old new : Streams) (before after : LinkView) (events : List Event) : Type 0 where
   pub closing : new.closing ≡ true
   pub sent : new.unsent ≡ []
+  pub flushed : IsTrue after.flushed
+  pub shut : IsTrue after.shut
   pub began : BeganToClose old new before after events
   pub still : old.closing ≡ true → OnlySends old new before after
 
@@ -126,19 +130,27 @@ TurnFails old new before after fault.Ended events = EndsInside new before after
 TurnFails old new before after fault.BadLength events = has_bad_header new.buffer.items ≡ true
 TurnFails old new before after fault.Layout events = BreaksLayout new
 TurnFails old new before after (fault.Unreadable c) events = LeavesUnread new c ⊎ LeavesDelayed new c
-TurnFails old new before after (fault.Unasked e) events = (last_is has_no_request events ≡ true) × IsUnasked (waiting new.held) (fault.Unasked e) × (new.closing ≡ false)
-TurnFails old new before after (fault.LimitReached given limit) events = (given ≡ new.given) × (limit ≡ new.max_bytes) × (limit < given)
+TurnFails old new before after (fault.Unasked e) events =
+    (last_is has_no_request events ≡ true) × IsUnasked (waiting new.held) (fault.Unasked e) × (new.closing ≡ false) × LastGivesBack (waiting new.held) events
+TurnFails old new before after (fault.LimitReached given limit) events = (given ≡ new.given) × (limit ≡ new.max_bytes) × (limit < given) × IsOnePastLimit new given limit
 TurnFails old new before after fault.OutOfMemory events = Unit {0}
 
--- how a turn ended
+-- how a turn ended; a connection that is closing reads nothing, also where it fails
 abbrev pub TurnEnds : Streams → Streams → LinkView → LinkView → Result TurnEnd ConnectionFault → List Event → Type 0
 TurnEnds old new before after (Ok (turn.Handed message)) events = HandsOut old new before after events
 TurnEnds old new before after (Ok turn.Waits) events = Waits old new before after events
 TurnEnds old new before after (Ok turn.Over) events = IsOver old new before after events
-TurnEnds old new before after (Err e) events = ClosesBy old new events × TurnFails old new before after e events
+TurnEnds old new before after (Err e) events = ClosesBy old new events × TurnFails old new before after e events × (old.closing ≡ true → OnlySends old new before after)
 
--- What a turn did to the hub, the link and what stands between them, and how it ended.
+-- a turn that hands a message out reads and takes in nothing behind it
+abbrev pub TurnStops : Streams → Streams → Result TurnEnd ConnectionFault → List ℕ → Type 0
+TurnStops old new (Ok (turn.Handed message)) got = StopsAt old new message got
+TurnStops old new _ got = Unit {0}
+
+-- What a turn did to the hub, the link and what stands between them, how far it read, and how it ended.
 pub record Turns {H : Type 0} (becomes : H → List Event → H → Type 0) (a b : H) (old new : Streams) (before after : LinkView) (result : Result TurnEnd ConnectionFault) : Type 0 where
   pub handed : List RawMessage
   pub which : HandedTurn result handed
   pub goes : Goes becomes a b old new before after handed (TurnEnds old new before after result)
+  pub paced : Paced old goes.passes.got goes.events
+  pub stops : TurnStops old new result goes.passes.got

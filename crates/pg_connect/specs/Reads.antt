@@ -1,11 +1,11 @@
 -- How the parts of a read step may end, and why.
-use Rattle.std.specs.Prelude.{◌≡◌, ◌<◌, ◌≤◌, ◌⊎◌, Bool, true, false, IsTrue, List, [], ◌∷◌, length, Option, Some, None, IfSome, Result, Ok, Err}
+use Rattle.std.specs.Prelude.{◌≡◌, ℕ, ◌+◌, ◌<◌, ◌≤◌, ◌⊎◌, Bool, true, false, IsTrue, List, [], ◌∷◌, ◌++◌, length, Option, Some, None, IfSome, Result, Ok, Err}
 use Rattle.pg_spec.specs.Causes.{aside_fault, unasked, out_of_turn}
 use Rattle.pg_spec.specs.DbErrors.{db_error_of}
 use Rattle.pg_spec.specs.Faults as faults
 use Rattle.pg_spec.specs.Links.{LinkView, Rose, due_by}
 use Rattle.pg_spec.specs.Messages.{message_of, NoticeResponse}
-use Rattle.pg_spec.specs.RawMessages.{RawMessage, messages, has_bad_header, is_aside}
+use Rattle.pg_spec.specs.RawMessages.{RawMessage, messages, has_bad_header, is_aside, sync_of, async_of as asides_of}
 use Rattle.pg_spec.specs.Report.{async_message, async_of_raw}
 use Rattle.pg_wire.specs.declared.body.ErrorResponseBody.{ErrorResponseBody}
 use Rattle.pg_wire.specs.declared.message.Message.{Message}
@@ -30,9 +30,10 @@ use Rattle.pg_connect.specs.declared.ends.Step.TheVariants as step
 use Rattle.pg_connect.specs.declared.ends.ReadEnd.{ReadEnd}
 use Rattle.pg_connect.specs.declared.ends.ReadEnd.TheVariants as reads
 use Rattle.pg_connect.specs.declared.streams.Streams.{Streams}
-use Rattle.pg_connect.specs.Ends.{last_is}
+use Rattle.pg_connect.specs.Ends.{last_is, some_is}
 use Rattle.pg_connect.specs.Kept.{keep}
-use Rattle.pg_connect.specs.Passes.{waiting, delayed_in}
+use Rattle.pg_connect.specs.Passed.{delivered_by}
+use Rattle.pg_connect.specs.Passes.{Goes, Hands, waiting, delayed_in}
 
 -- ---- messages that no request asked for
 
@@ -99,10 +100,18 @@ ReadsFirst s (Some (Err e)) = RefusesFirst s e
 
 -- ---- why reading ends
 
+-- how many bytes are read at once, at most
+abbrev pub piece_size : ℕ
+piece_size = 8192
+
 -- the mailbox of the request is full
 abbrev pub is_full : Event → Bool
 is_full (Deliver batch complete (answer.Full back)) = true
 is_full _ = false
+
+-- no mailbox was full
+abbrev pub NoneFull : List Event → Type 0
+NoneFull events = some_is is_full events ≡ false
 
 -- no request is open
 abbrev pub has_no_request : Event → Bool
@@ -121,6 +130,32 @@ IsUnasked (first ∷ batch) (fault.Unasked e) = failure_of e ≡ out_of_turn fir
 IsUnasked batch fault.OutOfMemory = Unit {0}
 IsUnasked batch _ = ⊥
 
+-- the call gave the batch back that is held
+abbrev pub GivesBack : List RawMessage → Event → Type 0
+GivesBack held (Deliver batch complete (answer.Full back)) = batch ≡ held
+GivesBack held (Deliver batch complete (answer.NoRequest back)) = batch ≡ held
+GivesBack held _ = ⊥
+
+-- the last call did so
+abbrev pub LastGivesBack : List RawMessage → List Event → Type 0
+LastGivesBack held [] = ⊥
+LastGivesBack held (e ∷ []) = GivesBack held e
+LastGivesBack held (e ∷ f ∷ es) = LastGivesBack held (f ∷ es)
+
+-- the mailbox of the batch that is held is full
+abbrev pub MeetsFull : Streams → List Event → Type 0
+MeetsFull new events = (last_is is_full events ≡ true) × LastGivesBack (waiting new.held) events
+
+-- no request is open for the batch that is held, and that is what it means
+abbrev pub MeetsNoRequest : Streams → Error → List Event → Type 0
+MeetsNoRequest new e events =
+    (last_is has_no_request events ≡ true) × IsUnasked (waiting new.held) (fault.Unasked e) × LastGivesBack (waiting new.held) events
+
+-- More was given than the limit allows: by one piece, of which nothing is decoded.
+pub record IsOnePastLimit (s : Streams) (given limit : ℕ) : Type 0 where
+  pub piece : given ≤ limit + piece_size
+  pub undecoded : given ≤ limit + length s.buffer.items
+
 -- every whole message that was given is decoded, and what is left isn't refused
 pub record AllDecoded (s : Streams) : Type 0 where
   pub none_whole : messages s.buffer.items ≡ []
@@ -131,6 +166,13 @@ pub record IsCleared (s : Streams) : Type 0 where
   pub held : waiting s.held ≡ []
   pub delayed : delayed_in s ≡ []
   pub unread : s.unread ≡ None
+
+-- The bytes are some messages, then one that reads so, and then what is left.
+pub record EndsAt (bytes left : List ℕ) (message : AsyncMessage) : Type 0 where
+  pub front : List RawMessage
+  pub raw : RawMessage
+  pub is : messages bytes ≡ front ++ (raw ∷ messages left)
+  pub means : async_of_raw raw ≡ Some (async_of message)
 
 -- the message in front, which no request asked for, breaks its layout
 pub record BreaksLayout (s : Streams) : Type 0 where
@@ -157,7 +199,7 @@ HandedOff _ handed = handed ≡ []
 abbrev pub OffEnds : Streams → Streams → Result Off ConnectionFault → Type 0
 OffEnds old new (Ok off.Held) = length new.buffer.items < length old.buffer.items
 OffEnds old new (Ok off.Kept) = (length new.buffer.items < length old.buffer.items) × (new.held ≡ None)
-OffEnds old new (Ok (off.Handed message)) = Unit {0}
+OffEnds old new (Ok (off.Handed message)) = EndsAt old.buffer.items new.buffer.items message
 OffEnds old new (Ok off.Nothing) = AllDecoded new × (new.held ≡ None)
 OffEnds old new (Err fault.BadLength) = has_bad_header new.buffer.items ≡ true
 OffEnds old new (Err fault.Layout) = BreaksLayout new
@@ -167,9 +209,9 @@ OffEnds old new (Err _) = ⊥
 
 -- how a batch that is held was delivered
 abbrev pub DeliverEnds : Streams → Result Bool ConnectionFault → List Event → Type 0
-DeliverEnds new (Ok true) events = new.held ≡ None
-DeliverEnds new (Ok false) events = last_is is_full events ≡ true
-DeliverEnds new (Err (fault.Unasked e)) events = (last_is has_no_request events ≡ true) × IsUnasked (waiting new.held) (fault.Unasked e)
+DeliverEnds new (Ok true) events = (new.held ≡ None) × NoneFull events
+DeliverEnds new (Ok false) events = MeetsFull new events
+DeliverEnds new (Err (fault.Unasked e)) events = MeetsNoRequest new e events
 DeliverEnds new (Err fault.OutOfMemory) events = Unit {0}
 DeliverEnds new (Err _) events = ⊥
 
@@ -180,14 +222,14 @@ HandedIn _ handed = handed ≡ []
 
 -- how a message or a batch was passed on
 abbrev pub PassEnds : Streams → Streams → Result (Option Step) ConnectionFault → List Event → Type 0
-PassEnds old new (Ok None) events = (length new.buffer.items < length old.buffer.items) × (new.held ≡ None)
-PassEnds old new (Ok (Some (step.Handed message))) events = Unit {0}
-PassEnds old new (Ok (Some step.Full)) events = last_is is_full events ≡ true
-PassEnds old new (Ok (Some step.Nothing)) events = AllDecoded new × (new.held ≡ None)
+PassEnds old new (Ok None) events = (length new.buffer.items < length old.buffer.items) × (new.held ≡ None) × NoneFull events
+PassEnds old new (Ok (Some (step.Handed message))) events = EndsAt old.buffer.items new.buffer.items message
+PassEnds old new (Ok (Some step.Full)) events = MeetsFull new events
+PassEnds old new (Ok (Some step.Nothing)) events = AllDecoded new × (new.held ≡ None) × NoneFull events
 PassEnds old new (Err fault.BadLength) events = has_bad_header new.buffer.items ≡ true
 PassEnds old new (Err fault.Layout) events = BreaksLayout new
 PassEnds old new (Err (fault.Unreadable c)) events = LeavesUnread new c
-PassEnds old new (Err (fault.Unasked e)) events = (last_is has_no_request events ≡ true) × IsUnasked (waiting new.held) (fault.Unasked e)
+PassEnds old new (Err (fault.Unasked e)) events = MeetsNoRequest new e events
 PassEnds old new (Err fault.OutOfMemory) events = Unit {0}
 PassEnds old new (Err _) events = ⊥
 
@@ -197,16 +239,16 @@ HandedAll (Ok (step.Handed message)) handed = Carries handed message
 HandedAll _ handed = handed ≡ []
 
 -- how all that is buffered was passed on
-abbrev pub AllEnds : Streams → Result Step ConnectionFault → List Event → Type 0
-AllEnds new (Ok (step.Handed message)) events = Unit {0}
-AllEnds new (Ok step.Full) events = last_is is_full events ≡ true
-AllEnds new (Ok step.Nothing) events = AllDecoded new × (new.held ≡ None)
-AllEnds new (Err fault.BadLength) events = has_bad_header new.buffer.items ≡ true
-AllEnds new (Err fault.Layout) events = BreaksLayout new
-AllEnds new (Err (fault.Unreadable c)) events = LeavesUnread new c
-AllEnds new (Err (fault.Unasked e)) events = (last_is has_no_request events ≡ true) × IsUnasked (waiting new.held) (fault.Unasked e)
-AllEnds new (Err fault.OutOfMemory) events = Unit {0}
-AllEnds new (Err _) events = ⊥
+abbrev pub AllEnds : Streams → Streams → Result Step ConnectionFault → List Event → Type 0
+AllEnds old new (Ok (step.Handed message)) events = EndsAt old.buffer.items new.buffer.items message
+AllEnds old new (Ok step.Full) events = MeetsFull new events
+AllEnds old new (Ok step.Nothing) events = AllDecoded new × (new.held ≡ None) × NoneFull events
+AllEnds old new (Err fault.BadLength) events = has_bad_header new.buffer.items ≡ true
+AllEnds old new (Err fault.Layout) events = BreaksLayout new
+AllEnds old new (Err (fault.Unreadable c)) events = LeavesUnread new c
+AllEnds old new (Err (fault.Unasked e)) events = MeetsNoRequest new e events
+AllEnds old new (Err fault.OutOfMemory) events = Unit {0}
+AllEnds old new (Err _) events = ⊥
 
 -- what is handed out of the notices that are delayed
 abbrev pub HandedLate : Result (Option AsyncMessage) ConnectionFault → List RawMessage → Type 0
@@ -239,7 +281,7 @@ PieceEnds old new before after (Ok false) = WasDry new.moved before after × (ne
 PieceEnds old new before after (Err fault.Link) = Rose before.faults after.faults
 PieceEnds old new before after (Err fault.Closed) = Rose before.ends after.ends × (new.buffer.items ≡ [])
 PieceEnds old new before after (Err fault.Ended) = Rose before.ends after.ends × (0 < length new.buffer.items) × (new.buffer.items ≡ old.buffer.items)
-PieceEnds old new before after (Err (fault.LimitReached given most)) = (given ≡ new.given) × (most ≡ new.max_bytes) × (most < given)
+PieceEnds old new before after (Err (fault.LimitReached given most)) = (given ≡ new.given) × (most ≡ new.max_bytes) × (most < given) × IsOnePastLimit new given most
 PieceEnds old new before after (Err fault.OutOfMemory) = Unit {0}
 PieceEnds old new before after (Err _) = ⊥
 
@@ -263,7 +305,7 @@ pub record EndsInside (s : Streams) (before after : LinkView) : Type 0 where
 -- and nothing of it lies there. Or why it was broken off.
 abbrev pub ReadEnds : Streams → LinkView → LinkView → Result ReadEnd ConnectionFault → List Event → Type 0
 ReadEnds new before after (Ok (reads.Handed message)) events = Unit {0}
-ReadEnds new before after (Ok reads.Full) events = last_is is_full events ≡ true
+ReadEnds new before after (Ok reads.Full) events = MeetsFull new events × (delayed_in new ≡ [])
 ReadEnds new before after (Ok reads.Dry) events = WasDry new.moved before after × AllDecoded new × IsCleared new
 ReadEnds new before after (Err fault.Link) events = Rose before.faults after.faults
 ReadEnds new before after (Err fault.Closed) events = Rose before.ends after.ends × (new.buffer.items ≡ [])
@@ -271,6 +313,44 @@ ReadEnds new before after (Err fault.Ended) events = EndsInside new before after
 ReadEnds new before after (Err fault.BadLength) events = has_bad_header new.buffer.items ≡ true
 ReadEnds new before after (Err fault.Layout) events = BreaksLayout new
 ReadEnds new before after (Err (fault.Unreadable c)) events = LeavesUnread new c ⊎ LeavesDelayed new c
-ReadEnds new before after (Err (fault.Unasked e)) events = (last_is has_no_request events ≡ true) × IsUnasked (waiting new.held) (fault.Unasked e)
-ReadEnds new before after (Err (fault.LimitReached given most)) events = (given ≡ new.given) × (most ≡ new.max_bytes) × (most < given)
+ReadEnds new before after (Err (fault.Unasked e)) events = MeetsNoRequest new e events
+ReadEnds new before after (Err (fault.LimitReached given most)) events = (given ≡ new.given) × (most ≡ new.max_bytes) × (most < given) × IsOnePastLimit new given most
 ReadEnds new before after (Err fault.OutOfMemory) events = Unit {0}
+
+-- ---- how far reading goes
+
+-- Behind these bytes more had to be read: no notice was delayed, all that had come was passed on, with no message to
+-- hand out and no full mailbox, and no more was given than the limit allows.
+pub record NeedsMore (old : Streams) (front : List ℕ) (events : List Event) : Type 0 where
+  pub no_delayed : delayed_in old ≡ []
+  pub none_aside : asides_of (messages (old.buffer.items ++ front)) ≡ []
+  pub earlier : List Event
+  pub later : List Event
+  pub calls : events ≡ earlier ++ later
+  pub passed_on : delivered_by earlier ≡ waiting old.held ++ sync_of (messages (old.buffer.items ++ front))
+  pub none_full : NoneFull earlier
+  pub within : old.given + length front ≤ old.max_bytes
+
+-- The last piece was read only because more had to be, and so was each piece before it.
+pub record Paced (old : Streams) (got : List ℕ) (events : List Event) : Type 0 where
+  pub front : List ℕ
+  pub piece : List ℕ
+  pub all : got ≡ front ++ piece
+  pub fits : length piece ≤ piece_size
+  pub needed : (got ≡ []) ⊎ NeedsMore old front events
+
+-- reading ends at the message that is handed out: one that was delayed, and nothing is read, or the last that came off
+abbrev pub StopsAt : Streams → Streams → AsyncMessage → List ℕ → Type 0
+StopsAt old new message got = ((got ≡ []) × (new.buffer.items ≡ old.buffer.items)) ⊎ EndsAt (old.buffer.items ++ got) new.buffer.items message
+
+-- the same of a read step
+abbrev pub ReadStops : Streams → Streams → Result ReadEnd ConnectionFault → List ℕ → Type 0
+ReadStops old new (Ok (reads.Handed message)) got = StopsAt old new message got
+ReadStops old new _ got = Unit {0}
+
+-- By some calls of a read step the hub became another, these messages were handed out, and it read so far.
+pub record ReadsOn {H : Type 0} (becomes : H → List Event → H → Type 0) (a b : H) (old new : Streams) (before after : LinkView)
+    (which : List RawMessage → Type 0) (ends : List Event → Type 0) (stops : List ℕ → Type 0) : Type 0 where
+  pub hands : Hands becomes a b old new before after which ends
+  pub paced : Paced old hands.goes.passes.got hands.goes.events
+  pub stops_there : stops hands.goes.passes.got

@@ -7,8 +7,8 @@ use Rattle.pg_wire.specs.LinkCalls.{Keeps}
 use Rattle.pg_spec.specs.RawMessages.{messages}
 use Rattle.pg_connect.specs.Ends.{WasBlocked}
 use Rattle.pg_connect.specs.Passes.{Untouched}
-use Rattle.pg_connect.specs.Reads.{WasDry}
-use Rattle.pg_connect.specs.Startups.{Opening, Opened, Failed}
+use Rattle.pg_connect.specs.Reads.{WasDry, piece_size}
+use Rattle.pg_connect.specs.Startups.{IsFlushed, Opening, Opened, Failed}
 use Rattle.pg_errors.specs.declared.cause.Cause.TheVariants as cause
 use Rattle.pg_errors.specs.declared.error.Error.{Error}
 use Rattle.pg_errors.specs.declared.error.Error.TheVariants as error
@@ -23,7 +23,8 @@ pub record Sends (old new : Startup) (before after : LinkView) : Type 0 where
   pub out : old.unsent ≡ sent ++ new.unsent
   pub same : new ≡ record old { unsent = new.unsent; flushed = new.flushed; moved = new.moved }
   pub link : Keeps before after
-  pub flushes : new.flushed ≡ true → (old.flushed ≡ true) ⊎ (new.unsent ≡ [])
+  pub flushed : IsFlushed old before → IsFlushed new after
+  pub flag : old.flushed ≡ true → new.flushed ≡ true
   pub still : new.moved ≡ false → (old.moved ≡ false) × Untouched before after
   pub stirs : new.moved ≡ true → (old.moved ≡ true) ⊎ (length new.unsent < length old.unsent)
 
@@ -45,6 +46,7 @@ pub record Reads (old new : Startup) (before after : LinkView) : Type 0 where
   pub got : List ℕ
   pub given : Grew before.given after.given got
   pub taken : after.taken ≡ before.taken
+  pub flushed : after.flushed ≡ before.flushed
   pub buffer : new.buffer.items ≡ old.buffer.items ++ got
   pub count : new.given ≡ old.given + length got
   pub same : new ≡ record old { buffer = new.buffer; given = new.given; moved = new.moved }
@@ -58,7 +60,7 @@ PieceEnds old new before after (Ok false) = WasDry new.moved before after × (ne
 PieceEnds old new before after (Err (error.Io cause.Link)) = Rose before.faults after.faults
 PieceEnds old new before after (Err error.Closed) = Rose before.ends after.ends × (new.buffer.items ≡ [])
 PieceEnds old new before after (Err (error.Io cause.Ended)) = Rose before.ends after.ends × (0 < length new.buffer.items) × (new.buffer.items ≡ old.buffer.items)
-PieceEnds old new before after (Err (error.LimitReached given limit)) = (given ≡ new.given) × (limit ≡ new.max_bytes) × (limit < given)
+PieceEnds old new before after (Err (error.LimitReached given limit)) = (given ≡ new.given) × (limit ≡ new.max_bytes) × (limit < given) × (given ≤ limit + piece_size)
 PieceEnds old new before after (Err error.OutOfMemory) = Unit {0}
 PieceEnds old new before after (Err _) = ⊥
 

@@ -1,5 +1,5 @@
 -- Where a startup stands, and what its polls answer (PostgreSQL documentation, "Start-up").
-use Rattle.std.specs.Prelude.{◌≡◌, ◌≢◌, ℕ, zero, suc, ◌<◌, ◌≤◌, true, false, List, [], ◌∷◌, ◌++◌, length, Option, Some, None, Result, Ok, Err}
+use Rattle.std.specs.Prelude.{◌≡◌, ◌≢◌, ℕ, zero, suc, ◌+◌, ◌<◌, ◌≤◌, ◌⊎◌, true, false, IsTrue, List, [], ◌∷◌, ◌++◌, length, Option, Some, None, Result, Ok, Err}
 use Rattle.std.specs.List.{list_all}
 use Rattle.pg_spec.specs.Causes.{is_built, is_built_message}
 use Rattle.pg_spec.specs.ConnectionStrings.{only_user}
@@ -16,6 +16,7 @@ use Rattle.pg_wire.specs.declared.fault.WireFault.TheVariants as wire
 use Rattle.pg_errors.specs.declared.cause.Cause.TheVariants as cause
 use Rattle.pg_errors.specs.declared.error.Error.{Error}
 use Rattle.pg_errors.specs.declared.error.Error.TheVariants as error
+use Rattle.pg_connect.specs.Reads.{piece_size}
 use Rattle.pg_connect.specs.declared.startup.Phase.{Phase}
 use Rattle.pg_connect.specs.declared.startup.Phase.TheVariants as phase
 use Rattle.pg_spec.specs.Messages.{message_of, ReadyForQuery}
@@ -155,7 +156,12 @@ pub record Came (read : List RawMessage) (got buffer : List ℕ) : Type 0 where
   pub messages : messages got ≡ read ++ messages buffer
   pub left : bytes_left got ≡ bytes_left buffer
 
--- What the link gave and took since the startup began, and where the startup stands.
+-- a frame that is said to be flushed was taken whole, and the link was flushed behind it
+abbrev pub IsFlushed : Startup → LinkView → Type 0
+IsFlushed s link = s.flushed ≡ true → (s.unsent ≡ []) × IsTrue link.flushed
+
+-- What the link gave and took since the startup began, and where the startup stands. Nothing was read before
+-- the frame was flushed.
 pub record Opening (name nonce : List ℕ) (begin now : LinkView) (s : Startup) : Type 0 where
   pub got : List ℕ
   pub sent : List ℕ
@@ -166,10 +172,12 @@ pub record Opening (name nonce : List ℕ) (begin now : LinkView) (s : Startup) 
   pub out : sent ++ s.unsent ≡ s.opening.items
   pub frame : frame_of name ≡ Ok s.opening.items
   pub leads : Leads name nonce read (phase_of s.phase)
+  pub flushed : IsFlushed s now
+  pub behind : (got ≡ []) ⊎ (s.flushed ≡ true)
   pub count : s.given ≡ length got
   pub link : Keeps begin now
 
--- The startup is done: the frame was taken, and the messages up to ReadyForQuery were read.
+-- The startup is done: the frame was taken and flushed, and the messages up to ReadyForQuery were read.
 pub record Opened (name nonce : List ℕ) (begin now : LinkView) (s : Startup) : Type 0 where
   pub got : List ℕ
   pub read : List RawMessage
@@ -177,6 +185,7 @@ pub record Opened (name nonce : List ℕ) (begin now : LinkView) (s : Startup) :
   pub taken : Grew begin.taken now.taken s.opening.items
   pub came : Came read got s.buffer.items
   pub frame : frame_of name ≡ Ok s.opening.items
+  pub flushed : IsTrue now.flushed
   pub done : Ends name nonce read (startups.Done (length read))
   pub count : s.given ≡ length got
   pub within : s.given ≤ s.max_bytes
@@ -190,7 +199,7 @@ FailsBy name nonce begin now got s error.Closed = Rose begin.ends now.ends × (b
 FailsBy name nonce begin now got s (error.Io (cause.Wire wire.BadLength)) = has_bad_header (bytes_left got) ≡ true
 FailsBy name nonce begin now got s (error.Config cause.NotBuilt) = MeetsMore name nonce [] (messages got)
 FailsBy name nonce begin now got s error.UnexpectedMessage = MeetsRefused name nonce [] (messages got)
-FailsBy name nonce begin now got s (error.LimitReached given limit) = (given ≡ length got) × (limit ≡ s.max_bytes) × (limit < given)
+FailsBy name nonce begin now got s (error.LimitReached given limit) = (given ≡ length got) × (limit ≡ s.max_bytes) × (limit < given) × (given ≤ limit + piece_size)
 FailsBy name nonce begin now got s error.OutOfMemory = Unit {0}
 FailsBy name nonce begin now got s _ = ⊥
 
@@ -199,13 +208,14 @@ abbrev pub IsWithinStart : Error → (given limit : ℕ) → Type 0
 IsWithinStart (error.LimitReached counted most) given limit = Unit {0}
 IsWithinStart _ given limit = given ≤ limit
 
--- It failed: what the link gave and took, and why.
+-- It failed: what the link gave and took, and why. Nothing was read before the frame was flushed.
 pub record Failed (name nonce : List ℕ) (begin now : LinkView) (s : Startup) (e : Error) : Type 0 where
   pub got : List ℕ
   pub sent : List ℕ
   pub given : Grew begin.given now.given got
   pub taken : Grew begin.taken now.taken sent
   pub front : (rest : List ℕ) × (sent ++ rest ≡ s.opening.items)
+  pub behind : (got ≡ []) ⊎ ((sent ≡ s.opening.items) × IsTrue now.flushed)
   pub frame : frame_of name ≡ Ok s.opening.items
   pub link : Keeps begin now
   pub fails : FailsBy name nonce begin now got s e

@@ -139,6 +139,7 @@ impl Streams {
         ensures passes { (l : LinkView) → PassesOn self.old self.new l l [] (HandedLate result) }
         ensures end { LateEnds self.new result }
         ensures unread { self.new.unread ≡ None }
+        ensures buffer { self.new.buffer ≡ self.old.buffer }
         ensures given { self.new.given ≡ self.old.given }
         ensures limit { self.new.max_bytes ≡ self.old.max_bytes }
         ensures closing { self.new.closing ≡ self.old.closing }

@@ -2,6 +2,7 @@
 
 ghost use Rattle.std.specs.Prelude.{◌≡◌, ◌^◌, ◌<◌, ◌≤◌, false, option_map, slice_get};
 ghost use Rattle.pg_connect.specs.Kept.{value_of};
+ghost use Rattle.pg_spec.specs.Parameters.{NamesRise};
 ghost use Rattle.pg_wire.specs.LinkCalls.{Keeps, WaitAnswers};
 ghost use Rattle.pg_connect.specs.Answers.{PollAnswers, IsWithinPoll};
 
@@ -17,6 +18,8 @@ use std::alloc::Global;
 pub struct Connection<L> {
     pub link: L,
     pub streams: Streams,
+    ghost small: { streams.max_bytes < 2 ^ 63 },
+    ghost within: { streams.ended ≡ false → streams.given ≤ streams.max_bytes },
 }
 
 impl<L: Link> Connection<L> {
@@ -28,11 +31,8 @@ impl<L: Link> Connection<L> {
         alloc: Global,
         hub: &mut E,
     ) -> Poll<Option<Result<AsyncMessage, Error>>>
-        requires limit { self.old.streams.max_bytes < 2 ^ 63 }
-        requires given { self.old.streams.ended ≡ false → self.old.streams.given ≤ self.old.streams.max_bytes }
         ensures answer { PollAnswers E.becomes hub.old hub.new self.old.streams self.new.streams (L.view self.old.link) (L.view self.new.link) result }
         ensures limit { self.new.streams.max_bytes ≡ self.old.streams.max_bytes }
-        ensures given { self.new.streams.ended ≡ false → self.new.streams.given ≤ self.new.streams.max_bytes }
         ensures limit_kept { self.old.streams.ended ≡ false → IsWithinPoll self.new.streams result }
     {
         self.streams.poll_message(alloc, &mut self.link, hub)
@@ -48,7 +48,8 @@ impl<L: Link> Connection<L> {
     /// Name and value of the setting at place `i`, counted from 0, ascending by the name's bytes. None
     /// comes from their number on.
     pub fn parameter_at(&self, i: usize) -> Option<(&str, &str)>
-        ensures { option_map (λ pair. (pair.0.now, pair.1.now)) result ≡ slice_get self.now.streams.parameters i }
+        ensures at { option_map (λ pair. (pair.0.now, pair.1.now)) result ≡ slice_get self.now.streams.parameters i }
+        ensures rising { NamesRise self.now.streams.parameters }
     {
         self.streams.parameters.at(i)
     }

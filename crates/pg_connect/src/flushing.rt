@@ -1,7 +1,8 @@
 //! The flush step.
 
 ghost use Rattle.pg_wire.specs.LinkCalls.{Keeps};
-ghost use Rattle.pg_connect.specs.Calm.{StaysCalm};
+ghost use Rattle.std.specs.Prelude.{IsTrue};
+ghost use Rattle.pg_connect.specs.Calm.{MissesNone, MissesOne, StaysCalm};
 ghost use Rattle.pg_connect.specs.Passes.{Untouched};
 ghost use Rattle.pg_connect.specs.Polls.{FlushEnds};
 
@@ -9,12 +10,14 @@ use crate::{ConnectionFault, FlushEnd};
 use pg_wire::{Link, LinkStep};
 
 /// Flushes, and shuts the link down where the connection is closing.
-#[tactic(auto, using(crate::proofs::Calm::calm_then, crate::proofs::Calm::calm_call, crate::proofs::Calm::calm_more, crate::proofs::Calm::calm_same))]
+#[tactic(auto, using(crate::proofs::Calm::no_lulls))]
 pub(crate) fn flush_step<L: Link>(link: &mut L, closing: bool) -> Result<FlushEnd, ConnectionFault>
     ensures end { FlushEnds closing (L.view link.old) (L.view link.new) result }
     ensures untouched { Untouched (L.view link.old) (L.view link.new) }
     ensures keeps { Keeps (L.view link.old) (L.view link.new) }
-    ensures calm { StaysCalm (L.view link.old) (L.view link.new) }
+    ensures no_lull { StaysCalm (L.view link.old) (L.view link.new) }
+    ensures quiet { MissesOne (L.view link.old) (L.view link.new) }
+    ensures steady { IsTrue (L.view link.old).steady → MissesNone (L.view link.old) (L.view link.new) }
 {
     match link.flush() {
         LinkStep::Done => {}

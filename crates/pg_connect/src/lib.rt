@@ -18,7 +18,7 @@ mod turning;
 pub use connection::Connection;
 pub use ends::{FlushEnd, Off, PartsEnd, ReadEnd, SendEnd, Step, TurnEnd, WriteEnd};
 pub use fault::ConnectionFault;
-pub use laws::{history_of_a_connection, settled_poll};
+pub use laws::{history_of_a_connection, settings_of_a_connection, settled_poll};
 pub use parameters::Parameters;
 pub use startup::{Heard, Phase, Startup};
 pub use streams::{Held, Streams};

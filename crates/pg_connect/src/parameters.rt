@@ -2,6 +2,7 @@
 
 ghost use Rattle.std.specs.Prelude.{◌≡◌, [], string_bytes, MatchResult, map, option_map, slice_get};
 ghost use Rattle.pg_connect.specs.Kept.{keep, value_of};
+ghost use Rattle.pg_spec.specs.Parameters.{NamesRise};
 
 use pg_types::OutOfMemory;
 use std::alloc::Global;
@@ -16,10 +17,13 @@ pub struct Parameters {
 
 impl Model for Parameters {
     ghost use Rattle.std.specs.Prelude.{List, ℕ, map, string_bytes};
+    ghost use Rattle.pg_spec.specs.Parameters.{NamesRise};
 
     ghost Value = { List (List ℕ × List ℕ) };
 
     ghost view = { λ p. map (λ entry. (string_bytes entry.0, string_bytes entry.1)) p.last.entries };
+
+    ghost invariant = { λ p. NamesRise (map (λ entry. (string_bytes entry.0, string_bytes entry.1)) p.last.entries) };
 }
 
 impl Parameters {
@@ -61,7 +65,8 @@ impl Parameters {
 
     /// Name and value at place `i`, counted from 0. None comes from their number on.
     pub fn at(&self, i: usize) -> Option<(&str, &str)>
-        ensures { option_map (λ pair. (pair.0.now, pair.1.now)) result ≡ slice_get self.now i }
+        ensures at { option_map (λ pair. (pair.0.now, pair.1.now)) result ≡ slice_get self.now i }
+        ensures rising { NamesRise self.now }
     {
         let mut place = 0;
         for (name, value) in &self.last {

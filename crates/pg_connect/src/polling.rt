@@ -1,7 +1,7 @@
 //! One poll of the connection.
 
 ghost use Rattle.std.specs.Prelude.{◌≡◌, ◌^◌, ◌<◌, ◌≤◌, true, false, [], ◌∷◌};
-ghost use Rattle.pg_connect.specs.Calm.{StaysCalm};
+ghost use Rattle.pg_connect.specs.Calm.{MissesFew, StaysCalm};
 ghost use Rattle.pg_connect.specs.Answers.{PollAnswers, IsWithinPoll, is_over};
 ghost use Rattle.pg_desk.specs.declared.event.Event.TheVariants.{Fail};
 
@@ -36,7 +36,7 @@ impl Streams {
 
     /// Reads, writes and flushes. Its end (`None`) or an error is answered once, and Closed from then on;
     /// an error makes the hub fail. The errors are those of `ConnectionFault`.
-    #[tactic(auto, using(crate::proofs::Calm::calm_then, crate::proofs::Calm::calm_call, crate::proofs::Calm::calm_more, crate::proofs::Calm::calm_same))]
+    #[tactic(auto, using(crate::proofs::Calm::no_lulls))]
     pub fn poll_message<L: Link, E: Engine>(
         &mut self,
         alloc: Global,
@@ -49,7 +49,8 @@ impl Streams {
         ensures limit { self.new.max_bytes ≡ self.old.max_bytes }
         ensures given { self.new.ended ≡ false → self.new.given ≤ self.new.max_bytes }
         ensures limit_kept { self.old.ended ≡ false → IsWithinPoll self.new result }
-        ensures calm { StaysCalm (L.view link.old) (L.view link.new) }
+        ensures no_lull { StaysCalm (L.view link.old) (L.view link.new) }
+        ensures quiet { MissesFew (L.view link.old) (L.view link.new) }
     {
         let over = self.is_over();
         self.begin();

@@ -1,11 +1,11 @@
 //! The read step: messages come off the bytes of the link and are passed on.
 
-ghost use Rattle.std.specs.Prelude.{◌≡◌, ◌^◌, ◌<◌, ◌≤◌, ◌++◌, ◌+◌, [], true, None, Some, length, OnOk};
+ghost use Rattle.std.specs.Prelude.{◌≡◌, ◌^◌, ◌<◌, ◌≤◌, ◌++◌, ◌+◌, [], true, None, Some, Ok, length, OnOk};
 ghost use Rattle.pg_spec.specs.Batches.{is_batch};
 ghost use Rattle.pg_spec.specs.Links.{LinkView};
-ghost use Rattle.pg_connect.specs.Calm.{StaysCalm};
+ghost use Rattle.pg_connect.specs.Calm.{MissesNone, MissesOne, StaysCalm};
 ghost use Rattle.pg_connect.specs.Passes.{Passes, PassesOn, Goes, Hands, OnlyReads, risen, waiting};
-ghost use Rattle.pg_connect.specs.Reads.{IsUnasked, HandedOff, OffEnds, DeliverEnds, HandedIn, PassEnds, IsWithin, HandedAll, AllEnds, PieceEnds, HandedBy, ReadEnds};
+ghost use Rattle.pg_connect.specs.Reads.{IsUnasked, HandedOff, OffEnds, DeliverEnds, HandedIn, PassEnds, IsWithin, HandedAll, AllEnds, PieceEnds, HandedBy, ReadEnds, ReadStops, ReadsOn, piece_size};
 
 use crate::asides::unasked;
 use crate::{ConnectionFault, Held, Off, ReadEnd, Step, Streams};
@@ -14,7 +14,7 @@ use pg_wire::{BackendMessage, BackendMessages, Link, LinkRead, PostgresCodec, Wi
 use std::alloc::Global;
 
 /// How many bytes are read at once, at most.
-const PIECE: usize = 8192;
+pub(crate) const PIECE: usize = 8192;
 
 impl Streams {
     /// Holds a batch until it can be delivered.
@@ -145,7 +145,7 @@ impl Streams {
         requires held { self.old.held ≡ None }
         requires delayed { self.old.delayed.items ≡ [] }
         requires unread { self.old.unread ≡ None }
-        ensures goes { (l : LinkView) → Hands E.becomes hub.old hub.new self.old self.new l l (HandedAll result) (AllEnds self.new result) }
+        ensures goes { (l : LinkView) → Hands E.becomes hub.old hub.new self.old self.new l l (HandedAll result) (AllEnds self.old self.new result) }
         ensures delayed { self.new.delayed.items ≡ [] }
         ensures unread { OnOk result (self.new.unread ≡ None) }
         ensures closing { self.new.closing ≡ self.old.closing }
@@ -173,7 +173,7 @@ impl Streams {
     }
 
     /// Reads a piece of the link into the buffer. `false`: the link isn't ready.
-    #[tactic(auto, using(crate::proofs::Calm::calm_then, crate::proofs::Calm::calm_call, crate::proofs::Calm::calm_more, crate::proofs::Calm::calm_same))]
+    #[tactic(auto, using(crate::proofs::Calm::no_lulls))]
     pub(crate) fn read_piece<L: Link>(&mut self, link: &mut L) -> Result<bool, ConnectionFault>
         requires limit { self.old.max_bytes < 2 ^ 63 }
         requires given { self.old.given ≤ self.old.max_bytes }
@@ -186,7 +186,10 @@ impl Streams {
         ensures unread { self.new.unread ≡ None }
         ensures within { IsWithin self.new result }
         ensures at_end { OnOk result (self.new.at_end ≡ self.old.at_end) }
-        ensures calm { StaysCalm (L.view link.old) (L.view link.new) }
+        ensures piece { self.new.given ≤ self.old.given + piece_size }
+        ensures no_lull { StaysCalm (L.view link.old) (L.view link.new) }
+        ensures quiet { MissesOne (L.view link.old) (L.view link.new) }
+        ensures ready { result ≡ Ok true → MissesNone (L.view link.old) (L.view link.new) }
     {
         match self.buffer.reserve(PIECE) {
             Ok(()) => {}
@@ -219,7 +222,7 @@ impl Streams {
     }
 
     /// Reads piece after piece, with all that came passed on before the next read.
-    #[tactic(auto, using(crate::proofs::Calm::calm_then, crate::proofs::Calm::calm_call, crate::proofs::Calm::calm_more, crate::proofs::Calm::calm_same))]
+    #[tactic(auto, using(crate::proofs::Calm::no_lulls))]
     pub(crate) fn read_link<L: Link, E: Engine>(
         &mut self,
         alloc: Global,
@@ -231,13 +234,14 @@ impl Streams {
         requires held { self.old.held ≡ None }
         requires delayed { self.old.delayed.items ≡ [] }
         requires unread { self.old.unread ≡ None }
-        ensures goes { Hands E.becomes hub.old hub.new self.old self.new (L.view link.old) (L.view link.new) (HandedBy result)
-            (ReadEnds self.new (L.view link.old) (L.view link.new) result) }
+        ensures goes { ReadsOn E.becomes hub.old hub.new self.old self.new (L.view link.old) (L.view link.new) (HandedBy result)
+            (ReadEnds self.new (L.view link.old) (L.view link.new) result) (ReadStops self.old self.new result) }
         ensures only { OnlyReads self.old self.new (L.view link.old) (L.view link.new) }
         ensures unread { OnOk result (self.new.unread ≡ None) }
         ensures within { IsWithin self.new result }
         ensures at_end { OnOk result (self.new.at_end ≡ self.old.at_end) }
-        ensures calm { StaysCalm (L.view link.old) (L.view link.new) }
+        ensures no_lull { StaysCalm (L.view link.old) (L.view link.new) }
+        ensures quiet { MissesOne (L.view link.old) (L.view link.new) }
     {
         'pieces: loop {
             match self.pass_all(alloc, hub) {
@@ -255,7 +259,7 @@ impl Streams {
     }
 
     /// The read step: what is delayed and held first, then the link.
-    #[tactic(auto, using(crate::proofs::Calm::calm_then, crate::proofs::Calm::calm_call, crate::proofs::Calm::calm_more, crate::proofs::Calm::calm_same))]
+    #[tactic(auto, using(crate::proofs::Calm::no_lulls))]
     pub(crate) fn read_step<L: Link, E: Engine>(
         &mut self,
         alloc: Global,
@@ -265,13 +269,14 @@ impl Streams {
         requires limit { self.old.max_bytes < 2 ^ 63 }
         requires given { self.old.given ≤ self.old.max_bytes }
         requires unread { self.old.unread ≡ None }
-        ensures goes { Hands E.becomes hub.old hub.new self.old self.new (L.view link.old) (L.view link.new) (HandedBy result)
-            (ReadEnds self.new (L.view link.old) (L.view link.new) result) }
+        ensures goes { ReadsOn E.becomes hub.old hub.new self.old self.new (L.view link.old) (L.view link.new) (HandedBy result)
+            (ReadEnds self.new (L.view link.old) (L.view link.new) result) (ReadStops self.old self.new result) }
         ensures only { OnlyReads self.old self.new (L.view link.old) (L.view link.new) }
         ensures unread { OnOk result (self.new.unread ≡ None) }
         ensures within { IsWithin self.new result }
         ensures at_end { OnOk result (self.new.at_end ≡ self.old.at_end) }
-        ensures calm { StaysCalm (L.view link.old) (L.view link.new) }
+        ensures no_lull { StaysCalm (L.view link.old) (L.view link.new) }
+        ensures quiet { MissesOne (L.view link.old) (L.view link.new) }
     {
         match self.hand_delayed(alloc) {
             Ok(None) => {}

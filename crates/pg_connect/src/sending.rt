@@ -1,8 +1,8 @@
 //! The write step: parts go out of the hub and are offered to the link.
 
-ghost use Rattle.std.specs.Prelude.{◌≡◌, ◌≤◌, [], true, false, None, length, drop};
+ghost use Rattle.std.specs.Prelude.{◌≡◌, ◌≤◌, [], true, false, IsTrue, None, Ok, length, drop};
 ghost use Rattle.pg_spec.specs.Frames.{terminate_frame};
-ghost use Rattle.pg_connect.specs.Calm.{StaysCalm};
+ghost use Rattle.pg_connect.specs.Calm.{MissesNone, MissesOne, StaysCalm};
 ghost use Rattle.pg_connect.specs.Passes.{Passes, Goes, OnlySends};
 ghost use Rattle.pg_connect.specs.Ends.{OfferEnds, PartsEnds, Written};
 
@@ -26,14 +26,17 @@ impl Streams {
     }
 
     /// Offers what is unsent until nothing is left (`true`), or until the link isn't ready (`false`).
-    #[tactic(auto, using(crate::proofs::Calm::calm_then, crate::proofs::Calm::calm_call, crate::proofs::Calm::calm_more, crate::proofs::Calm::calm_same))]
+    #[tactic(auto, using(crate::proofs::Calm::no_lulls))]
     pub(crate) fn offer<L: Link>(&mut self, link: &mut L) -> Result<bool, ConnectionFault>
         requires { self.old.unread ≡ None }
         ensures passes { Passes self.old self.new (L.view link.old) (L.view link.new) [] [] }
         ensures end { OfferEnds self.new (L.view link.old) (L.view link.new) result }
         ensures closing { self.new.closing ≡ self.old.closing }
         ensures only { OnlySends self.old self.new (L.view link.old) (L.view link.new) }
-        ensures calm { StaysCalm (L.view link.old) (L.view link.new) }
+        ensures no_lull { StaysCalm (L.view link.old) (L.view link.new) }
+        ensures quiet { MissesOne (L.view link.old) (L.view link.new) }
+        ensures ready { result ≡ Ok true → MissesNone (L.view link.old) (L.view link.new) }
+        ensures steady { IsTrue (L.view link.old).steady → MissesNone (L.view link.old) (L.view link.new) }
     {
         while !self.unsent.is_empty() {
             match link.write(self.unsent.as_slice()) {
@@ -55,7 +58,7 @@ impl Streams {
     }
 
     /// Takes part after part out of the hub, each once the one before was taken by the link.
-    #[tactic(auto, using(crate::proofs::Calm::calm_then, crate::proofs::Calm::calm_call, crate::proofs::Calm::calm_more, crate::proofs::Calm::calm_same))]
+    #[tactic(auto, using(crate::proofs::Calm::no_lulls))]
     pub(crate) fn send_parts<L: Link, E: Engine>(
         &mut self,
         link: &mut L,
@@ -67,7 +70,11 @@ impl Streams {
             (PartsEnds self.new (L.view link.old) (L.view link.new) result) }
         ensures closing { self.new.closing ≡ false }
         ensures only { OnlySends self.old self.new (L.view link.old) (L.view link.new) }
-        ensures calm { StaysCalm (L.view link.old) (L.view link.new) }
+        ensures no_lull { StaysCalm (L.view link.old) (L.view link.new) }
+        ensures quiet { MissesOne (L.view link.old) (L.view link.new) }
+        ensures waits { result ≡ Ok PartsEnd.Waits → MissesNone (L.view link.old) (L.view link.new) }
+        ensures no_more { result ≡ Ok PartsEnd.NoMore → MissesNone (L.view link.old) (L.view link.new) }
+        ensures steady { IsTrue (L.view link.old).steady → MissesNone (L.view link.old) (L.view link.new) }
     {
         'parts: loop {
             match self.offer(link) {
@@ -100,7 +107,10 @@ impl Streams {
         ensures end { Written self.old self.new (L.view link.old) (L.view link.new) false result [] }
         ensures closing { self.new.closing ≡ true }
         ensures only { OnlySends self.old self.new (L.view link.old) (L.view link.new) }
-        ensures calm { StaysCalm (L.view link.old) (L.view link.new) }
+        ensures no_lull { StaysCalm (L.view link.old) (L.view link.new) }
+        ensures quiet { MissesOne (L.view link.old) (L.view link.new) }
+        ensures ready { result ≡ Ok WriteEnd.AllTaken → MissesNone (L.view link.old) (L.view link.new) }
+        ensures steady { IsTrue (L.view link.old).steady → MissesNone (L.view link.old) (L.view link.new) }
     {
         match self.offer(link) {
             Ok(true) => Ok(WriteEnd::AllTaken),
@@ -111,7 +121,7 @@ impl Streams {
 
     /// The write step: sends until the link isn't ready or the hub has no part. Where it may close and
     /// nothing more will come, Terminate is sent too.
-    #[tactic(auto, using(crate::proofs::Calm::calm_then, crate::proofs::Calm::calm_call, crate::proofs::Calm::calm_more, crate::proofs::Calm::calm_same))]
+    #[tactic(auto, using(crate::proofs::Calm::no_lulls))]
     pub(crate) fn write_step<L: Link, E: Engine>(
         &mut self,
         link: &mut L,
@@ -122,7 +132,10 @@ impl Streams {
         ensures goes { Goes E.becomes hub.old hub.new self.old self.new (L.view link.old) (L.view link.new) []
             (Written self.old self.new (L.view link.old) (L.view link.new) may_close result) }
         ensures only { OnlySends self.old self.new (L.view link.old) (L.view link.new) }
-        ensures calm { StaysCalm (L.view link.old) (L.view link.new) }
+        ensures no_lull { StaysCalm (L.view link.old) (L.view link.new) }
+        ensures quiet { MissesOne (L.view link.old) (L.view link.new) }
+        ensures ready { result ≡ Ok WriteEnd.AllTaken → MissesNone (L.view link.old) (L.view link.new) }
+        ensures steady { IsTrue (L.view link.old).steady → MissesNone (L.view link.old) (L.view link.new) }
     {
         if self.closing {
             return self.offer_last(link);

@@ -3,7 +3,7 @@
 
 ghost use Rattle.std.specs.Prelude.{◌≡◌, ◌≤◌, ◌<◌, ◌^◌, ◌++◌, ◌∷◌, [], ℕ, List, Ok, Err, length, true, false, IfErr, IfOk, MatchResult, OnOk};
 ghost use Rattle.std.specs.Prelude.{Bool, drop, ◌+◌};
-ghost use Rattle.pg_connect.specs.Calm.{StaysCalm};
+ghost use Rattle.pg_connect.specs.Calm.{MissesNone, MissesOne, StaysCalm};
 ghost use Rattle.pg_connect.specs.StartupPolls.{GoesOn, IsNearer, Listens, Sends, SentEnds, OfferEnds, Reads, PieceEnds, StartupAnswers, SameStart, IsFresh};
 ghost use Rattle.pg_spec.specs.Batches.{is_batch};
 ghost use Rattle.pg_spec.specs.Links.{LinkView};
@@ -13,6 +13,7 @@ ghost use Rattle.pg_spec.specs.RawMessages.{RawMessage};
 ghost use Rattle.pg_wire.specs.Messages.{message_view};
 ghost use Rattle.pg_connect.specs.Startups.{Made, Leads, LeavesNone, Hears, HearsAll, refusal_of, stop_of, Judges, IsKnown, IsLast, WasLast, IsWithinStart, Opening, Opened, Failed, phase_of};
 
+use crate::reading::PIECE;
 use crate::{Parameters, Streams};
 use bytes::{Bytes, BytesMut};
 use futures::task::Poll;
@@ -24,9 +25,6 @@ use pg_wire::{
 };
 use std::alloc::Global;
 use std::collections::VecDeque;
-
-/// How many bytes are read at a time.
-const PIECE: usize = 8192;
 
 /// What the startup waits for.
 #[derive(Clone, Copy, Debug, PartialEq, Eq, Drop)]
@@ -140,11 +138,11 @@ impl Startup {
         match judge(self.phase, message) {
             Judgement::Next(phase) => {
                 self.phase = phase;
-                return Ok(Heard::More);
+                Ok(Heard::More)
             }
-            Judgement::Done => return Ok(Heard::Done),
-            Judgement::Unexpected => return Err(Error::UnexpectedMessage),
-            Judgement::NotBuilt => return Err(Error::Config(Cause::NotBuilt)),
+            Judgement::Done => Ok(Heard::Done),
+            Judgement::Unexpected => Err(Error::UnexpectedMessage),
+            Judgement::NotBuilt => Err(Error::Config(Cause::NotBuilt)),
         }
     }
 
@@ -205,11 +203,13 @@ impl Startup {
     }
 
     /// Offers what is unsent until nothing is left (`true`), or until the link isn't ready (`false`).
-    #[tactic(auto, using(crate::proofs::Calm::calm_then, crate::proofs::Calm::calm_call, crate::proofs::Calm::calm_more, crate::proofs::Calm::calm_same))]
+    #[tactic(auto, using(crate::proofs::Calm::no_lulls))]
     fn offer<L: Link>(&mut self, link: &mut L) -> Result<bool, Error>
         ensures sends { Sends self.old self.new (L.view link.old) (L.view link.new) }
         ensures end { OfferEnds self.new (L.view link.old) (L.view link.new) result }
-        ensures calm { StaysCalm (L.view link.old) (L.view link.new) }
+        ensures no_lull { StaysCalm (L.view link.old) (L.view link.new) }
+        ensures quiet { MissesOne (L.view link.old) (L.view link.new) }
+        ensures ready { result ≡ Ok true → MissesNone (L.view link.old) (L.view link.new) }
     {
         while !self.unsent.is_empty() {
             match link.write(self.unsent.as_slice()) {
@@ -223,11 +223,13 @@ impl Startup {
     }
 
     /// Passes the frame on once it was taken whole. `false`: the link isn't ready.
-    #[tactic(auto, using(crate::proofs::Calm::calm_then, crate::proofs::Calm::calm_call, crate::proofs::Calm::calm_more, crate::proofs::Calm::calm_same, crate::proofs::Joining::keeps_same))]
+    #[tactic(auto, using(crate::proofs::Calm::no_lulls, crate::proofs::Joining::keeps_same))]
     fn send<L: Link>(&mut self, link: &mut L) -> Result<bool, Error>
         ensures sends { Sends self.old self.new (L.view link.old) (L.view link.new) }
         ensures end { SentEnds self.new (L.view link.old) (L.view link.new) result }
-        ensures calm { StaysCalm (L.view link.old) (L.view link.new) }
+        ensures no_lull { StaysCalm (L.view link.old) (L.view link.new) }
+        ensures quiet { MissesOne (L.view link.old) (L.view link.new) }
+        ensures ready { result ≡ Ok true → MissesNone (L.view link.old) (L.view link.new) }
     {
         if self.flushed && self.unsent.is_empty() {
             return Ok(true);
@@ -240,10 +242,10 @@ impl Startup {
         match link.flush() {
             LinkStep::Done => {
                 self.flushed = true;
-                return Ok(true);
+                Ok(true)
             }
-            LinkStep::NotReady => return Ok(false),
-            LinkStep::Failed => return Err(Error::Io(Cause::Link)),
+            LinkStep::NotReady => Ok(false),
+            LinkStep::Failed => Err(Error::Io(Cause::Link)),
         }
     }
 
@@ -260,14 +262,16 @@ impl Startup {
     }
 
     /// Reads a piece of the link into the buffer. `false`: the link isn't ready.
-    #[tactic(auto, using(crate::proofs::Calm::calm_then, crate::proofs::Calm::calm_call, crate::proofs::Calm::calm_more, crate::proofs::Calm::calm_same, crate::proofs::Joining::keeps_same))]
+    #[tactic(auto, using(crate::proofs::Calm::no_lulls, crate::proofs::Joining::keeps_same))]
     fn read_piece<L: Link>(&mut self, link: &mut L) -> Result<bool, Error>
         requires limit { self.old.max_bytes < 2 ^ 63 }
         requires given { self.old.given ≤ self.old.max_bytes }
         ensures reads { Reads self.old self.new (L.view link.old) (L.view link.new) }
         ensures end { PieceEnds self.old self.new (L.view link.old) (L.view link.new) result }
         ensures within { IfErr result (λ e. IsWithinStart e self.new.given self.new.max_bytes) }
-        ensures calm { StaysCalm (L.view link.old) (L.view link.new) }
+        ensures no_lull { StaysCalm (L.view link.old) (L.view link.new) }
+        ensures quiet { MissesOne (L.view link.old) (L.view link.new) }
+        ensures ready { result ≡ Ok true → MissesNone (L.view link.old) (L.view link.new) }
     {
         if self.buffer.reserve(PIECE).is_err() {
             return Err(Error::OutOfMemory);
@@ -282,22 +286,23 @@ impl Startup {
                         limit: self.max_bytes,
                     });
                 }
-                return Ok(true);
+                Ok(true)
             }
-            LinkRead::NotReady => return Ok(false),
+            LinkRead::NotReady => Ok(false),
             LinkRead::End => {
                 self.moved = true;
                 if self.buffer.is_empty() {
-                    return Err(Error::Closed);
+                    Err(Error::Closed)
+                } else {
+                    Err(Error::Io(Cause::Ended))
                 }
-                return Err(Error::Io(Cause::Ended));
             }
-            LinkRead::Failed => return Err(Error::Io(Cause::Link)),
+            LinkRead::Failed => Err(Error::Io(Cause::Link)),
         }
     }
 
     /// Hears what comes until the startup answers or the link isn't ready.
-    #[tactic(auto, using(crate::proofs::Calm::calm_then, crate::proofs::Calm::calm_call, crate::proofs::Calm::calm_more, crate::proofs::Calm::calm_same))]
+    #[tactic(auto, using(crate::proofs::Calm::no_lulls))]
     fn listen<L: Link>(&mut self, link: &mut L) -> Poll<Result<(), Error>>
         requires limit { self.old.max_bytes < 2 ^ 63 }
         requires given { self.old.given ≤ self.old.max_bytes }
@@ -310,7 +315,8 @@ impl Startup {
         ensures listens { OnPending result (Listens self.old self.new) }
         ensures within { OnPending result (self.new.given ≤ self.new.max_bytes) }
         ensures same { SameStart self.old self.new }
-        ensures calm { StaysCalm (L.view link.old) (L.view link.new) }
+        ensures no_lull { StaysCalm (L.view link.old) (L.view link.new) }
+        ensures quiet { MissesOne (L.view link.old) (L.view link.new) }
     {
         'pieces: loop {
             match self.hear_all() {
@@ -328,7 +334,7 @@ impl Startup {
 
     /// Sends the startup frame, passes it on, and reads up to the server's first ReadyForQuery. Pending
     /// comes only where a call of the link wasn't ready. A poll in which something moved leaves less to do.
-    #[tactic(auto, using(crate::proofs::Calm::calm_then, crate::proofs::Calm::calm_call, crate::proofs::Calm::calm_more, crate::proofs::Calm::calm_same))]
+    #[tactic(auto, using(crate::proofs::Calm::no_lulls))]
     pub fn poll<L: Link>(&mut self, link: &mut L) -> Poll<Result<(), Error>>
         requires limit { self.old.max_bytes < 2 ^ 63 }
         requires given { self.old.given ≤ self.old.max_bytes }
@@ -338,7 +344,8 @@ impl Startup {
         ensures nearer { OnPending result (IsNearer self.old self.new) }
         ensures within { OnPending result (self.new.given ≤ self.new.max_bytes) }
         ensures same { SameStart self.old self.new }
-        ensures calm { StaysCalm (L.view link.old) (L.view link.new) }
+        ensures no_lull { StaysCalm (L.view link.old) (L.view link.new) }
+        ensures quiet { MissesOne (L.view link.old) (L.view link.new) }
     {
         self.moved = false;
         match self.send(link) {

@@ -1,7 +1,7 @@
 //! A turn: read, write, flush.
 
-ghost use Rattle.std.specs.Prelude.{◌≡◌, ◌^◌, ◌<◌, ◌≤◌, [], true, false, None, OnOk};
-ghost use Rattle.pg_connect.specs.Calm.{StaysCalm};
+ghost use Rattle.std.specs.Prelude.{◌≡◌, ◌^◌, ◌<◌, ◌≤◌, [], true, false, IsTrue, None, OnOk};
+ghost use Rattle.pg_connect.specs.Calm.{MissesFew, MissesNone, MissesOne, StaysCalm};
 ghost use Rattle.pg_connect.specs.Passes.{Goes, OnlySends};
 ghost use Rattle.pg_connect.specs.Polls.{Sends, Turns};
 ghost use Rattle.pg_connect.specs.Reads.{IsWithin};
@@ -14,7 +14,7 @@ use std::alloc::Global;
 
 impl Streams {
     /// The write step, and the flush step where nothing is unsent.
-    #[tactic(auto, using(crate::proofs::Calm::calm_then, crate::proofs::Calm::calm_call, crate::proofs::Calm::calm_more, crate::proofs::Calm::calm_same))]
+    #[tactic(auto, using(crate::proofs::Calm::no_lulls))]
     pub(crate) fn send<L: Link, E: Engine>(
         &mut self,
         link: &mut L,
@@ -25,7 +25,9 @@ impl Streams {
         ensures goes { Goes E.becomes hub.old hub.new self.old self.new (L.view link.old) (L.view link.new) []
             (Sends self.old self.new (L.view link.old) (L.view link.new) may_close result) }
         ensures only { OnlySends self.old self.new (L.view link.old) (L.view link.new) }
-        ensures calm { StaysCalm (L.view link.old) (L.view link.new) }
+        ensures no_lull { StaysCalm (L.view link.old) (L.view link.new) }
+        ensures quiet { MissesOne (L.view link.old) (L.view link.new) }
+        ensures steady { IsTrue (L.view link.old).steady → MissesNone (L.view link.old) (L.view link.new) }
     {
         match self.write_step(link, hub, may_close) {
             Ok(WriteEnd::AllTaken) => {}
@@ -52,7 +54,9 @@ impl Streams {
         ensures unread { self.new.unread ≡ None }
         ensures at_end { self.new.at_end ≡ self.old.at_end }
         ensures within { self.new.given ≡ self.old.given }
-        ensures calm { StaysCalm (L.view link.old) (L.view link.new) }
+        ensures no_lull { StaysCalm (L.view link.old) (L.view link.new) }
+        ensures quiet { MissesOne (L.view link.old) (L.view link.new) }
+        ensures steady { IsTrue (L.view link.old).steady → MissesNone (L.view link.old) (L.view link.new) }
     {
         match self.send(link, hub, false) {
             Ok(SendEnd::Waits) => Ok(TurnEnd::Waits),
@@ -62,7 +66,7 @@ impl Streams {
     }
 
     /// A turn: reads where the connection isn't closing, writes and flushes.
-    #[tactic(auto, using(crate::proofs::Calm::calm_then, crate::proofs::Calm::calm_call, crate::proofs::Calm::calm_more, crate::proofs::Calm::calm_same))]
+    #[tactic(auto, using(crate::proofs::Calm::no_lulls))]
     pub(crate) fn turn<L: Link, E: Engine>(
         &mut self,
         alloc: Global,
@@ -76,7 +80,8 @@ impl Streams {
         ensures unread { OnOk result (self.new.unread ≡ None) }
         ensures at_end { OnOk result (self.new.at_end ≡ self.old.at_end) }
         ensures within { IsWithin self.new result }
-        ensures calm { StaysCalm (L.view link.old) (L.view link.new) }
+        ensures no_lull { StaysCalm (L.view link.old) (L.view link.new) }
+        ensures quiet { MissesFew (L.view link.old) (L.view link.new) }
     {
         if self.closing {
             return self.close_turn(link, hub);

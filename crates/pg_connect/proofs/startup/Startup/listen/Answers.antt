@@ -16,7 +16,7 @@ pub returns-in-Ok-Done-clause-answer : goal.returns-in-Ok-Done-clause-answer
 returns-in-Ok-Done-clause-answer g c name nonce begin at =
     let o = c.pieces.invariant.opening name nonce begin at in
     opening-done name nonce begin (g.L.Link.view c.pieces.link) c.pieces.self c.hear_all.new.self o c.hear_all.ensures.same
-    (ap (λ s. s.unsent) c.pieces.invariant.same ∙ c.requires.sent) c.pieces.invariant.within
+    (ap (λ s. s.unsent) c.pieces.invariant.same ∙ c.requires.sent) (ap (λ s. s.flushed) c.pieces.invariant.same ∙ c.requires.flushed) c.pieces.invariant.within
     (rw c.in-Ok-Done.field-0-is at (c.in-Ok-Done.ensures.heard name nonce o.read o.leads))
 
 pub returns-in-Err-clause-answer : goal.returns-in-Err-clause-answer
@@ -49,8 +49,10 @@ pieces-preserved g c = record {
       let v = g.L.Link.view c.pieces.link in
       let h = rw c.in-Ok-More.field-0-is at (c.in-Ok-More.ensures.heard name nonce o.read o.leads) in
       opening-reads name nonce begin v _ t c.read_piece.new.self
-      (opening-heard name nonce begin v c.pieces.self t o c.hear_all.ensures.same h) c.in-Ok-true.ensures.reads;
-  calm = calm_then _ _ _ c.pieces.invariant.calm c.in-Ok-true.ensures.calm;
+      (opening-heard name nonce begin v c.pieces.self t o c.hear_all.ensures.same h)
+      (ap (λ (x : Startup). x.flushed) c.hear_all.ensures.same ∙ ap (λ (x : Startup). x.flushed) c.pieces.invariant.same ∙ c.requires.flushed) c.in-Ok-true.ensures.reads;
+  calm = calm_then _ _ _ c.pieces.invariant.calm c.in-Ok-true.ensures.no_lull;
+  quiet = c.in-Ok-true.ensures.ready (ap (λ (b : Bool). Ok b) c.in-Ok-true.field-0-test) ∙ c.pieces.invariant.quiet;
 }
 
 pub returns-in-Ok-false-clause-answer : goal.returns-in-Ok-false-clause-answer
@@ -60,7 +62,8 @@ returns-in-Ok-false-clause-answer g c name nonce begin at =
     let v = g.L.Link.view c.pieces.link in
     let h = rw c.in-Ok-More.field-0-is at (c.in-Ok-More.ensures.heard name nonce o.read o.leads) in
     opening-reads name nonce begin v _ t c.read_piece.new.self
-    (opening-heard name nonce begin v c.pieces.self t o c.hear_all.ensures.same h) c.in-Ok-false.ensures.reads
+    (opening-heard name nonce begin v c.pieces.self t o c.hear_all.ensures.same h)
+    (ap (λ (x : Startup). x.flushed) c.hear_all.ensures.same ∙ ap (λ (x : Startup). x.flushed) c.pieces.invariant.same ∙ c.requires.flushed) c.in-Ok-false.ensures.reads
 
 pub returns-in-Err-read_piece-clause-answer : goal.returns-in-Err-read_piece-clause-answer
 returns-in-Err-read_piece-clause-answer g c name nonce begin at =
@@ -70,7 +73,8 @@ returns-in-Err-read_piece-clause-answer g c name nonce begin at =
     let v = g.L.Link.view c.pieces.link in
     let w = g.L.Link.view c.read_piece.new.link in
     let h = rw c.in-Ok-More.field-0-is at (c.in-Ok-More.ensures.heard name nonce o.read o.leads) in
-    let r = opening-reads name nonce begin v w t u (opening-heard name nonce begin v c.pieces.self t o c.hear_all.ensures.same h) c.in-Err-read_piece.ensures.reads in
+    let r = opening-reads name nonce begin v w t u (opening-heard name nonce begin v c.pieces.self t o c.hear_all.ensures.same h)
+    (ap (λ (x : Startup). x.flushed) c.hear_all.ensures.same ∙ ap (λ (x : Startup). x.flushed) c.pieces.invariant.same ∙ c.requires.flushed) c.in-Err-read_piece.ensures.reads in
     opening-failed name nonce begin w u u c.in-Err-read_piece.error r refl
     (piece-fails name nonce begin v w t u c.in-Err-read_piece.error r o.link h.whole h.header c.in-Err-read_piece.ensures.end)
     (subst (λ (n : ℕ). IsWithinStart c.in-Err-read_piece.error n u.max_bytes) r.count c.in-Err-read_piece.ensures.within)

@@ -17,6 +17,7 @@ invariant-pieces g l = record {
   opening : (name nonce : List ℕ) (begin : LinkView) → Opening name nonce begin (g.L.Link.view l.initial.link) l.initial.self →
       Opening name nonce begin (g.L.Link.view l.link) l.self;
   calm : StaysCalm (g.L.Link.view l.initial.link) (g.L.Link.view l.link);
+  quiet : (g.L.Link.view l.link).quiet ≡ (g.L.Link.view l.initial.link).quiet;
 }
 
 abbrev pub decreases-pieces : goal.decreases-pieces

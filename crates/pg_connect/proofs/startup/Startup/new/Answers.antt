@@ -6,4 +6,4 @@ use Rattle.pg_connect.proofs.startup.Startup.new.Goals as goal
 pub returns-clause-fresh : goal.returns-clause-fresh
 returns-clause-fresh c nonce begin =
     let same : c.in-Ok-from_slice.opening.items ≡ c.in-Ok.frame.items = c.in-Ok-from_slice.ensures.items ∙ c.as_slice.ensures in
-    opens c.args.user.now nonce begin _ c.new.ensures.items (c.in-Ok-freeze.ensures.ok ∙ sym same) (c.in-Ok.ensures ∙ ap (λ l. Ok l) (sym same)) refl refl
+    opens c.args.user.now nonce begin _ c.new.ensures.items (c.in-Ok-freeze.ensures.ok ∙ sym same) (c.in-Ok.ensures ∙ ap (λ l. Ok l) (sym same)) refl refl refl

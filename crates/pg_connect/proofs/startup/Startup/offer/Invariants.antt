@@ -1,4 +1,4 @@
-use Rattle.std.proofs.Common.{length}
+use Rattle.std.proofs.Common.{◌≡◌, length}
 use Rattle.pg_connect.specs.Calm.{StaysCalm}
 use Rattle.pg_connect.specs.StartupPolls.{Sends}
 use Rattle.pg_connect.proofs.startup.Startup.offer.Given as goal
@@ -7,6 +7,7 @@ abbrev pub invariant-loop-link : goal.invariant-loop-link
 invariant-loop-link g l = record {
   sends : Sends l.initial.self l.self (g.L.Link.view l.initial.link) (g.L.Link.view l.link);
   calm : StaysCalm (g.L.Link.view l.initial.link) (g.L.Link.view l.link);
+  quiet : (g.L.Link.view l.link).quiet ≡ (g.L.Link.view l.initial.link).quiet;
 }
 
 abbrev pub decreases-loop-link : goal.decreases-loop-link

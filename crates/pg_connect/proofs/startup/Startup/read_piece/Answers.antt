@@ -9,6 +9,7 @@ returns-then-is_err-clause-reads g c =
       got = [];
       given = grew_same link.given link.given refl;
       taken = refl;
+      flushed = refl;
       buffer = c.reserve.ensures.items ∙ sym (append-nil c.args.self.now.buffer.items);
       count = omega arith;
       same = refl;

@@ -4,6 +4,7 @@ use Rattle.pg_spec.specs.RawMessages.{RawMessage}
 use Rattle.pg_desk.specs.declared.event.Deliver.TheVariants as answer
 use Rattle.pg_desk.specs.declared.event.Event.{Event}
 use Rattle.pg_desk.specs.declared.event.Event.TheVariants.{Deliver}
+use Rattle.pg_wire.proofs.Cuttings.{ends_by}
 use Rattle.pg_connect.specs.declared.streams.Streams.{Streams}
 use Rattle.pg_connect.specs.Passes.{Passes, waiting, risen}
 use Rattle.pg_connect.specs.Reads.{IsUnasked}
@@ -21,7 +22,7 @@ returns-in-None-clause-goes g c = λ l. record {
   passes = reads_nothing c.args.self.now _ l l c.requires (untouched_same l)
       (record { buffer = refl; unread = c.requires; held = ap waiting (c.take.ensures.after ∙ c.in-None.ensures.value); delayed = refl; parameters = refl; given = refl; delivered = refl })
       (record { unsent = refl; closing = refl; limit = refl; ended = refl; at_end = refl }) refl (keeps_same l);
-  ended = c.take.ensures.after;
+  ended = (c.take.ensures.after, refl);
 }
 
 pub returns-in-Taken-clause-goes : goal.returns-in-Taken-clause-goes
@@ -34,7 +35,7 @@ returns-in-Taken-clause-goes g c =
       became = c.in-Taken.ensures.event;
       passes = delivered_taken c.args.self.now c.take.new.self c.count.new.self l batch c.in-Some.held.complete c.len-messages.result c.requires
           (ap waiting (sym c.in-Some.ensures.value)) c.take.ensures.after c.len-messages.ensures c.count.ensures;
-      ended = ap (λ (x : Streams). x.held) c.count.ensures ∙ c.take.ensures.after;
+      ended = (ap (λ (x : Streams). x.held) c.count.ensures ∙ c.take.ensures.after, refl);
     }
 
 pub returns-in-Full-clause-goes : goal.returns-in-Full-clause-goes
@@ -46,7 +47,7 @@ returns-in-Full-clause-goes g c =
       became = c.in-Full.ensures.event;
       passes = delivered_back c.args.self.now c.take.new.self c.hold.new.self l e c.in-Full.batch c.requires refl refl refl
           (ap waiting (sym c.in-Some.ensures.value) ∙ sym c.in-Full.ensures.back) c.hold.ensures.held c.hold.ensures.same;
-      ended = refl;
+      ended = (refl, sym c.in-Full.ensures.back ∙ sym c.hold.ensures.held);
     }
 
 pub returns-in-NoRequest-clause-goes : goal.returns-in-NoRequest-clause-goes
@@ -59,7 +60,8 @@ returns-in-NoRequest-clause-goes g c =
       became = c.in-NoRequest.ensures.event;
       passes = delivered_back c.args.self.now c.take.new.self t l e c.in-NoRequest.batch c.requires refl refl refl
           (ap waiting (sym c.in-Some.ensures.value) ∙ sym c.in-NoRequest.ensures.back) c.hold-in-NoRequest.ensures.held c.hold-in-NoRequest.ensures.same;
-      ended = unasked_back t c.in-NoRequest.batch c.unasked-fault.result e refl c.hold-in-NoRequest.ensures.held c.unasked-fault.ensures;
+      ended = unasked_back t c.in-NoRequest.batch c.unasked-fault.result e refl c.hold-in-NoRequest.ensures.held c.unasked-fault.ensures
+          (sym c.in-NoRequest.ensures.back ∙ sym c.hold-in-NoRequest.ensures.held);
     }
 
 pub returns-in-OutOfMemory-clause-goes : goal.returns-in-OutOfMemory-clause-goes
@@ -73,3 +75,6 @@ returns-in-OutOfMemory-clause-goes g c =
           (ap waiting (sym c.in-Some.ensures.value) ∙ sym c.in-OutOfMemory.ensures.back) c.hold-in-OutOfMemory.ensures.held c.hold-in-OutOfMemory.ensures.same;
       ended = tt;
     }
+
+pub deliver-requires : goal.deliver-requires
+deliver-requires g c = record { ends = (ends_by c.in-Some.held.complete c.in-Some.held.batch c.in-Some.held.cut).ends }

@@ -10,6 +10,7 @@ invariant-loop-link g l = record {
   closing : l.self.closing ≡ l.initial.self.closing;
   unread : l.self.unread ≡ None;
   calm : StaysCalm (g.L.Link.view l.initial.link) (g.L.Link.view l.link);
+  quiet : (g.L.Link.view l.link).quiet ≡ (g.L.Link.view l.initial.link).quiet;
 }
 
 abbrev pub decreases-loop-link : goal.decreases-loop-link

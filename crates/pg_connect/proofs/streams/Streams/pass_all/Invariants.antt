@@ -1,12 +1,12 @@
 use Rattle.std.proofs.Common.{◌≡◌, [], None, length}
 use Rattle.pg_spec.specs.Links.{LinkView}
 use Rattle.pg_connect.specs.Passes.{Goes}
-use Rattle.pg_connect.proofs.Parts.{Anything}
+use Rattle.pg_connect.specs.Reads.{NoneFull}
 use Rattle.pg_connect.proofs.streams.Streams.pass_all.Given as goal
 
 abbrev pub invariant-front : goal.invariant-front
 invariant-front g l = record {
-  goes : (v : LinkView) → Goes g.E.Desk.becomes l.initial.hub l.hub l.initial.self l.self v v [] Anything;
+  goes : (v : LinkView) → Goes g.E.Desk.becomes l.initial.hub l.hub l.initial.self l.self v v [] NoneFull;
   held : l.self.held ≡ None;
   delayed : l.self.delayed.items ≡ [];
   unread : l.self.unread ≡ None;

@@ -16,7 +16,8 @@ returns-in-Ok-true-clause-goes g c =
       goes = goes-behind _ _ _ s mid new l l l [] [] (DeliverEnds new (Ok c.in-Ok-true.field-0)) _ (none_handed s mid l l [] (took.passes l)) (c.in-Ok-true.ensures.goes l)
           (λ es was. (
             subst (λ x. length x < length s.buffer.items) (sym (ap (λ b. b.items) c.in-Ok-true.ensures.buffer)) took.ends,
-            subst (λ (b : Bool). DeliverEnds new (Ok b) es) c.in-Ok-true.field-0-test was,
+            (subst (λ (b : Bool). DeliverEnds new (Ok b) es) c.in-Ok-true.field-0-test was).0,
+            (subst (λ (b : Bool). DeliverEnds new (Ok b) es) c.in-Ok-true.field-0-test was).1,
           ));
     }
 
@@ -51,7 +52,7 @@ returns-in-Ok-Kept-clause-goes g c =
     let s = c.args.self.now in
     let new = c.take_off.new.self in
     let took = taken_off s new off.Kept c.in-Ok-Kept.field-0 c.in-Ok-Kept.field-0-is c.in-Ok-Kept.ensures.passes c.in-Ok-Kept.ensures.end in
-    λ l. hands-quietly _ _ (g.met.E.Desk.stays c.args.hub.now) s new l l _ _ _ (took.passes l) (λ handed is. is) took.ends
+    λ l. hands-quietly _ _ (g.met.E.Desk.stays c.args.hub.now) s new l l _ _ _ (took.passes l) (λ handed is. is) (took.ends.0, took.ends.1, refl)
 
 pub returns-in-Ok-Handed-clause-goes : goal.returns-in-Ok-Handed-clause-goes
 returns-in-Ok-Handed-clause-goes g c =
@@ -59,14 +60,14 @@ returns-in-Ok-Handed-clause-goes g c =
     let new = c.take_off.new.self in
     let w = c.in-Ok-Handed in
     let took = taken_off s new (off.Handed w.message) w.field-0 w.field-0-is w.ensures.passes w.ensures.end in
-    λ l. hands-quietly _ _ (g.met.E.Desk.stays c.args.hub.now) s new l l _ _ _ (took.passes l) (λ handed is. is) tt
+    λ l. hands-quietly _ _ (g.met.E.Desk.stays c.args.hub.now) s new l l _ _ _ (took.passes l) (λ handed is. is) took.ends
 
 pub returns-in-Ok-Nothing-clause-goes : goal.returns-in-Ok-Nothing-clause-goes
 returns-in-Ok-Nothing-clause-goes g c =
     let s = c.args.self.now in
     let new = c.take_off.new.self in
     let took = taken_off s new off.Nothing c.in-Ok-Nothing.field-0 c.in-Ok-Nothing.field-0-is c.in-Ok-Nothing.ensures.passes c.in-Ok-Nothing.ensures.end in
-    λ l. hands-quietly _ _ (g.met.E.Desk.stays c.args.hub.now) s new l l _ _ _ (took.passes l) (λ handed is. is) took.ends
+    λ l. hands-quietly _ _ (g.met.E.Desk.stays c.args.hub.now) s new l l _ _ _ (took.passes l) (λ handed is. is) (took.ends.0, took.ends.1, refl)
 
 pub returns-in-Err-clause-goes : goal.returns-in-Err-clause-goes
 returns-in-Err-clause-goes g c =

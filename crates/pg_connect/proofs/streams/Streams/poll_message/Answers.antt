@@ -1,8 +1,12 @@
-use Rattle.std.proofs.Common.{◌≡◌, Bool, true, false, refl, sym, ap, ◌∙◌, ◌||◌, inr}
+use Rattle.std.proofs.Common.{◌≡◌, Bool, true, false, Some, Err, refl, sym, ap, subst, ◌∙◌, ◌||◌, inr}
+use Rattle.futures.specs.declared.task.Poll.TheVariants.{Ready}
+use Rattle.pg_errors.specs.declared.error.Error.{Error}
+use Rattle.pg_connect.specs.Answers.{IsWithinPoll}
 use Rattle.std.specs.Prelude.{is_some}
 use Rattle.pg_connect.specs.declared.ends.TurnEnd.TheVariants as turn
 use Rattle.pg_connect.specs.declared.streams.Streams.{Streams}
 use Rattle.pg_connect.proofs.Turned.{turned_on, turned_over, turned_failed}
+use Rattle.pg_connect.proofs.Within.{within-poll}
 use Rattle.pg_connect.proofs.streams.Streams.poll_message.Goals as goal
 
 pub returns-in-Ok-Handed-clause-answer : goal.returns-in-Ok-Handed-clause-answer
@@ -30,3 +34,8 @@ returns-in-Err-clause-answer g c =
       inr (turned_failed _ _ _ _ c.args.self.now c.begin.new.self c.turn.new.self c.end-in-Err.new.self (g.L.Link.view c.args.link.now) (g.L.Link.view c.turn.new.link) w.fault c.into_error.result
           c.fail.result (sym c.is_over-over.ensures ∙ c.if-over.false) c.begin.ensures c.end-in-Err.ensures c.into_error.ensures w.ensures.turns c.fail.ensures.event),
     )
+
+pub returns-in-Err-clause-limit_kept : goal.returns-in-Err-clause-limit_kept
+returns-in-Err-clause-limit_kept g c was =
+    subst (λ (e : Error). IsWithinPoll c.end-in-Err.new.self (Ready (Some (Err e)))) (sym c.into_error.ensures)
+    (within-poll c.turn.new.self c.end-in-Err.new.self c.in-Err.fault c.end-in-Err.ensures c.in-Err.ensures.within)

@@ -1,14 +1,17 @@
-use Rattle.std.proofs.Common.{[], refl, subst, ◌∙◌, arith, Bool, true, false, Ok, Err}
+use Rattle.std.proofs.Common.{◌++◌, inr, ◌≡◌, [], List, map, refl, ap, subst, ◌∙◌, arith, Bool, true, false, Ok, Err}
+use Rattle.pg_wire.specs.declared.body.ErrorResponseBody.{ErrorResponseBody}
+use Rattle.pg_connect.specs.Passes.{delayed_in, notice_of}
+use Rattle.pg_connect.specs.declared.streams.Streams.{Streams}
 use Rattle.pg_connect.specs.declared.ends.Step.TheVariants as step
 use Rattle.pg_connect.specs.declared.ends.ReadEnd.{ReadEnd}
 use Rattle.pg_connect.specs.declared.ends.ReadEnd.TheVariants as ending
-use Rattle.pg_connect.specs.Reads.{AllEnds, PieceEnds, HandedAll, HandedBy, ReadEnds}
+use Rattle.pg_spec.specs.RawMessages.{RawMessage, messages}
+use Rattle.pg_connect.proofs.Joining.{none_lost}
+use Rattle.pg_connect.specs.Reads.{AllEnds, PieceEnds, HandedAll, HandedBy, ReadEnds, ReadStops}
 use Rattle.pg_connect.proofs.Calm.{calm_same, calm_then}
-use Rattle.pg_connect.proofs.Joining.{keeps_same, goes-also, untouched_same}
 use Rattle.pg_connect.proofs.Clearing.{cleared_by}
-use Rattle.pg_connect.proofs.Taking.{piece_none}
-use Rattle.pg_connect.proofs.Parts.{Anything}
-use Rattle.pg_connect.proofs.Passing.{goes-both, goes-quietly, hands-both, idle, idle_goes, any_link, given_same, last_behind, all_refused, piece_refused, settled, dry_later, decoded_same, untouched_first}
+use Rattle.pg_connect.proofs.Pacing.{paced-start, paced-all, paced-piece, paced-last, paced-hands}
+use Rattle.pg_connect.proofs.Passing.{idle, idle_goes, any_link, given_of, given_same, full_behind, all_refused, piece_refused, settled, dry_later, decoded_same, untouched_first, ends_later}
 use Rattle.pg_connect.proofs.Within.{within-any}
 use Rattle.pg_connect.proofs.streams.Streams.read_link.Goals as goal
 
@@ -16,8 +19,7 @@ pub pieces-init : goal.pieces-init
 pieces-init g c =
     let v = g.L.Link.view c.args.link.now in
     record {
-      goes = goes-quietly _ _ (g.met.E.Desk.stays c.args.hub.now) c.args.self.now c.args.self.now v v [] Anything
-          (piece_none c.args.self.now c.args.self.now.buffer v v c.requires.unread refl (untouched_same v) (keeps_same v)) tt;
+      goes = paced-start _ _ (g.met.E.Desk.stays c.args.hub.now) c.args.self.now v c.requires.unread;
       only = record { taken = refl; closing = refl };
       at_end = refl;
       held = c.requires.held;
@@ -26,6 +28,7 @@ pieces-init g c =
       limit = refl;
       given = c.requires.given;
       calm = calm_same v;
+      quiet = refl;
     }
 
 pub read_piece-requires-clause-limit : goal.read_piece-requires-clause-limit
@@ -38,6 +41,10 @@ read_piece-requires-clause-given g c =
     let i = idle _ _ _ c.pieces.self c.pass_all.new.self c.in-Ok-Nothing.field-0 c.in-Ok-Nothing.field-0-is (c.in-Ok-Nothing.ensures.goes any_link) in
     omega (arith, i.limit, i.given, c.pieces.invariant.given)
 
+-- no notice is delayed, by the notices
+none_late : (s : Streams) → s.delayed.items ≡ [] → delayed_in s ≡ []
+none_late s none = ap (λ (x : List ErrorResponseBody). map notice_of x) none
+
 pub returns-in-Ok-Full-clause-goes : goal.returns-in-Ok-Full-clause-goes
 returns-in-Ok-Full-clause-goes g c =
     let a = g.L.Link.view c.args.link.now in
@@ -45,9 +52,9 @@ returns-in-Ok-Full-clause-goes g c =
     let s = c.pieces.self in
     let t = c.pass_all.new.self in
     let w = c.in-Ok-Full in
-    hands-both _ g.met.E.Desk.joins _ _ _ c.args.self.now s t a v v (HandedAll (Ok step.Full)) (HandedBy (Ok ending.Full)) Anything (AllEnds t (Ok step.Full)) (ReadEnds t a v (Ok ending.Full))
-    c.pieces.invariant.goes (settled _ _ _ s t v v step.Full w.field-0 w.field-0-is (w.ensures.goes v)) (λ handed is. is)
-    (λ es fs was. last_behind _ es fs was)
+    paced-hands _ g.met.E.Desk.joins _ _ _ c.args.self.now s t a v (HandedAll (Ok step.Full)) (HandedBy (Ok ending.Full)) (AllEnds s t (Ok step.Full)) (ReadEnds t a v (Ok ending.Full)) (ReadStops c.args.self.now t (Ok ending.Full))
+    c.pieces.invariant.goes (settled _ _ _ s t v v step.Full w.field-0 w.field-0-is (w.ensures.goes v)) (given_of _ _ _ s t _ _ (w.ensures.goes any_link)) (λ handed is. is)
+    (λ es fs was. (full_behind t es fs was, none_late t w.ensures.delayed)) (λ was. tt)
 
 pub returns-in-Ok-Handed-clause-goes : goal.returns-in-Ok-Handed-clause-goes
 returns-in-Ok-Handed-clause-goes g c =
@@ -56,10 +63,14 @@ returns-in-Ok-Handed-clause-goes g c =
     let s = c.pieces.self in
     let t = c.pass_all.new.self in
     let w = c.in-Ok-Handed in
-    hands-both _ g.met.E.Desk.joins _ _ _ c.args.self.now s t a v v (HandedAll (Ok (step.Handed w.message))) (HandedBy (Ok (ending.Handed w.message))) Anything
-    (AllEnds t (Ok (step.Handed w.message))) (ReadEnds t a v (Ok (ending.Handed w.message)))
-    c.pieces.invariant.goes (settled _ _ _ s t v v (step.Handed w.message) w.field-0 w.field-0-is (w.ensures.goes v)) (λ handed is. is)
+    paced-hands _ g.met.E.Desk.joins _ _ _ c.args.self.now s t a v (HandedAll (Ok (step.Handed w.message))) (HandedBy (Ok (ending.Handed w.message)))
+    (AllEnds s t (Ok (step.Handed w.message))) (ReadEnds t a v (Ok (ending.Handed w.message))) (ReadStops c.args.self.now t (Ok (ending.Handed w.message)))
+    c.pieces.invariant.goes (settled _ _ _ s t v v (step.Handed w.message) w.field-0 w.field-0-is (w.ensures.goes v)) (given_of _ _ _ s t _ _ (w.ensures.goes any_link)) (λ handed is. is)
     (λ es fs was. tt)
+    (λ was.
+    let p = c.pieces.invariant.goes.goes.passes in
+    inr (ends_later (c.args.self.now.buffer.items ++ p.got) s.buffer.items t.buffer.items p.read w.message
+    (p.came_off ∙ ap (λ (x : List RawMessage). p.read ++ (x ++ messages s.buffer.items)) (none_lost s.unread p.lost c.pieces.invariant.unread p.unread)) was))
 
 pub returns-in-Err-clause-goes : goal.returns-in-Err-clause-goes
 returns-in-Err-clause-goes g c =
@@ -68,8 +79,8 @@ returns-in-Err-clause-goes g c =
     let s = c.pieces.self in
     let t = c.pass_all.new.self in
     let e = c.in-Err.e in
-    hands-both _ g.met.E.Desk.joins _ _ _ c.args.self.now s t a v v (HandedAll (Err e)) (HandedBy (Err e)) Anything (AllEnds t (Err e)) (ReadEnds t a v (Err e))
-    c.pieces.invariant.goes (c.in-Err.ensures.goes v) (λ handed is. is) (λ es fs was. all_refused t a v e es fs was)
+    paced-hands _ g.met.E.Desk.joins _ _ _ c.args.self.now s t a v (HandedAll (Err e)) (HandedBy (Err e)) (AllEnds s t (Err e)) (ReadEnds t a v (Err e)) (ReadStops c.args.self.now t (Err e))
+    c.pieces.invariant.goes (c.in-Err.ensures.goes v) (given_of _ _ _ s t _ _ (c.in-Err.ensures.goes any_link)) (λ handed is. is) (λ es fs was. all_refused s t a v e es fs was) (λ was. tt)
 
 pub pieces-smaller : goal.pieces-smaller
 pieces-smaller g c =
@@ -91,10 +102,17 @@ pieces-preserved g c =
     let all = c.in-Ok-Nothing in
     let i = idle _ _ _ s t all.field-0 all.field-0-is (all.ensures.goes any_link) in
     let end : PieceEnds t u v w (Ok true) = subst (λ (b : Bool). PieceEnds t u v w (Ok b)) c.in-Ok-true.field-0-test c.in-Ok-true.ensures.end in
-    let so_far = goes-both g.E.Desk.becomes g.met.E.Desk.joins c.args.hub.now c.pieces.hub c.pass_all.new.hub c.args.self.now s t a v v [] [] Anything (AllEnds t (Ok step.Nothing)) Anything
-    c.pieces.invariant.goes (idle_goes _ _ _ s t v v all.field-0 all.field-0-is (all.ensures.goes v)) (λ es fs was. tt) in
+    let so_far = paced-all g.E.Desk.becomes g.met.E.Desk.joins c.args.hub.now c.pieces.hub c.pass_all.new.hub c.args.self.now s t a v c.pieces.invariant.goes (idle_goes _ _ _ s t v v all.field-0 all.field-0-is (all.ensures.goes v)) i.given in
     record {
-      goes = goes-also _ _ _ c.args.self.now t u a v w [] [] Anything Anything so_far c.in-Ok-true.ensures.passes (λ es was. tt);
+      goes = paced-piece _ g.met.E.Desk.joins g.met.E.Desk.stays _ _ c.args.self.now t u a v w so_far c.in-Ok-true.ensures.passes
+          (record {
+            decoded = i.decoded;
+            held = i.held;
+            unread = all.ensures.unread;
+            early = none_late c.args.self.now c.requires.delayed;
+            late = none_late t all.ensures.delayed;
+            within = omega (arith, i.limit, i.given, c.pieces.invariant.given);
+          }) c.in-Ok-true.ensures.piece;
       only = record {
         taken = c.in-Ok-true.ensures.only.taken ∙ c.pieces.invariant.only.taken;
         closing = c.in-Ok-true.ensures.only.closing ∙ all.ensures.closing ∙ c.pieces.invariant.only.closing;
@@ -105,7 +123,8 @@ pieces-preserved g c =
       unread = c.in-Ok-true.ensures.unread;
       limit = c.in-Ok-true.ensures.passes.limit ∙ i.limit ∙ c.pieces.invariant.limit;
       given = end.1;
-      calm = calm_then a v w c.pieces.invariant.calm c.in-Ok-true.ensures.calm;
+      calm = calm_then a v w c.pieces.invariant.calm c.in-Ok-true.ensures.no_lull;
+      quiet = c.in-Ok-true.ensures.ready (ap Ok c.in-Ok-true.field-0-test) ∙ c.pieces.invariant.quiet;
     }
 
 pub returns-in-Ok-false-clause-goes : goal.returns-in-Ok-false-clause-goes
@@ -119,19 +138,22 @@ returns-in-Ok-false-clause-goes g c =
     let all = c.in-Ok-Nothing in
     let i = idle _ _ _ s t all.field-0 all.field-0-is (all.ensures.goes any_link) in
     let end : PieceEnds t u v w (Ok false) = subst (λ (b : Bool). PieceEnds t u v w (Ok b)) c.in-Ok-false.field-0-test c.in-Ok-false.ensures.end in
-    let so_far = goes-both g.E.Desk.becomes g.met.E.Desk.joins c.args.hub.now c.pieces.hub c.pass_all.new.hub c.args.self.now s t a v v [] [] Anything (AllEnds t (Ok step.Nothing)) Anything
-    c.pieces.invariant.goes (idle_goes _ _ _ s t v v all.field-0 all.field-0-is (all.ensures.goes v)) (λ es fs was. tt) in
-    record {
-      handed = [];
-      is = refl;
-      goes = goes-also _ _ _ c.args.self.now t u a v w [] [] Anything _ so_far c.in-Ok-false.ensures.passes
-          (λ es was. (
-            dry_later u.moved a v w c.pieces.invariant.goes.passes.link
-                (untouched_first c.args.self.now t u a v w so_far.events [] [] [] so_far.passes c.in-Ok-false.ensures.passes) end.0,
-            decoded_same t u end.1 i.decoded,
-            cleared_by u (c.in-Ok-false.ensures.held ∙ i.held) (c.in-Ok-false.ensures.delayed ∙ all.ensures.delayed) c.in-Ok-false.ensures.unread,
-          ));
-    }
+    let so_far = paced-all g.E.Desk.becomes g.met.E.Desk.joins c.args.hub.now c.pieces.hub c.pass_all.new.hub c.args.self.now s t a v c.pieces.invariant.goes (idle_goes _ _ _ s t v v all.field-0 all.field-0-is (all.ensures.goes v)) i.given in
+    paced-last _ g.met.E.Desk.joins g.met.E.Desk.stays _ _ c.args.self.now t u a v w (HandedBy (Ok ending.Dry)) (ReadEnds u a w (Ok ending.Dry)) (ReadStops c.args.self.now u (Ok ending.Dry)) so_far c.in-Ok-false.ensures.passes
+    (record {
+      decoded = i.decoded;
+      held = i.held;
+      unread = all.ensures.unread;
+      early = none_late c.args.self.now c.requires.delayed;
+      late = none_late t all.ensures.delayed;
+      within = omega (arith, i.limit, i.given, c.pieces.invariant.given);
+    }) c.in-Ok-false.ensures.piece refl
+    (λ es. (
+      dry_later u.moved a v w c.pieces.invariant.goes.goes.passes.link
+          (untouched_first c.args.self.now t u a v w so_far.goes.events [] [] [] so_far.goes.passes c.in-Ok-false.ensures.passes) end.0,
+      decoded_same t u end.1 i.decoded,
+      cleared_by u (c.in-Ok-false.ensures.held ∙ i.held) (c.in-Ok-false.ensures.delayed ∙ all.ensures.delayed) c.in-Ok-false.ensures.unread,
+    )) (λ got. tt)
 
 pub returns-in-Err-read_piece-clause-goes : goal.returns-in-Err-read_piece-clause-goes
 returns-in-Err-read_piece-clause-goes g c =
@@ -141,16 +163,20 @@ returns-in-Err-read_piece-clause-goes g c =
     let s = c.pieces.self in
     let t = c.pass_all.new.self in
     let u = c.read_piece.new.self in
+    let e = c.in-Err-read_piece.e in
     let all = c.in-Ok-Nothing in
     let i = idle _ _ _ s t all.field-0 all.field-0-is (all.ensures.goes any_link) in
-    let so_far = goes-both g.E.Desk.becomes g.met.E.Desk.joins c.args.hub.now c.pieces.hub c.pass_all.new.hub c.args.self.now s t a v v [] [] Anything (AllEnds t (Ok step.Nothing)) Anything
-    c.pieces.invariant.goes (idle_goes _ _ _ s t v v all.field-0 all.field-0-is (all.ensures.goes v)) (λ es fs was. tt) in
-    record {
-      handed = [];
-      is = refl;
-      goes = goes-also _ _ _ c.args.self.now t u a v w [] [] Anything _ so_far c.in-Err-read_piece.ensures.passes
-          (λ es was. piece_refused t u a v w c.in-Err-read_piece.e es c.pieces.invariant.goes.passes.link i.decoded c.in-Err-read_piece.ensures.end);
-    }
+    let so_far = paced-all g.E.Desk.becomes g.met.E.Desk.joins c.args.hub.now c.pieces.hub c.pass_all.new.hub c.args.self.now s t a v c.pieces.invariant.goes (idle_goes _ _ _ s t v v all.field-0 all.field-0-is (all.ensures.goes v)) i.given in
+    paced-last _ g.met.E.Desk.joins g.met.E.Desk.stays _ _ c.args.self.now t u a v w (HandedBy (Err e)) (ReadEnds u a w (Err e)) (ReadStops c.args.self.now u (Err e)) so_far c.in-Err-read_piece.ensures.passes
+    (record {
+      decoded = i.decoded;
+      held = i.held;
+      unread = all.ensures.unread;
+      early = none_late c.args.self.now c.requires.delayed;
+      late = none_late t all.ensures.delayed;
+      within = omega (arith, i.limit, i.given, c.pieces.invariant.given);
+    }) c.in-Err-read_piece.ensures.piece refl
+    (λ es. piece_refused t u a v w e es c.pieces.invariant.goes.goes.passes.link i.decoded c.in-Err-read_piece.ensures.end) (λ got. tt)
 
 pub returns-in-Ok-Full-clause-within : goal.returns-in-Ok-Full-clause-within
 returns-in-Ok-Full-clause-within g c =

@@ -26,12 +26,12 @@ returns-in-NotReady-clause-passes g c =
 pub returns-then-is_empty-clause-passes : goal.returns-then-is_empty-clause-passes
 returns-then-is_empty-clause-passes g c =
     piece_end c.args.self.now c.reserve.new.self (g.L.Link.view c.args.link.now) (g.L.Link.view c.read.new.self) c.requires.unread c.reserve.ensures.items
-    c.in-End.ensures.answer.2 c.in-End.ensures.keeps
+    c.in-End.ensures.answer.2.bytes c.in-End.ensures.answer.0 c.in-End.ensures.keeps
 
 pub returns-else-is_empty-clause-passes : goal.returns-else-is_empty-clause-passes
 returns-else-is_empty-clause-passes g c =
     piece_end c.args.self.now c.reserve.new.self (g.L.Link.view c.args.link.now) (g.L.Link.view c.read.new.self) c.requires.unread c.reserve.ensures.items
-    c.in-End.ensures.answer.2 c.in-End.ensures.keeps
+    c.in-End.ensures.answer.2.bytes c.in-End.ensures.answer.0 c.in-End.ensures.keeps
 
 pub returns-in-Failed-clause-passes : goal.returns-in-Failed-clause-passes
 returns-in-Failed-clause-passes g c =

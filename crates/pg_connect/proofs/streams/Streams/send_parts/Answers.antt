@@ -3,6 +3,7 @@ use Rattle.pg_desk.specs.declared.event.Event.TheVariants.{NextOut}
 use Rattle.pg_desk.specs.declared.event.Out.TheVariants as out
 use Rattle.pg_connect.specs.declared.fault.ConnectionFault.{ConnectionFault}
 use Rattle.pg_connect.specs.declared.streams.Streams.{Streams}
+use Rattle.pg_connect.specs.Passes.{delayed_in}
 use Rattle.pg_connect.specs.Ends.{has_none, has_no_more, OfferEnds, PartsEnds}
 use Rattle.pg_connect.proofs.Calm.{calm_same, calm_then}
 use Rattle.pg_connect.proofs.Parts.{Anything, answered, came_out}
@@ -20,10 +21,11 @@ parts-init g c = record {
     passes = passes_nothing c.args.self.now (g.L.Link.view c.args.link.now) (g.L.Link.view c.args.link.now) [] c.requires.unread (untouched_same _) (keeps_same _) refl refl refl;
     ended = tt;
   };
-  only = record { given = refl; count = refl; buffer = refl; unread = refl; at_end = refl };
+  only = record { given = refl; count = refl; buffer = refl; held = refl; delayed = refl; unread = refl; at_end = refl };
   closing = c.requires.active;
   unread = c.requires.unread;
   calm = calm_same _;
+  quiet = refl;
 }
 
 pub returns-in-Ok-false-clause-goes : goal.returns-in-Ok-false-clause-goes
@@ -53,12 +55,15 @@ parts-preserved g c =
         given = only.given ∙ was.only.given;
         count = ap (λ (x : Streams). x.given) queued ∙ only.count ∙ was.only.count;
         buffer = ap (λ (x : Streams). x.buffer.items) queued ∙ only.buffer ∙ was.only.buffer;
+        held = ap (λ (x : Streams). x.held) queued ∙ only.held ∙ was.only.held;
+        delayed = ap delayed_in queued ∙ only.delayed ∙ was.only.delayed;
         unread = ap (λ (x : Streams). x.unread) queued ∙ only.unread ∙ was.only.unread;
         at_end = ap (λ (x : Streams). x.at_end) queued ∙ only.at_end ∙ was.only.at_end;
       };
       closing = ap (λ (x : Streams). x.closing) queued ∙ active;
       unread = ap (λ (x : Streams). x.unread) queued ∙ read;
-      calm = calm_then _ _ _ was.calm c.in-Ok-true.ensures.calm;
+      calm = calm_then _ _ _ was.calm c.in-Ok-true.ensures.no_lull;
+      quiet = c.in-Ok-true.ensures.ready (ap Ok c.in-Ok-true.field-0-test) ∙ was.quiet;
     }
 
 pub returns-in-Ok-CopyWaits-clause-goes : goal.returns-in-Ok-CopyWaits-clause-goes

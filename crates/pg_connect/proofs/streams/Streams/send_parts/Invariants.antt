@@ -11,7 +11,8 @@ invariant-parts g l = record {
   closing : l.self.closing ≡ false;
   unread : l.self.unread ≡ None;
   calm : StaysCalm (g.L.Link.view l.initial.link) (g.L.Link.view l.link);
+  quiet : (g.L.Link.view l.link).quiet ≡ (g.L.Link.view l.initial.link).quiet;
 }
 
 abbrev pub decreases-parts : goal.decreases-parts
-decreases-parts g l = g.E.Engine.waiting_parts l.hub
+decreases-parts g l = g.E.Desk.waiting_parts l.hub

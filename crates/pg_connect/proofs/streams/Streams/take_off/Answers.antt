@@ -7,7 +7,7 @@ use Rattle.pg_connect.specs.Passes.{Passes, waiting, notice_of}
 use Rattle.pg_connect.proofs.Joining.{keeps_same, untouched_same}
 use Rattle.pg_connect.proofs.Arriving.{reads_nothing, reads_batch}
 use Rattle.pg_connect.proofs.Sizes.{some_came_off}
-use Rattle.pg_connect.proofs.Taking.{aside_taken, decode_refused}
+use Rattle.pg_connect.proofs.Taking.{aside_ends, aside_taken, decode_refused}
 use Rattle.pg_connect.proofs.streams.Streams.take_off.Goals as goal
 
 pub hold-requires-clause-some : goal.hold-requires-clause-some
@@ -55,6 +55,13 @@ returns-in-Ok-Some-Async-clause-passes c =
     let s = c.args.self.now in
     let cut = subst (λ (r : Option BackendMessage). Decodes s.buffer.items c.decode.new.buf.items (Ok r)) (w.field-0-is ∙ ap Some w.field-0-0-is) w.ensures in
     λ l. aside_taken s (record s { buffer = c.decode.new.buf }) c.take_aside.new.self l w.message c.take_aside.result c.requires.unread (ap (map notice_of) c.requires.delayed) cut refl c.take_aside.ensures
+
+pub returns-in-Ok-Some-Async-clause-end : goal.returns-in-Ok-Some-Async-clause-end
+returns-in-Ok-Some-Async-clause-end c =
+    let w = c.in-Ok-Some-Async in
+    let s = c.args.self.now in
+    let cut = subst (λ (r : Option BackendMessage). Decodes s.buffer.items c.decode.new.buf.items (Ok r)) (w.field-0-is ∙ ap Some w.field-0-0-is) w.ensures in
+    aside_ends s (record s { buffer = c.decode.new.buf }) c.take_aside.new.self w.message c.take_aside.result c.requires.held cut refl c.take_aside.ensures
 
 pub returns-in-Ok-Some-Normal-clause-passes : goal.returns-in-Ok-Some-Normal-clause-passes
 returns-in-Ok-Some-Normal-clause-passes c =
