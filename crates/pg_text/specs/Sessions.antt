@@ -30,6 +30,8 @@ pub record IsNew (s : Session) : Type 0 where
     given = [];
     taken = [];
     promised = false;
+    flushed = false;
+    shut = false;
     quiet = 0;
     dry = 0;
     lulls = 0;

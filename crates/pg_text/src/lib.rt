@@ -11,8 +11,6 @@ mod quoted;
 mod report;
 mod scripts;
 mod session;
-#[cfg(test)]
-mod tests;
 mod word;
 
 pub use command::{Answer, Command};

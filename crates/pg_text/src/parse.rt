@@ -293,6 +293,8 @@ fn new_link(alloc: Global, plan: Vec<Vec<u8>>, cut: Option<u64>) -> MemoryLink
       given = [];
       taken = [];
       promised = false;
+      flushed = false;
+      shut = false;
       quiet = 0;
       dry = 0;
       lulls = 0;

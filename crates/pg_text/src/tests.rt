@@ -1,5 +1,0 @@
-//! Texts that are read, texts that are refused, and printed texts.
-
-mod printing;
-mod reading;
-mod refusing;
