@@ -19,6 +19,7 @@ use Rattle.pg_hub.specs.Standing.{Standing}
 use Rattle.pg_hub.specs.Fits.{HubBecomes}
 use Rattle.pg_connect.specs.declared.streams.Streams.{Streams}
 use Rattle.pg_connect.specs.Answers.{Failed, PollAnswers, StaysClosed, fresh, left_open}
+use Rattle.pg_connect.specs.Calm.{MissesFew}
 use Rattle.pg_connect.proofs.Joining.{rose_later}
 use Rattle.pg_text.specs.Views.{scripts_of}
 use Rattle.pg_text.specs.declared.command.Command.{Command}
@@ -216,18 +217,18 @@ module _ (call : Call) (user : List ℕ) (scripts : List (List Command)) (e : Er
   }
 
   polled-sent : call.scripts ≡ scripts_of scripts → (turns : List ℕ) (state : SessionState) (link : LinkView) → MakesAll scripts turns b.new b.link state link → (hub : Standing) (streams : Streams)
-      (answer : Poll (Option (Result AsyncMessage Error))) → PollAnswers HubBecomes state.hub hub state.streams streams link call.after answer → IsFine answer →
+      (answer : Poll (Option (Result AsyncMessage Error))) → PollAnswers HubBecomes state.hub hub state.streams streams link call.after answer → MissesFew link call.after → IsFine answer →
       OfDialogue call (λ s g t. SentInOrder call s g t)
-  polled-sent asked turns state link before hub streams Pending p fine =
+  polled-sent asked turns state link before hub streams Pending p misses fine =
       turn-sent asked turns state link before (noted state hub streams state.asynchronous) false
-      (inr (record { other = omega arith; made = record { answer = Pending; polled = p; hands = (refl, refl); handles = refl; unanswered = refl; trace = refl } }))
-  polled-sent asked turns state link before hub streams (Ready None) p fine =
+      (inr (record { other = omega arith; made = record { answer = Pending; polled = p; misses = misses; hands = (refl, refl); handles = refl; unanswered = refl; trace = refl } }))
+  polled-sent asked turns state link before hub streams (Ready None) p misses fine =
       turn-sent asked turns state link before (noted state hub streams state.asynchronous) true
-      (inr (record { other = omega arith; made = record { answer = Ready None; polled = p; hands = (refl, refl); handles = refl; unanswered = refl; trace = refl } }))
-  polled-sent asked turns state link before hub streams (Ready (Some (Ok message))) p fine =
+      (inr (record { other = omega arith; made = record { answer = Ready None; polled = p; misses = misses; hands = (refl, refl); handles = refl; unanswered = refl; trace = refl } }))
+  polled-sent asked turns state link before hub streams (Ready (Some (Ok message))) p misses fine =
       turn-sent asked turns state link before (noted state hub streams (state.asynchronous ++ message ∷ [])) false
-      (inr (record { other = omega arith; made = record { answer = Ready (Some (Ok message)); polled = p; hands = (refl, refl); handles = refl; unanswered = refl; trace = refl } }))
-  polled-sent asked turns state link before hub streams (Ready (Some (Err x))) p fine = absurd fine
+      (inr (record { other = omega arith; made = record { answer = Ready (Some (Ok message)); polled = p; misses = misses; hands = (refl, refl); handles = refl; unanswered = refl; trace = refl } }))
+  polled-sent asked turns state link before hub streams (Ready (Some (Err x))) p misses fine = absurd fine
 
   short-sent : call.scripts ≡ scripts_of scripts → (short : RunsShort scripts b.new b.link call.after e) → OfDialogue call (λ s g t. SentInOrder call s g t)
   short-sent asked short = by short.lacks.crossed
@@ -237,7 +238,7 @@ module _ (call : Call) (user : List ℕ) (scripts : List (List Command)) (e : Er
           sent-paused call user b.opening b.opened.read scripts short.state short.link means asked (b.opened.frame ∙ ap (λ (l : List ℕ). Ok l) (sym b.fresh.frame)) b.opened.done
           (stands-last short.turns short.state short.link short.before) (stood-last short.turns short.state short.link short.before)
           (ap (λ (l : LinkView). l.given) same) (ap (λ (l : LinkView). l.taken) same)
-      by (inr p) = polled-sent asked short.turns short.state short.link short.before p.hub p.streams p.answer p.polled p.fine
+      by (inr p) = polled-sent asked short.turns short.state short.link short.before p.hub p.streams p.answer p.polled p.misses p.fine
 
   pub broken-sent : call.scripts ≡ scripts_of scripts → OfDialogue call (λ s g t. SentInOrder call s g t)
   broken-sent asked = by b.fails

@@ -27,9 +27,9 @@ use Rattle.pg_connect.specs.declared.streams.Streams.{Streams}
 use Rattle.pg_connect.specs.Answers.{PollAnswers}
 use Rattle.pg_connect.specs.Ends.{last_is, is_closed_out}
 use Rattle.pg_connect.specs.Passed.{IsEngineCall, AllEngineCalls}
-use Rattle.pg_query.specs.declared.query.Query.{Query}
-use Rattle.pg_query.specs.declared.query.Query.TheVariants as query
-use Rattle.pg_query.specs.declared.query.Reply.{Reply}
+use Rattle.pg_query.specs.declared.desk_call.DeskCall.{DeskCall}
+use Rattle.pg_query.specs.declared.desk_call.DeskCall.TheVariants as desk_call
+use Rattle.pg_query.specs.declared.desk_call.Reply.{Reply}
 use Rattle.pg_query.specs.Dialogue.{Dialogue, Answer, Ask, Send, Leave, Read, HangUp, Call, Hear, Steps, Walks, Told, feed_one, feed, after_reply}
 use Rattle.pg_query.specs.Meaning.{Place}
 use Rattle.pg_query.specs.Meaning as meaning
@@ -176,11 +176,11 @@ asks-fed : {T : Type 0} (ms : List RawMessage) (d : Dialogue T) → Asks d → A
 asks-fed [] d h = h
 asks-fed (m ∷ ms) d h = asks-fed ms (feed_one m d) (asks-fed-one m d h)
 
-mild-told : (q : Query) (e : Event) (r : Result Reply DeskFault) → Told q e r → IsMild e
-mild-told query.NextStatement (NextStatement answer) r h = tt
-mild-told query.NextStatement _ r h = absurd h
-mild-told query.NextPortal (NextPortal answer) r h = tt
-mild-told query.NextPortal _ r h = absurd h
+mild-told : (q : DeskCall) (e : Event) (r : Result Reply DeskFault) → Told q e r → IsMild e
+mild-told desk_call.NextStatement (NextStatement answer) r h = tt
+mild-told desk_call.NextStatement _ r h = absurd h
+mild-told desk_call.NextPortal (NextPortal answer) r h = tt
+mild-told desk_call.NextPortal _ r h = absurd h
 
 asks-reply : {T : Type 0} (r : Result Reply DeskFault) (next : Reply → Dialogue T) → ((r : Reply) → Asks (next r)) → Asks (after_reply r next)
 asks-reply (Ok r) next h = h r

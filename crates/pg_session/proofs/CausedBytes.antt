@@ -24,9 +24,10 @@ use Rattle.pg_errors.specs.Views.{failure_of, cause_of}
 use Rattle.pg_errors.specs.declared.cause.Cause.{Cause}
 use Rattle.pg_errors.specs.declared.error.Error.{Error}
 use Rattle.pg_desk.specs.declared.event.Event.{Event}
-use Rattle.pg_desk.specs.History.{State, start, after_all, finished, wire, joined, IsFrontOf}
+use Rattle.pg_desk.specs.History.{State, start, after_all, finished, wire, joined, IsFrontOf, has_open}
 use Rattle.pg_desk.specs.Kept.{legal-joined}
-use Rattle.pg_desk.proofs.Soundness.{legal-sound}
+use Rattle.pg_desk.proofs.Owners.{none-open as none-counted}
+use Rattle.pg_desk.proofs.Soundness.{legal-kept, legal-sound}
 use Rattle.pg_hub.specs.Becomes.{after-joined}
 use Rattle.pg_connect.specs.Answers.{fresh, left_open}
 use Rattle.pg_connect.specs.Faults.{error_of}
@@ -242,11 +243,14 @@ module _ (user : List ℕ) (call : Call) (former now : List Event) (t : Streams)
   came-unasked first batch held none open_ taken same front =
       let last = after_all (after_all (start 0 0) former) now in
       let joins : after_all (start 0 0) (former ++ now) ≡ last = after-joined (start 0 0) former now in
-      let answered : length last.gone_out ≤ finished last.deliveries = none-open (after_all (start 0 0) former) now none f.broke.legal_now in
+      let legal = legal-joined (start 0 0) former now f.broke.legal f.broke.legal_now in
+      let all = after_all (start 0 0) (former ++ now) in
+      let none-there : has_open all ≡ false = subst (λ (s : State). has_open s ≡ false) (sym joins) (none-open (after_all (start 0 0) former) now none f.broke.legal_now) in
+      let all-answered : length all.gone_out ≤ finished all.deliveries = none-counted all (legal-kept 0 0 (former ++ now) legal).order none-there in
+      let answered : length last.gone_out ≤ finished last.deliveries = subst (λ (s : State). length s.gone_out ≤ finished s.deliveries) joins all-answered in
       let whole : AreWhole (finished last.deliveries) (cut_after is_ready (delivered_by (former ++ now))) =
       subst (λ (s : State). AreWhole (finished s.deliveries) (cut_after is_ready (delivered_by (former ++ now)))) joins
-      (delivered-whole (former ++ now) (legal-joined (start 0 0) former now f.broke.legal f.broke.legal_now)
-      (subst (λ (s : State). length s.gone_out ≤ finished s.deliveries) (sym joins) answered)) in
+      (delivered-whole (former ++ now) legal all-answered) in
       let stands : InFront (finished last.deliveries) first later =
       in-front (finished last.deliveries) (delivered_by (former ++ now)) batch f.broke.read (f.broke.lost ++ messages t.buffer.items) first whole
       (f.broke.delivered ∙ ap (λ (x : List RawMessage). delivered_by (former ++ now) ++ x) held) in

@@ -7,22 +7,22 @@ use Rattle.pg_spec.specs.RawMessages.{RawMessage, is_aside, is_ready, sync_of, c
 use Rattle.pg_desk.specs.declared.event.Deliver.TheVariants as delivering
 use Rattle.pg_desk.specs.declared.event.Event.{Event}
 use Rattle.pg_desk.specs.declared.event.Event.TheVariants.{Deliver as DeliverEvent}
-use Rattle.pg_desk.specs.History.{State, start, after, after_all, finished, IsLegal}
+use Rattle.pg_desk.specs.History.{State, start, after, after_all, finished, has_open, IsLegal}
 use Rattle.pg_connect.specs.Ends.{last_is}
 use Rattle.pg_connect.specs.Passed.{delivered_by}
 use Rattle.pg_connect.specs.Reads.{has_no_request}
 use Rattle.pg_session.proofs.CrossedGroups.{both-true, AreWhole, all-whole}
-use Rattle.pg_session.proofs.CrossedHub.{Ran, ran-all, received-all, ends_whole}
+use Rattle.pg_session.proofs.CrossedHub.{Ran, ran-all, ran-start, received-all, ends_whole}
 use Rattle.pg_session.proofs.OrderTraces.{stands_next}
 
 -- ---- no request is open
 
-refused-one : (s : State) (e : Event) → has_no_request e ≡ true → IsLegal s (e ∷ []) → length (after s e).gone_out ≤ finished (after s e).deliveries
-refused-one s (DeliverEvent batch complete (delivering.NoRequest back)) is l = let no_open : length s.gone_out ≤ finished s.deliveries = l.0.1 in no_open
+refused-one : (s : State) (e : Event) → has_no_request e ≡ true → IsLegal s (e ∷ []) → has_open (after s e) ≡ false
+refused-one s (DeliverEvent batch complete (delivering.NoRequest back)) is l = let no_open : has_open s ≡ false = l.0.1 in no_open
 refused-one s _ is l = absurd cc
 
--- the hub's last answer was that no request is open: each part that went out is answered
-pub none-open : (s : State) (es : List Event) → last_is has_no_request es ≡ true → IsLegal s es → length (after_all s es).gone_out ≤ finished (after_all s es).deliveries
+-- the hub's last answer was that no request is open
+pub none-open : (s : State) (es : List Event) → last_is has_no_request es ≡ true → IsLegal s es → has_open (after_all s es) ≡ false
 none-open s [] is l = absurd cc
 none-open s (e ∷ []) is l = refused-one s e is l
 none-open s (e ∷ f ∷ es) is l = none-open (after s e) (f ∷ es) is l.1
@@ -36,7 +36,7 @@ pub delivered-whole : (es : List Event) → IsLegal (start 0 0) es → length (a
     AreWhole (finished (after_all (start 0 0) es).deliveries) (cut_after is_ready (delivered_by es))
 delivered-whole es legal answered =
     let st = after_all (start 0 0) es in
-    let ran : Ran st = ran-all (start 0 0) es (record { cut = tt; tail = λ e. absurd (let no : true ≡ false = e in cc) }) legal in
+    let ran : Ran st = ran-all (start 0 0) es (ran-start 0 0) legal in
     let ends : ends_whole st.deliveries ≡ true = is-true (ends_whole st.deliveries) (λ e. let open_ : finished st.deliveries < length st.gone_out = ran.tail e in omega (arith, open_, answered)) in
     subst (λ (x : List RawMessage). AreWhole (finished st.deliveries) (cut_after is_ready x)) (received-all (start 0 0) es) (all-whole st.deliveries ran.cut ends)
 

@@ -1,15 +1,15 @@
 -- A link that conforms holds its course in a call, so valid input ends well over it.
-use Rattle.std.proofs.Common.{◌≡◌, ◌≤◌, ◌+◌, ◌^◌, ◌-◌, ℕ, List, [], ◌++◌, length, take, min, Bool, true, false, ◌||◌, Option, Some, None, Result, Ok, Err, refl, sym, ap, subst, ◌∙◌, arith}
+use Rattle.std.proofs.Common.{◌≡◌, ◌≤◌, ◌+◌, ℕ, List, [], ◌++◌, length, take, Bool, true, false, ◌||◌, Option, Some, Err, refl, sym, ap, subst, ◌∙◌, arith}
 use Rattle.std.specs.Prelude.{IfSome, IsFalse}
 use Rattle.std.specs.List.{concat}
 use Rattle.pg_spec.specs.Causes.{Call, HasCause, OfDialogue, WithSettings}
 use Rattle.pg_spec.specs.ConnectionStrings.{only_user, Means}
 use Rattle.pg_spec.specs.Faults.{Failure}
-use Rattle.pg_spec.specs.Links.{LinkView, Plan, Rose, added, due_by}
-use Rattle.pg_spec.specs.Promises.{Conforms, EndsWell, IsValid, MustEndWell, SentInOrder}
+use Rattle.pg_spec.specs.Links.{Plan, Rose, added, due_by}
+use Rattle.pg_spec.specs.Promises.{Conforms, IsValid, MustEndWell, SentInOrder}
 use Rattle.pg_spec.specs.Sent.{turns_given, units}
 use Rattle.pg_spec.specs.Settings.{Settings}
-use Rattle.pg_wire.specs.LinkCalls.{Continues, Extends, IsInPlan, Tells}
+use Rattle.pg_wire.specs.LinkCalls.{Continues, Extends, Tells}
 use Rattle.pg_session.specs.Course.{HoldsCourse}
 use Rattle.pg_session.proofs.Complete.{ends-well, means-one}
 use Rattle.pg_session.proofs.TurnsAsked.{few-turns}

@@ -7,13 +7,15 @@ use Rattle.std.proofs.lemmas.List.Elements.{filter-append, filter_map-append}
 use Rattle.pg_spec.specs.ConnectionStrings.{only_user}
 use Rattle.pg_spec.specs.Links.{LinkView, added}
 use Rattle.pg_spec.specs.Parameters.{parameter_reports, AreLastValues}
-use Rattle.pg_spec.specs.RawMessages.{RawMessage, messages, is_ready, is_whole_group, sync_of, async_of, cut_after, groups}
+use Rattle.pg_spec.specs.RawMessages.{RawMessage, messages, bytes_left, has_bad_header, is_ready, is_whole_group, sync_of, async_of, cut_after, groups}
 use Rattle.pg_spec.specs.Report as said
 use Rattle.pg_spec.specs.Startup.{startup_part, session_part, cancel_key}
 use Rattle.pg_spec.specs.Turns.{delivered_before}
 use Rattle.pg_errors.specs.declared.async_message.AsyncMessage.{AsyncMessage}
 use Rattle.pg_errors.specs.Views.{async_of as aside_of}
 use Rattle.pg_desk.specs.declared.event.Booking.{Booking}
+use Rattle.pg_desk.proofs.Owners.{none-open}
+use Rattle.pg_desk.proofs.Soundness.{wire-counted}
 use Rattle.pg_desk.specs.History.{State, start, after_all, received, finished}
 use Rattle.pg_hub.specs.Standing.{Standing}
 use Rattle.pg_connect.specs.declared.streams.Streams.{Streams}
@@ -28,12 +30,13 @@ use Rattle.pg_text.specs.declared.report.Report.{Report}
 use Rattle.pg_text.specs.declared.report.TurnMark.{TurnMark}
 use Rattle.pg_session.specs.Crossed.{session_of, Crossed}
 use Rattle.pg_session.specs.Sessions.{HasPlayed}
-use Rattle.pg_session.proofs.CrossedHub.{received-all, ends_whole, Ran, ran-all}
+use Rattle.pg_session.proofs.CausedLists.{all-left}
+use Rattle.pg_session.proofs.CrossedHub.{received-all, ends_whole, Ran, ran-all, ran-start}
 use Rattle.pg_session.proofs.CrossedTurns.{Emptied, Stood, shown}
 use Rattle.pg_session.proofs.CrossedStart.{AreBare, are-bare, no-key}
 use Rattle.pg_session.proofs.CrossedEnd.{finished as finish, added-is, all-out, startup-of, was-sent}
 use Rattle.pg_session.proofs.CrossedGroups.{AreWhole, all-whole}
-use Rattle.pg_session.proofs.CrossedParameters.{last-values}
+use Rattle.pg_connect.proofs.LastValues.{last-values}
 
 -- ---- lists
 
@@ -143,10 +146,10 @@ whole-groups : (opening : List ℕ) (first : List RawMessage) (base l : LinkView
 whole-groups opening first base l hub s asides h closing sync =
     let st = after_all (start 0 0) h.events in
     let spent = h.spent closing in
-    let ran : Ran st = ran-all (start 0 0) h.events (record { cut = tt; tail = λ e. absurd (let no : true ≡ false = e in cc) }) h.legal in
-    let answered : length st.gone_out ≤ finished st.deliveries = spent.answered in
+    let ran : Ran st = ran-all (start 0 0) h.events (ran-start 0 0) h.legal in
+    let answered : length st.gone_out ≤ finished st.deliveries = none-open st h.fits.in_order spent.answered in
     let ends : ends_whole st.deliveries ≡ true = is-true (ends_whole st.deliveries) (λ e. let open_ : finished st.deliveries < length st.gone_out = ran.tail e in omega (arith, open_, answered)) in
-    let out : length st.gone_out ≡ length st.book = ap (λ (x : List (List ℕ)). length x) (all-out opening first base l hub s asides h closing) ∙ h.fits.all_parts in
+    let out : length st.gone_out ≡ length st.book = ap (λ (x : List (List ℕ)). length x) (all-out opening first base l hub s asides h closing) ∙ wire-counted st.book h.fits.in_order.one_part in
     let few : finished st.deliveries ≤ length st.gone_out = omega (arith, h.fits.standing.finished, h.fits.finished, h.fits.gone_out) in
     let count : finished st.deliveries ≡ length hub.book = omega (arith, out, few, answered, ap (λ (x : List Booking). length x) h.fits.book) in
     subst (λ (n : ℕ). AreWhole n (groups h.read)) count
@@ -189,6 +192,8 @@ all-crossed user nonce scripts given before after report p g t e d =
           (startup_part (only_user user) nonce (messages g) ++ session_part (only_user user) nonce (messages g)) p.reports.asynchronous passed.shows aside;
       parameters = subst (λ (x : List (List ℕ × List ℕ)). AreLastValues (parameter_reports (messages g)) x) (sym (p.reports.parameters ∙ passed.kept))
           (subst (λ (x : List (List ℕ × List ℕ)). AreLastValues x (keep_all [] (parameter_reports h.read))) (sym reports) (last-values (parameter_reports h.read)));
+      no_bad_header = ap (λ (x : List ℕ). has_bad_header (bytes_left x)) g-is
+          ∙ ap has_bad_header (h.rest ∙ all-left p.last.streams.buffer.items empty.decoded) ∙ empty.header;
       key = told-key report.process_id report.secret_key p.opened.read (startup_part (only_user user) nonce (messages g))
           p.reports.process_id p.reports.secret_key started.part bare;
     }

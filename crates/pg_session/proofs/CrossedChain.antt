@@ -22,9 +22,9 @@ use Rattle.pg_connect.specs.declared.streams.Streams.{Streams}
 use Rattle.pg_connect.specs.Answers.{PollAnswers}
 use Rattle.pg_connect.specs.Passed.{delivered_in, delivered_by, bytes_out_in, bytes_out_by}
 use Rattle.pg_connect.specs.Reads.{Carries}
-use Rattle.pg_query.specs.declared.query.Query.{Query}
-use Rattle.pg_query.specs.declared.query.Query.TheVariants as query
-use Rattle.pg_query.specs.declared.query.Reply.{Reply}
+use Rattle.pg_query.specs.declared.desk_call.DeskCall.{DeskCall}
+use Rattle.pg_query.specs.declared.desk_call.DeskCall.TheVariants as desk_call
+use Rattle.pg_query.specs.declared.desk_call.Reply.{Reply}
 use Rattle.pg_query.specs.Dialogue.{Dialogue, Answer, Ask, Send, Leave, Read, HangUp, Call, Hear, Steps, Walks, Told}
 use Rattle.pg_query.specs.Meaning.{Place}
 use Rattle.pg_query.specs.Meaning as meaning
@@ -41,10 +41,10 @@ use Rattle.pg_session.proofs.CrossedTurns.{Moves, moves-by, Quiet, shown, Stood,
 
 -- ---- a dialogue delivers nothing and lets nothing out
 
-not_told : (q : Query) (e : Event) (r : Result Reply DeskFault) → ((r : Result Reply DeskFault) → Told query.NextStatement e r → ⊥) →
-    ((r : Result Reply DeskFault) → Told query.NextPortal e r → ⊥) → Told q e r → ⊥
-not_told query.NextStatement e r f g told = f r told
-not_told query.NextPortal e r f g told = g r told
+not_told : (q : DeskCall) (e : Event) (r : Result Reply DeskFault) → ((r : Result Reply DeskFault) → Told desk_call.NextStatement e r → ⊥) →
+    ((r : Result Reply DeskFault) → Told desk_call.NextPortal e r → ⊥) → Told q e r → ⊥
+not_told desk_call.NextStatement e r f g told = f r told
+not_told desk_call.NextPortal e r f g told = g r told
 
 never_out : {T : Type 0} (stamp : Stamp) (d : Dialogue T) (id : ℕ) (part : List ℕ) (d' : Dialogue T) (id' : ℕ) →
     Steps stamp d id (NextOut (Ok (out.Part part))) d' id' → ⊥
@@ -85,7 +85,7 @@ quiet-one stamp d id e d' id' = by_kind (λ e. Steps stamp d id e d' id' → Qui
 both-none : {A : Type 0} (xs ys : List A) → xs ≡ [] → ys ≡ [] → xs ++ ys ≡ []
 both-none {A} xs ys p q = ap (λ (l : List A). l ++ ys) p ∙ q
 
-quiet-walk : {T : Type 0} (stamp : Stamp) (d : Dialogue T) (id : ℕ) (es : List Event) (d' : Dialogue T) (id' : ℕ) → Walks stamp d id es d' id' → Quiet es
+pub quiet-walk : {T : Type 0} (stamp : Stamp) (d : Dialogue T) (id : ℕ) (es : List Event) (d' : Dialogue T) (id' : ℕ) → Walks stamp d id es d' id' → Quiet es
 quiet-walk stamp d id [] d' id' h = record { none_in = refl; none_out = refl }
 quiet-walk stamp d id (e ∷ es) d' id' h =
     let one = quiet-one stamp d id e h.0 h.1 h.2 in

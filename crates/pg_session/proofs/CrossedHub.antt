@@ -1,7 +1,6 @@
 -- What the events of a hub deliver and let out, and what stays once nothing more can come.
-use Rattle.std.proofs.Common.{◌≡◌, ◌<◌, ◌≤◌, ℕ, suc, List, [], ◌∷◌, ◌++◌, length, drop, Bool, true, false, ◌||◌, if◌then◌else◌, Ok, Err, refl, sym, ap, subst, ◌∙◌, arith, append_assoc, append-nil, nat_lt}
+use Rattle.std.proofs.Common.{◌≡◌, ◌<◌, ℕ, suc, List, [], ◌∷◌, ◌++◌, length, drop, Bool, true, false, ◌||◌, if◌then◌else◌, Ok, Err, refl, sym, ap, subst, ◌∙◌, arith, append_assoc, append-nil}
 use Rattle.std.proofs.lemmas.List.{length_push}
-use Rattle.std.proofs.lemmas.Bool.Decides.{nat_tests}
 use Rattle.pg_spec.specs.RawMessages.{RawMessage}
 use Rattle.pg_desk.specs.declared.event.Stamp.{Stamp}
 use Rattle.pg_desk.specs.declared.event.Booking.{Booking}
@@ -10,8 +9,10 @@ use Rattle.pg_desk.specs.declared.event.Out.TheVariants as out
 use Rattle.pg_desk.specs.declared.event.Deliver.TheVariants as delivering
 use Rattle.pg_desk.specs.declared.event.Event.{Event}
 use Rattle.pg_desk.specs.declared.event.Event.TheVariants.{Book, Take as TakeEvent, HangUp, NextStatement, NextPortal, NextOut, Deliver as DeliverEvent, CloseRequests, Fail}
-use Rattle.pg_desk.specs.History.{State, Delivery, wire, finished, received, joined, after, after_all, out_of_rest, Allows, IsLegal, HasOpen}
-use Rattle.pg_desk.proofs.Soundness.{AllCut, cut-more}
+use Rattle.pg_desk.specs.History.{State, Delivery, wire, finished, received, joined, has_open, next_owner, start, after, after_all, out_of_rest, Allows, IsLegal}
+use Rattle.pg_desk.specs.Order.{InOrder}
+use Rattle.pg_desk.proofs.Owners.{open-less}
+use Rattle.pg_desk.proofs.Soundness.{AllCut, cut-more, order-book, order-deliver, order-out, order-same}
 use Rattle.pg_connect.specs.Ends.{last_is, has_no_more}
 use Rattle.pg_connect.specs.Passed.{delivered_in, delivered_by, bytes_out_in, bytes_out_by}
 
@@ -72,7 +73,7 @@ received-one : (s : State) (e : Event) → received (after s e).deliveries ≡ r
 received-one s e = by_kind (λ e. received (after s e).deliveries ≡ received s.deliveries ++ delivered_in e)
     (λ stamp part copying id. sym (append-nil (received s.deliveries)))
     (λ part. sym (append-nil (received s.deliveries)))
-    (λ batch complete. received-push s.deliveries (record { messages = batch; complete = complete }))
+    (λ batch complete. received-push s.deliveries (record { owner = next_owner s; messages = batch; complete = complete }))
     (sym (append-nil (received s.deliveries)))
     (λ e plain. as_before (received s.deliveries) (received (after s e).deliveries) (delivered_in e) (ap received (plain.same s).deliveries) plain.none_in)
     e
@@ -100,18 +101,18 @@ out-all s (e ∷ es) = out-all (after s e) es ∙ ap (λ (l : List ℕ). l ++ by
 
 -- ---- once nothing more can come
 
--- Requests are closed, all parts went out, and each of them was answered.
+-- Requests are closed, all parts went out, and no request is open.
 pub record Spent (s : State) : Type 0 where
   pub closed : s.closed ≡ true
   pub out : drop (length s.gone_out) (wire s.book) ≡ []
-  pub answered : length s.gone_out ≤ finished s.deliveries
+  pub answered : has_open s ≡ false
 
 not_open : (a b : Bool) → a ≡ true → a || b ≡ false → ⊥
 not_open a b e f = let g : true || b ≡ false = subst (λ (x : Bool). x || b ≡ false) e f in let h : true ≡ false = g in cc
 
 no_part : (s : State) (part : List ℕ) (l : List (List ℕ)) → l ≡ [] → out.Part part ≡ out_of_rest s l → ⊥
 no_part s part (x ∷ l) none e = absurd cc
-no_part s part [] none e = by_tests (nat_lt (finished s.deliveries) (length s.gone_out)) s.closed e
+no_part s part [] none e = by_tests (has_open s) s.closed e
   where
     by_tests : (a b : Bool) → out.Part part ≡ (if a then out.Nothing else (if b then out.NoMore else out.Nothing)) → ⊥
     by_tests true b e = absurd cc
@@ -122,7 +123,9 @@ spent-same : (s t : State) → Same s t → Spent s → Spent t
 spent-same s t same h = record {
   closed = same.closed ∙ h.closed;
   out = ap (λ (l : List (List ℕ)). drop (length l) (wire t.book)) same.gone_out ∙ ap (λ (b : List Booking). drop (length s.gone_out) (wire b)) same.book ∙ h.out;
-  answered = let a = ap (λ (l : List (List ℕ)). length l) same.gone_out in let b = ap finished same.deliveries in let c = h.answered in omega arith;
+  answered = ap (λ (b : List Booking). has_open (record t { book = b })) same.book
+      ∙ ap (λ (g : List (List ℕ)). has_open (record t { book = s.book; gone_out = g })) same.gone_out
+      ∙ ap (λ (ds : List Delivery). has_open (record t { book = s.book; gone_out = s.gone_out; deliveries = ds })) same.deliveries ∙ h.answered;
 }
 
 -- It stays so, whatever happens.
@@ -130,7 +133,7 @@ pub spent-one : (s : State) (e : Event) → Spent s → Allows s e → Spent (af
 spent-one s e h = by_kind (λ e. Allows s e → Spent (after s e))
     (λ stamp part copying id a. absurd (not_open s.closed s.failed h.closed a.0))
     (λ part a. absurd (no_part s part (drop (length s.gone_out) (wire s.book)) h.out a.1))
-    (λ batch complete a. let b : finished s.deliveries < length s.gone_out = a.1 in absurd (omega (arith, b, h.answered)))
+    (λ batch complete a. absurd (let no : true ≡ false = sym a.1 ∙ h.answered in cc))
     (λ a. record { closed = refl; out = h.out; answered = h.answered })
     (λ e plain a. spent-same s (after s e) (plain.same s) h)
     e
@@ -143,14 +146,14 @@ no_rest : (s : State) (l : List (List ℕ)) → out.NoMore ≡ out_of_rest s l �
 no_rest s (x ∷ l) e = absurd cc
 no_rest s [] e = refl
 
-no_more : (s : State) (l : List (List ℕ)) → out.NoMore ≡ out_of_rest s l → (s.closed ≡ true) × (length s.gone_out ≤ finished s.deliveries)
+no_more : (s : State) (l : List (List ℕ)) → out.NoMore ≡ out_of_rest s l → (s.closed ≡ true) × (has_open s ≡ false)
 no_more s (x ∷ l) e = absurd cc
-no_more s [] e = by_tests (nat_lt (finished s.deliveries) (length s.gone_out)) s.closed refl refl e
+no_more s [] e = by_tests (has_open s) s.closed refl refl e
   where
-    by_tests : (a b : Bool) → nat_lt (finished s.deliveries) (length s.gone_out) ≡ a → s.closed ≡ b → out.NoMore ≡ (if a then out.Nothing else (if b then out.NoMore else out.Nothing)) →
-        (s.closed ≡ true) × (length s.gone_out ≤ finished s.deliveries)
+    by_tests : (a b : Bool) → has_open s ≡ a → s.closed ≡ b → out.NoMore ≡ (if a then out.Nothing else (if b then out.NoMore else out.Nothing)) →
+        (s.closed ≡ true) × (has_open s ≡ false)
     by_tests true b p q e = absurd cc
-    by_tests false true p q e = (q, grind (arith, nat_tests))
+    by_tests false true p q e = (q, p)
     by_tests false false p q e = absurd cc
 
 no-more-one : (s : State) (e : Event) → has_no_more e ≡ true → Allows s e → Spent (after s e)
@@ -168,40 +171,48 @@ no-more-spent s (e ∷ f ∷ es) is l = no-more-spent (after s e) (f ∷ es) is 
 
 -- ---- the deliveries of a legal list
 
+first-part : (s : State) (part : List ℕ) (l : List (List ℕ)) → out.Part part ≡ out_of_rest s l → (more : List (List ℕ)) × (l ≡ part ∷ more)
+first-part s part (x ∷ l) e = let same : x ≡ part = cc in (l, ap (λ (p : List ℕ). p ∷ l) same)
+first-part s part [] e = absurd (no_part s part [] refl e)
+
 -- the last batch ended its group, or none came
 abbrev pub ends_whole : List Delivery → Bool
 ends_whole [] = true
 ends_whole (d ∷ []) = d.complete
 ends_whole (d ∷ e ∷ ds) = ends_whole (e ∷ ds)
 
--- Each delivery was a batch, and a group that isn't whole is of a request that is open.
+-- Each delivery was a batch, requests and replies are in order, and a group that isn't whole is of a request that is open.
 pub record Ran (s : State) : Type 0 where
   pub cut : AllCut s.deliveries
-  pub tail : ends_whole s.deliveries ≡ false → HasOpen s
+  pub order : InOrder s
+  pub tail : ends_whole s.deliveries ≡ false → finished s.deliveries < length s.gone_out
 
 ends-push : (ds : List Delivery) (d : Delivery) → ends_whole (ds ++ d ∷ []) ≡ d.complete
 ends-push [] d = refl
 ends-push (x ∷ []) d = refl
 ends-push (x ∷ y ∷ ds) d = ends-push (y ∷ ds) d
 
-finished-push : (ds : List Delivery) (messages : List RawMessage) → finished (ds ++ record { messages = messages; complete = false } ∷ []) ≡ finished ds
-finished-push [] messages = refl
-finished-push (x ∷ ds) messages = ap (λ (n : ℕ). if x.complete then suc n else n) (finished-push ds messages)
+finished-push : (ds : List Delivery) (owner : ℕ) (messages : List RawMessage) → finished (ds ++ record { owner = owner; messages = messages; complete = false } ∷ []) ≡ finished ds
+finished-push [] owner messages = refl
+finished-push (x ∷ ds) owner messages = ap (λ (n : ℕ). if x.complete then suc n else n) (finished-push ds owner messages)
 
 ran-deliver : (s : State) (batch : List RawMessage) (complete : Bool) → Ran s → Allows s (DeliverEvent batch complete delivering.Taken) →
     Ran (after s (DeliverEvent batch complete delivering.Taken))
 ran-deliver s batch true h a = record {
-  cut = cut-more s.deliveries (record { messages = batch; complete = true }) h.cut a.0;
-  tail = λ e. let no : true ≡ false = sym (ends-push s.deliveries (record { messages = batch; complete = true })) ∙ e in absurd cc;
+  cut = cut-more s.deliveries (record { owner = next_owner s; messages = batch; complete = true }) h.cut a.0;
+  order = order-deliver s batch true h.order a.1;
+  tail = λ e. let no : true ≡ false = sym (ends-push s.deliveries (record { owner = next_owner s; messages = batch; complete = true })) ∙ e in absurd cc;
 }
 ran-deliver s batch false h a = record {
-  cut = cut-more s.deliveries (record { messages = batch; complete = false }) h.cut a.0;
-  tail = λ e. subst (λ (n : ℕ). n < length s.gone_out) (sym (finished-push s.deliveries batch)) a.1;
+  cut = cut-more s.deliveries (record { owner = next_owner s; messages = batch; complete = false }) h.cut a.0;
+  order = order-deliver s batch false h.order a.1;
+  tail = λ e. subst (λ (n : ℕ). n < length s.gone_out) (sym (finished-push s.deliveries (next_owner s) batch)) (open-less s h.order a.1);
 }
 
 ran-same : (s t : State) → Same s t → Ran s → Ran t
 ran-same s t same h = record {
   cut = subst AllCut (sym same.deliveries) h.cut;
+  order = order-same s t (sym same.book) (sym same.gone_out) (sym same.deliveries) h.order;
   tail = λ e.
       let b : finished s.deliveries < length s.gone_out = h.tail (sym (ap ends_whole same.deliveries) ∙ e) in
       let g = ap (λ (l : List (List ℕ)). length l) same.gone_out in let d = ap finished same.deliveries in omega arith;
@@ -209,15 +220,23 @@ ran-same s t same h = record {
 
 ran-one : (s : State) (e : Event) → Ran s → Allows s e → Ran (after s e)
 ran-one s e h = by_kind (λ e. Allows s e → Ran (after s e))
-    (λ stamp part copying id a. record { cut = h.cut; tail = h.tail })
+    (λ stamp part copying id a. record { cut = h.cut; order = order-book s stamp part copying id h.order; tail = h.tail })
     (λ part a. record {
       cut = h.cut;
+      order = let more = first-part s part (drop (length s.gone_out) (wire s.book)) a.1 in order-out s part h.order more.0 more.1;
       tail = λ e. let b : finished s.deliveries < length s.gone_out = h.tail e in omega (arith, b, length_push s.gone_out part);
     })
     (λ batch complete a. ran-deliver s batch complete h a)
-    (λ a. record { cut = h.cut; tail = h.tail })
+    (λ a. record { cut = h.cut; order = order-same s (after s (CloseRequests (Ok tt))) refl refl refl h.order; tail = h.tail })
     (λ e plain a. ran-same s (after s e) (plain.same s) h)
     e
+
+pub ran-start : (n m : ℕ) → Ran (start n m)
+ran-start n m = record {
+  cut = tt;
+  order = record { owners = tt; one_part = tt; out = omega arith; ended = omega arith };
+  tail = λ e. absurd (let no : true ≡ false = e in cc);
+}
 
 pub ran-all : (s : State) (es : List Event) → Ran s → IsLegal s es → Ran (after_all s es)
 ran-all s [] h l = h

@@ -5,7 +5,7 @@ use Rattle.std.proofs.lemmas.List.Elements.{filter-append, filter_map-append}
 use Rattle.std.proofs.lemmas.List.Sums.{fold-append}
 use Rattle.pg_spec.specs.Links.{LinkView, Grew}
 use Rattle.pg_spec.specs.Parameters.{parameter_reports}
-use Rattle.pg_spec.specs.RawMessages.{RawMessage, messages, bytes_left, sync_of, async_of}
+use Rattle.pg_spec.specs.RawMessages.{RawMessage, messages, bytes_left, has_bad_header, sync_of, async_of}
 use Rattle.pg_spec.specs.Report as said
 use Rattle.pg_errors.specs.declared.async_message.AsyncMessage.{AsyncMessage}
 use Rattle.pg_errors.specs.Views.{async_of as aside_of}
@@ -47,6 +47,7 @@ pub record Emptied (s : Streams) : Type 0 where
   pub delayed : delayed_in s ≡ []
   pub unread : s.unread ≡ None
   pub decoded : messages s.buffer.items ≡ []
+  pub header : has_bad_header s.buffer.items ≡ false
 
 -- the reports of these messages, as far as they can be read
 abbrev pub shown : List AsyncMessage → List (Option said.AsyncMessage)
@@ -155,12 +156,13 @@ absurd_true e = absurd (let no_way : false ≡ true = e in cc)
 still-empty : (s t : Streams) (l m : LinkView) (es : List Event) (hs : List RawMessage) → Passes (fresh s) (left_open t) l m es hs →
     OnlySends (fresh s) (left_open t) l m → Emptied s → Emptied t
 still-empty s t l m es hs p only was =
-    let clear = still_cleared (fresh s) (left_open t) l m es hs p only was.decoded (record { held = was.held; delayed = was.delayed; unread = was.unread }) in
+    let clear = still_cleared (fresh s) (left_open t) l m only (record { held = was.held; delayed = was.delayed; unread = was.unread }) in
     record {
       held = clear.held;
       delayed = clear.delayed;
       unread = clear.unread;
       decoded = ap messages only.buffer ∙ was.decoded;
+      header = ap has_bad_header only.buffer ∙ was.header;
     }
 
 -- how it comes that a connection closes: it did so before, or began in the turn
@@ -181,6 +183,7 @@ emptied-behind s t l m es hs p began still before c = elim (began c) [
     delayed = new.0.cleared.delayed;
     unread = new.0.cleared.unread;
     decoded = new.0.decoded.none_whole;
+    header = new.0.decoded.no_bad_header;
   }
 ]
 

@@ -1,31 +1,100 @@
 -- A session that was played ended well.
-use Rattle.std.proofs.Common.{◌≡◌, ℕ, ◌^◌, ◌<◌, List, length, map, Some, refl, sym, ap, ◌∙◌, subst, arith, not}
+use Rattle.std.proofs.Common.{◌≡◌, ℕ, zero, suc, ◌^◌, ◌<◌, ◌≤◌, List, [], ◌∷◌, length, map, take, true, false, Option, Some, None, Result, Ok, Err, inl, inr, refl, sym, ap, ◌∙◌, subst, arith, not, unwrap_or, slice_get}
+use Rattle.std.specs.Prelude.{EachIndex, IsTrue, sum_by}
+use Rattle.std.specs.List.{list_all}
 use Rattle.std.proofs.lemmas.List.{length-append, length-map}
-use Rattle.pg_spec.specs.EndedWell.{EndedWell, HasRun, later_messages}
+use Rattle.pg_spec.specs.EndedWell.{Session, EndedWell, HasRun, booked_in, delivered_of, later_messages, replies, reply}
 use Rattle.pg_spec.specs.Links.{LinkView, added}
-use Rattle.pg_spec.specs.RawMessages.{RawMessage, is_aside, messages, sync_of}
+use Rattle.pg_spec.specs.RawMessages.{RawMessage, is_aside, is_whole_group, messages, sync_of}
 use Rattle.pg_spec.specs.Report as told
-use Rattle.pg_spec.specs.Turns.{IsTrace, Times}
+use Rattle.pg_spec.specs.Turns.{IsTrace, Times, delivered_before}
+use Rattle.futures.specs.declared.task.Poll.{Poll}
+use Rattle.futures.specs.declared.task.Poll.TheVariants.{Ready, Pending}
+use Rattle.pg_connect.specs.Answers.{PollAnswers}
 use Rattle.pg_connect.specs.Passed.{delivered_by}
+use Rattle.pg_connect.specs.declared.streams.Streams.{Streams}
+use Rattle.pg_errors.specs.declared.async_message.AsyncMessage.{AsyncMessage}
+use Rattle.pg_errors.specs.declared.error.Error.{Error}
+use Rattle.pg_hub.specs.Fits.{HubBecomes}
+use Rattle.pg_hub.specs.Standing.{Standing}
 use Rattle.pg_desk.specs.History.{IsFrontOf}
-use Rattle.pg_desk.specs.declared.event.Booking.{Booking}
-use Rattle.pg_text.specs.Views.{answer_of, booking_of, command_of, mark_of, report_of, scripts_of}
-use Rattle.pg_text.specs.declared.command.Answer.{Answer}
-use Rattle.pg_text.specs.declared.report.TurnMark.{TurnMark}
+use Rattle.pg_text.specs.Views.{command_of, mark_of, report_of, scripts_of}
 use Rattle.pg_text.specs.declared.command.Command.{Command}
 use Rattle.pg_text.specs.declared.report.Report.{Report}
 use Rattle.pg_session.proofs.CrossedAll.{all-crossed, filter-short, fewer-messages}
 use Rattle.pg_session.proofs.CrossedEnd.{added-is, of-bytes}
 use Rattle.pg_session.proofs.CrossedStart.{is-started}
+use Rattle.pg_session.proofs.CrossedGroups.{both-true}
+use Rattle.pg_session.proofs.LivesAtOnce.{answers-at-once}
 use Rattle.pg_session.proofs.LivesCalls.{calls-alone}
-use Rattle.pg_session.proofs.LivesEnd.{handles-did}
 use Rattle.pg_session.proofs.LivesLink.{came-behind}
-use Rattle.pg_session.proofs.LivesWhole.{ran-and-answered, has-run}
+use Rattle.pg_session.proofs.LivesWhole.{ran-and-answered, said-so, has-run}
 use Rattle.pg_session.proofs.OrderHolds.{turns_are_in_order}
 use Rattle.pg_session.specs.Crossed.{session_of}
-use Rattle.pg_session.specs.WholeSession.{EndsWell}
-use Rattle.pg_session.specs.Lives.{HandlesRan, calls_of}
+use Rattle.pg_session.specs.WholeSession.{EndsWell, IsClosed}
+use Rattle.pg_session.specs.Lives.{calls_of}
 use Rattle.pg_session.specs.Sessions.{HasPlayed}
+use Rattle.pg_session.specs.States.{SessionState}
+use Rattle.pg_session.specs.Turns.{HandsOn, Makes}
+
+-- ---- no reply came before its request
+
+some-in : (group : List RawMessage) → is_whole_group group ≡ true → 0 < length group
+some-in [] is = absurd cc
+some-in (m ∷ ms) is = omega arith
+
+-- a group that is whole isn't empty
+some-at : (gs : List (List RawMessage)) (k : ℕ) → list_all is_whole_group gs ≡ true → k < length gs → 0 < length (unwrap_or (slice_get gs k) [])
+some-at [] k whole lt = absurd (omega (arith, lt))
+some-at (g ∷ gs) zero whole lt = some-in g (both-true (is_whole_group g) (list_all is_whole_group gs) whole).0
+some-at (g ∷ gs) (suc k) whole lt = some-at gs k (both-true (is_whole_group g) (list_all is_whole_group gs) whole).1 (omega (arith, lt))
+
+none-taken : (n : ℕ) (xs : List RawMessage) → take n xs ≡ [] → 0 < length xs → n ≡ 0
+none-taken zero xs none some = refl
+none-taken (suc n) [] none some = absurd (omega (arith, some))
+none-taken (suc n) (x ∷ xs) none some = absurd cc
+
+-- where nothing of a reply was delivered, no more was than the replies before it
+none-sooner : (s : Session) → length (replies s) ≡ length s.report.book → IsTrue (list_all is_whole_group (replies s)) →
+    EachIndex s.report.book (λ k. take (delivered_of s k (booked_in s k)) (reply s k) ≡ []) →
+    EachIndex s.report.book (λ k. delivered_before s.report.trace (booked_in s k) ≤ sum_by length (take k (replies s)))
+none-sooner s many whole unasked k lt =
+    let zero_of : delivered_of s k (booked_in s k) ≡ 0 = none-taken (delivered_of s k (booked_in s k)) (reply s k) (unasked k lt)
+    (some-at (replies s) k whole (omega (arith, lt, many))) in
+    omega (arith, zero_of)
+
+-- ---- what came
+
+-- what came to the hub is a front of the synchronous messages behind the startup, and they are counted by 64 bits
+pub record CameSo (s : Session) (all : List RawMessage) : Type 0 where
+  pub front : IsFrontOf all (sync_of (later_messages s))
+  pub small : length (sync_of (later_messages s)) < 2 ^ 64
+
+pub came-so : (user nonce : List ℕ) (scripts : List (List Command)) (given : List ℕ) (before after : LinkView) (report : Report) →
+    (p : HasPlayed user nonce scripts given before after report) → (g : List ℕ) → added before.given after.given ≡ Some g →
+    CameSo (session_of user nonce scripts given report g) (delivered_by (calls_of scripts given p.new p.link p.last after p.plays))
+came-so user nonce scripts given before after report p g e =
+    let s = session_of user nonce scripts given report g in
+    let cb = came-behind user nonce scripts given before after report p in
+    let all = delivered_by (calls_of scripts given p.new p.link p.last after p.plays) in
+    let g-is : g ≡ cb.got = added-is before.given after.given cb.got g cb.given e in
+    let started = is-started user nonce p.startup.opening.items p.opened.read cb.more (messages g) p.opened.frame p.opened.done (ap messages g-is ∙ cb.behind) in
+    let later : later_messages s ≡ cb.more = started.rest in
+    record {
+      front = subst (λ (ms : List RawMessage). IsFrontOf all (sync_of ms)) (sym later) cb.front;
+      small = omega (
+        arith,
+        filter-short (λ (m : RawMessage). not (is_aside m)) cb.more,
+        ap (λ (ms : List RawMessage). length (sync_of ms)) later,
+        fewer-messages cb.got,
+        ap length cb.behind,
+        length-append p.opened.read cb.more,
+        cb.counted,
+        p.counted,
+      );
+    }
+
+-- ---- all of it
 
 ended : (user nonce : List ℕ) (scripts : List (List Command)) (given : List ℕ) (before after : LinkView) (report : Report) →
     (p : HasPlayed user nonce scripts given before after report) → (g t : List ℕ) →
@@ -33,24 +102,8 @@ ended : (user nonce : List ℕ) (scripts : List (List Command)) (given : List �
 ended user nonce scripts given before after report p g t e d =
     let s = session_of user nonce scripts given report g in
     let c = all-crossed user nonce scripts given before after report p g t e d in
-    let cb = came-behind user nonce scripts given before after report p in
-    let all = delivered_by (calls_of scripts given p.new p.link p.last after p.plays) in
-    let g-is : g ≡ cb.got = added-is before.given after.given cb.got g cb.given e in
-    let started = is-started user nonce p.startup.opening.items p.opened.read cb.more (messages g) p.opened.frame p.opened.done (ap messages g-is ∙ cb.behind) in
-    let later : later_messages s ≡ cb.more = started.rest in
-    let front : IsFrontOf all (sync_of (later_messages s)) = subst (λ (ms : List RawMessage). IsFrontOf all (sync_of ms)) (sym later) cb.front in
-    let small : length (sync_of (later_messages s)) < 2 ^ 64 =
-    omega (
-      arith,
-      filter-short (λ (m : RawMessage). not (is_aside m)) cb.more,
-      ap (λ (ms : List RawMessage). length (sync_of ms)) later,
-      fewer-messages cb.got,
-      ap length cb.behind,
-      length-append p.opened.read cb.more,
-      cb.counted,
-      p.counted,
-    ) in
-    let ran = ran-and-answered user nonce scripts given before after report p (calls-alone scripts given p.new p.link p.last after p.plays) s refl refl front c.delivered_all small in
+    let came = came-so user nonce scripts given before after report p g e in
+    let ran = ran-and-answered user nonce scripts given before after report p (calls-alone scripts given p.new p.link p.last after p.plays) s refl refl came.front c.delivered_all came.small in
     let order = turns_are_in_order scripts given p.new p.last p.link after p.is_new p.fresh.delivered p.plays in
     let trace : map mark_of p.last.trace ≡ map mark_of report.trace = ap (λ ts. map mark_of ts) (sym p.reports.trace) in
     let made : IsTrace given (length (scripts_of scripts)) s.report.trace =
@@ -58,11 +111,13 @@ ended user nonce scripts given before after report p g t e d =
     (subst (λ (ts : List told.TurnMark). IsTrace given (length scripts) ts) trace order) in
     record {
       schedule = ran.schedule;
-      has_run = has-run s.scripts s.turns s.report ran.schedule made ran.ran;
+      has_run = has-run s.scripts s.turns s.report ran.schedule made ran.ran ran.at_once;
       no_tls = c.sends.no_tls;
       started = c.sends.started;
       one_group_each = c.one_group_each;
       whole_groups = c.whole_groups;
+      asked_first = none-sooner s c.one_group_each c.whole_groups ran.well.unasked;
+      no_bad_header = c.no_bad_header;
       sent = c.sends.sent;
       reported = c.sends.reported;
       delivered_front = ran.well.delivered_front;
@@ -91,11 +146,32 @@ trace-made user nonce scripts given before after report p =
 pub has-ended : (user nonce : List ℕ) (scripts : List (List Command)) (given : List ℕ) (before after : LinkView) (report : Report) →
     HasPlayed user nonce scripts given before after report → (schedule : List (List Times)) × HasRun (scripts_of scripts) given (report_of report) schedule
 has-ended user nonce scripts given before after report p =
-    let did = handles-did scripts given p.new p.link p.last after p.is_new p.fresh.active p.fresh.delivered p.plays (calls-alone scripts given p.new p.link p.last after p.plays) in
-    let answers = subst (λ (rows : List (List Answer)). HandlesRan (scripts_of scripts) (map (map answer_of) rows) (map booking_of p.last.hub.book) (map mark_of p.last.trace) did.schedule)
-    (sym p.reports.answers) did.ran in
-    let book = subst (λ (bookings : List Booking). HandlesRan (scripts_of scripts) (map (map answer_of) report.answers) (map booking_of bookings) (map mark_of p.last.trace) did.schedule)
-    (sym p.reports.book) answers in
-    let ran = subst (λ (marks : List TurnMark). HandlesRan (scripts_of scripts) (map (map answer_of) report.answers) (map booking_of report.book) (map mark_of marks) did.schedule)
-    (sym p.reports.trace) book in
-    (did.schedule, has-run (scripts_of scripts) given (report_of report) did.schedule (trace-made user nonce scripts given before after report p) ran)
+    let said = said-so user nonce scripts given before after report p (calls-alone scripts given p.new p.link p.last after p.plays) in
+    let told = report_of report in (
+      said.schedule,
+      has-run (scripts_of scripts) given told said.schedule (trace-made user nonce scripts given before after report p) said.ran
+          (answers-at-once (scripts_of scripts) told.answers told.book told.trace said.schedule
+          (delivered_by (calls_of scripts given p.new p.link p.last after p.plays)) said.ran said.follow),
+    )
+
+-- ---- the link
+
+-- the poll that answered the end
+over-closed : (a b : Standing) (s t : Streams) (l m : LinkView) (answer : Poll (Option (Result AsyncMessage Error))) (was now : List AsyncMessage) →
+    PollAnswers HubBecomes a b s t l m answer → HandsOn answer was now true → IsClosed m
+over-closed a b s t l m Pending was now p hands = absurd (let no : true ≡ false = hands.1 in cc)
+over-closed a b s t l m (Ready None) was now p hands = record { flushed = p.turns.goes.ended.flushed; shut = p.turns.goes.ended.shut }
+over-closed a b s t l m (Ready (Some (Ok message))) was now p hands = absurd (let no : true ≡ false = hands.1 in cc)
+over-closed a b s t l m (Ready (Some (Err e))) was now p hands = absurd hands
+
+turn-closed : (scripts : List (List Command)) (turn : ℕ) (s t : SessionState) (l m : LinkView) → Makes scripts turn s t l m true → IsClosed m
+turn-closed scripts turn s t l m (inl handle) = absurd (let no : true ≡ false = handle.goes_on in cc)
+turn-closed scripts turn s t l m (inr connection) =
+    let made = connection.made in
+    over-closed s.hub t.hub s.streams t.streams l m made.answer s.asynchronous t.asynchronous made.polled made.hands
+
+-- a session that was played to its end leaves the link flushed and shut down
+pub is-closed : (user nonce : List ℕ) (scripts : List (List Command)) (given : List ℕ) (before after : LinkView) (report : Report) →
+    HasPlayed user nonce scripts given before after report → IsClosed after
+is-closed user nonce scripts given before after report p =
+    turn-closed scripts p.plays.last p.plays.ends.state p.last p.plays.ends.link after p.plays.ends.over

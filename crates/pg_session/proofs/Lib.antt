@@ -22,6 +22,7 @@ pub mod LivesOutcomes
 pub mod LivesCases
 pub mod LivesCame
 pub mod LivesAnswers
+pub mod LivesAtOnce
 pub mod LivesLink
 pub mod LivesWhole
 pub mod LivesCalls
@@ -37,9 +38,10 @@ pub mod CrossedGroups
 pub mod CrossedStart
 pub mod CrossedFront
 pub mod CrossedEnd
-pub mod CrossedParameters
 pub mod CrossedAll
 pub mod EndsWell
+pub mod EventsMoves
+pub mod EventsOf
 pub mod StartCausesSent
 pub mod StartCauses
 pub mod CausedLists

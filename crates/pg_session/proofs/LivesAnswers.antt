@@ -1,30 +1,31 @@
 -- The answers of a session's commands, in the words of the main theorem.
-use Rattle.std.proofs.Common.{◌≡◌, ℕ, zero, suc, ◌+◌, ◌^◌, ◌<◌, ◌≤◌, List, [], ◌∷◌, ◌++◌, length, take, drop, Bool, true, false, cond, not, nat_lt, Option, Some, None, option_map, unwrap_or, slice_get, Result, Ok, Err, refl, sym, ap, ◌∙◌, subst, arith, inl, inr, ◌⊎◌}
+use Rattle.std.proofs.Common.{◌≡◌, ℕ, zero, suc, ◌+◌, ◌^◌, ◌<◌, ◌≤◌, List, [], ◌∷◌, ◌++◌, length, map, take, drop, Bool, true, false, cond, not, ◌&&◌, ◌==◌, nat_lt, Option, Some, None, option_map, unwrap_or, slice_get, Result, Ok, Err, refl, sym, ap, ◌∙◌, subst, arith, inl, inr, ◌⊎◌}
 use Rattle.std.specs.List.{filter, prefix_len, position_or_len}
-use Rattle.std.specs.Prelude.{EachIndex}
+use Rattle.std.specs.Prelude.{EachIndex, IsSome, get_or}
 use Rattle.std.proofs.lemmas.Bool.{cases_lt}
 use Rattle.std.proofs.lemmas.Bool.Decides.{nat_tests}
 use Rattle.std.proofs.lemmas.List.{append-nil, length-append, length-take, take_at, take-append-drop}
-use Rattle.std.proofs.lemmas.Option.{slice_get_within, same_Some}
+use Rattle.std.proofs.lemmas.List.Elements.{All-get_or}
+use Rattle.std.proofs.lemmas.Option.{slice_get_within, slice_get-get_or, same_Some}
 use Rattle.pg_spec.specs.Book.{Booking, is_of, bookings_of, request_of}
-use Rattle.pg_spec.specs.EndedWell.{Session, IsDecided, later_messages, reply as reply_to, delivered_of, own_requests, answer_of as answer_to}
+use Rattle.pg_spec.specs.EndedWell.{Session, IsDecided, later_messages, reply as reply_to, booked_in, delivered_of, own_requests, answer_of as answer_to}
 use Rattle.pg_spec.specs.Faults as spec
 use Rattle.pg_spec.specs.Frames.{query_frame}
 use Rattle.pg_spec.specs.RawMessages.{RawMessage, groups, sync_of, is_aside, is_ready, cut_after}
 use Rattle.pg_spec.specs.Readings.{Answers, Decision, GoesOn, decision, decided_by, stands_or, one_later}
 use Rattle.pg_spec.specs.Report.{Answer, Failed, Command, Simple, simple_answer}
 use Rattle.pg_spec.specs.SimpleQuery.{SimpleAnswer, SimpleNext, SimpleState, has_enough, simple_next, simple_decision, simple_reading}
-use Rattle.pg_spec.specs.Turns.{Times, IsFirstTurn, IsOwnTurn, delivered_after, delivered_before, turn_of}
+use Rattle.pg_spec.specs.Turns.{Times, IsFirstTurn, IsOwnTurn, delivered_after, delivered_before, entry_at, turn_of}
 use Rattle.pg_spec.proofs.GroupLaws.{decision-append, decision-after, groups-AreFronts, piece-take}
 use Rattle.pg_connect.specs.Passes.{risen}
 use Rattle.pg_desk.specs.History.{IsFrontOf, reply}
 use Rattle.pg_session.proofs.LivesFollow.{front-then}
-use Rattle.pg_session.proofs.LivesRows.{request, is-own}
+use Rattle.pg_session.proofs.LivesRows.{eq-same, request, is-own}
 use Rattle.pg_session.specs.Lives.{came_at, Undecided, FollowsReply, FollowsBy, Follows, HandlesRan, AnswersFollow, AnswersWell}
 
 -- ---- the number of a request
 
-none-pass : {X : Type 0} (p : X → Bool) (xs : List X) (k : ℕ) (b : X) → filter p xs ≡ [] → slice_get xs k ≡ Some b → p b ≡ true → ⊥
+pub none-pass : {X : Type 0} (p : X → Bool) (xs : List X) (k : ℕ) (b : X) → filter p xs ≡ [] → slice_get xs k ≡ Some b → p b ≡ true → ⊥
 none-pass p [] k b none at is = absurd cc
 none-pass {X} p (x ∷ xs) zero b none at is = by (p x) none (ap p (same_Some x b at) ∙ is)
   where
@@ -75,7 +76,7 @@ length-kept {X} p (x ∷ xs) = by (p x) (length-kept p xs)
     by true h = omega (arith, h)
     by false h = omega (arith, h)
 
-kept-twice : {X : Type 0} (p : X → Bool) (xs : List X) → filter p (filter p xs) ≡ filter p xs
+pub kept-twice : {X : Type 0} (p : X → Bool) (xs : List X) → filter p (filter p xs) ≡ filter p xs
 kept-twice p [] = refl
 kept-twice {X} p (x ∷ xs) = by (p x) refl (kept-twice p xs)
   where
@@ -147,13 +148,13 @@ none-behind f None e = refl
 none-behind f (Some a) e = absurd cc
 
 -- what a front decides is decided by more, by those messages
-record DecidedBy (take : Option ℕ) (front ms : List RawMessage) (answer : Answer) : Type 0 where
-  d : Decision SimpleAnswer
-  decides : simple_decision take ms ≡ Some d
-  within : d.after ≤ length front
-  says : option_map simple_answer (simple_reading take ms) ≡ Some answer
+pub record DecidedBy (take : Option ℕ) (front ms : List RawMessage) (answer : Answer) : Type 0 where
+  pub d : Decision SimpleAnswer
+  pub decides : simple_decision take ms ≡ Some d
+  pub within : d.after ≤ length front
+  pub says : option_map simple_answer (simple_reading take ms) ≡ Some answer
 
-decided-more : (take : Option ℕ) (front ms : List RawMessage) (answer : Answer) → IsFrontOf front ms →
+pub decided-more : (take : Option ℕ) (front ms : List RawMessage) (answer : Answer) → IsFrontOf front ms →
     option_map simple_answer (simple_reading take front) ≡ Some answer → DecidedBy take front ms answer
 decided-more take front ms answer (more, e) says =
     let reading = some-behind simple_answer (simple_reading take front) answer says in
@@ -186,7 +187,7 @@ risen-small n h = omega arith
 pub front-short : {A : Type 0} (xs ys : List A) → IsFrontOf xs ys → length xs ≤ length ys
 front-short xs ys (more, e) = omega (arith, length-append xs more, ap length e)
 
-front-take : {A : Type 0} (xs ys : List A) (n : ℕ) → IsFrontOf xs ys → length xs ≡ n → take n ys ≡ xs
+pub front-take : {A : Type 0} (xs ys : List A) (n : ℕ) → IsFrontOf xs ys → length xs ≡ n → take n ys ≡ xs
 front-take xs ys n (more, e) same = ap (take n) (sym e) ∙ take_at xs more n same
 
 module _ (s : Session) (schedule : List (List Times)) (all : List RawMessage) (ran : HandlesRan s.scripts s.report.answers s.report.book s.report.trace schedule)
@@ -353,6 +354,69 @@ module _ (s : Session) (schedule : List (List Times)) (all : List RawMessage) (r
               (subst (λ (l : List RawMessage). Undecided wanted l) (came-reply settled.reply_is.id earlier (omega (arith, lt, made))) none)
               settled.decided.decides (subst (λ (X : Type 0). X) (so earlier) d)
 
+  -- ---- nothing of a reply came before its request
+
+  some-times : (xs : List (List Command)) (ys : List (List Times)) → map length ys ≡ map length xs → (i j : ℕ) (x : Command) → entry_at xs i j ≡ Some x →
+      (y : Times) × (entry_at ys i j ≡ Some y)
+  some-times [] ys e i j x at = absurd cc
+  some-times (xs ∷ more) [] e i j x at = absurd cc
+  some-times (xs ∷ more) (ys ∷ others) e zero j x at =
+      let same : length ys ≡ length xs = cc in
+      some-at ys j (omega (arith, same, slice_get_within xs j x at))
+    where
+      some-at : (ys : List Times) (j : ℕ) → j < length ys → (y : Times) × (slice_get ys j ≡ Some y)
+      some-at [] j lt = absurd (omega (arith, lt))
+      some-at (y ∷ ys) zero lt = (y, refl)
+      some-at (y ∷ ys) (suc j) lt = some-at ys j (omega (arith, lt))
+  some-times (xs ∷ more) (ys ∷ others) e (suc i) j x at = let rest : map length others ≡ map length more = cc in some-times more others rest i j x at
+
+  of-its-own : (b : Booking) → is_of b.stamp.owner b.stamp.command b ≡ true
+  of-its-own b = ap (λ (t : Bool). t && (b.stamp.command == b.stamp.command)) (eq-same b.stamp.owner) ∙ eq-same b.stamp.command
+
+  -- a request that its command made came to nothing before it
+  unasked-by : (k : ℕ) (b : Booking) → slice_get s.report.book k ≡ Some b → (command : Command) (times : Times) (answer : Answer) →
+      bookings_of s.report.book b.stamp.owner b.stamp.command ≡ own_requests b.stamp.owner b.stamp.command command times →
+      times.begins < length s.report.trace →
+      Follows s.report.trace s.report.book follow.came b.stamp.owner b.stamp.command command times answer →
+      take (delivered_of s k (booked_in s k)) (reply_to s k) ≡ []
+  unasked-by k b at (Simple text wanted) times answer own made f = by (query_frame text) own f
+    where
+      p : Booking → Bool
+      p = is_of b.stamp.owner b.stamp.command
+
+      by : (x : Result (List ℕ) spec.FrameFault) →
+          bookings_of s.report.book b.stamp.owner b.stamp.command ≡ elim x as (λ _. List Booking) [
+            | Ok frame ↦ record { stamp = record { owner = b.stamp.owner; command = b.stamp.command; turn = times.begins }; parts = frame ∷ [] } ∷ []
+            | Err fault ↦ []
+          ] → FollowsBy s.report.trace s.report.book follow.came b.stamp.owner b.stamp.command wanted times answer x →
+          take (delivered_of s k (booked_in s k)) (reply_to s k) ≡ []
+      by (Err fault) none f = absurd (none-pass p s.report.book k b none at (of-its-own b))
+      by (Ok frame) one f =
+          let mine : Booking = request b.stamp.owner b.stamp.command times.begins frame in
+          let here : prefix_len (λ x. not (p x)) s.report.book ≡ k = one-passes p s.report.book k b mine one at (of-its-own b) in
+          let there : prefix_len (λ x. not (p x)) s.report.book ≡ f.id = one-passes p s.report.book f.id mine mine one f.booked (is-own b.stamp.owner b.stamp.command times.begins frame) in
+          let same : f.id ≡ k = sym there ∙ here in
+          let stands : slice_get s.report.book k ≡ Some mine = ap (slice_get s.report.book) (sym same) ∙ f.booked in
+          let turn : booked_in s k ≡ times.begins = ap (λ (o : Option Booking). unwrap_or (option_map (λ (x : Booking). x.stamp.turn) o) 0) stands in
+          ap (λ (n : ℕ). take (delivered_of s k n) (reply_to s k)) turn
+          ∙ sym (came-reply k times.begins made) ∙ ap (λ (n : ℕ). reply n (came_at follow.came times.begins)) (sym same) ∙ f.unasked
+
+  unasked-at : (k : ℕ) (b : Booking) → slice_get s.report.book k ≡ Some b → (o : Option Command) →
+      entry_at s.scripts b.stamp.owner b.stamp.command ≡ o → IsSome o → take (delivered_of s k (booked_in s k)) (reply_to s k) ≡ []
+  unasked-at k b at None of some = absurd cc
+  unasked-at k b at (Some command) of some =
+      let times = some-times s.scripts schedule ran.one_time_each b.stamp.owner b.stamp.command command of in
+      let f = follow.follows b.stamp.owner b.stamp.command command times.0 of times.1 in
+      unasked-by k b at command times.0 f.0 (ran.own_request b.stamp.owner b.stamp.command command times.0 of times.1)
+      (ran.begins b.stamp.owner b.stamp.command times.0 times.1).made f.2
+
+  unasked : EachIndex s.report.book (λ k. take (delivered_of s k (booked_in s k)) (reply_to s k) ≡ [])
+  unasked k lt =
+      let d : Booking = record { stamp = record { owner = 0; command = 0; turn = 0 }; parts = [] } in
+      let b : Booking = get_or s.report.book k d in
+      unasked-at k b (slice_get-get_or s.report.book k d lt) (entry_at s.scripts b.stamp.owner b.stamp.command) refl
+      (All-get_or (λ (x : Booking). IsSome (entry_at s.scripts x.stamp.owner x.stamp.command)) s.report.book k d lt ran.no_other)
+
   pub answers-well : AnswersWell s schedule
   answers-well = record {
     delivered_front = delivered-front;
@@ -362,4 +426,5 @@ module _ (s : Session) (schedule : List (List Times)) (all : List RawMessage) (r
     answers_in_turn = λ handle place command times of at.
         let f = follow.follows handle place command times of at in
         turns-so handle place command times f.0 (ran.own_request handle place command times of at) f.2 (ran.answered handle place command times of at);
+    unasked = unasked;
   }

@@ -26,7 +26,7 @@ use Rattle.pg_query.specs.declared.simple_message.SimpleMessage.{SimpleMessage}
 use Rattle.pg_query.specs.declared.simple_message.SimpleMessage.TheVariants as message
 use Rattle.pg_text.specs.Views as text
 use Rattle.pg_text.specs.Views.{answer_of}
-use Rattle.pg_session.proofs.LivesFollow.{goes-on-reached, Reader, Decides}
+use Rattle.pg_session.proofs.LivesFollow.{goes-on-reached, reached-is, Reader, Decides}
 use Rattle.pg_session.proofs.LivesHub.{stamped}
 use Rattle.pg_session.proofs.LivesLists.{one-more}
 use Rattle.pg_session.proofs.LivesOutcomes.{Poll-of, answer-decided, waits-on}
@@ -135,7 +135,7 @@ run-answers text take frame stamp a b p q es r written was whole became w answer
     let poll = running text take frame stamp a b p es written was whole became h reader now.own in
     record {
       decided = decided-said take (reply h.booked.id (received (state_of was).deliveries)) r
-          (answer-decided text take frame stamp (state_of was) h.booked.id h.booked.after p q [] es poll w r (inl (walk-some stamp p q es r h.reads answers w)) now.told);
+          (answer-decided text take frame stamp (state_of was) h.booked.id h.booked.after p q [] es poll w r (inl (walk-some stamp p q es r h.reads answers w, (refl, h.reads))) now.told);
       deliveries = own-deliveries (state_of was) h.booked.id stamp es now.own;
       others = λ k apart within. own-others (state_of was) k h.booked.id stamp es apart now.own;
     }
@@ -148,6 +148,13 @@ none-read s a id f at =
     let out : length s.gone_out ≤ id = omega (arith, f.gone_out, f.standing.out, ap length f.book, at) in
     let none = f.none_given id out in
     (nil_from_length (taken id s.takes) (omega (arith, f.none_invented id, ap length none)), f.none_hung_up id (omega (arith, at)))
+
+-- and nothing of its reply had come
+pub none-came : (a : Standing) (was : Reached a) (id : ℕ) → id ≡ length (state_of was).book → reply id (received (state_of was).deliveries) ≡ []
+none-came a was id at =
+    let f = was.fits in
+    let out : length (state_of was).gone_out ≤ id = omega (arith, f.gone_out, f.standing.out, ap length f.book, at) in
+    sym ((reached-is was.events was.exact).sound.given_is_group id) ∙ ap (λ (l : List (List RawMessage)). joined l) (f.none_given id out)
 
 -- behind its booking
 pub beginning : (text : List ℕ) (take : Option ℕ) (frame : List ℕ) (stamp : Stamp) (a b : Standing) (p : Place (List SimpleMessage))

@@ -1,6 +1,5 @@
 -- What a poll of a command that was booked took, and when its answer stands.
-use Rattle.std.proofs.Common.{◌≡◌, ℕ, ◌<◌, List, [], ◌∷◌, ◌++◌, length, nat_lt, true, false, Option, Some, None, Result, Ok, Err, refl, sym, ap, ◌∙◌, subst, arith, inl, inr, ◌⊎◌, append_assoc}
-use Rattle.std.proofs.lemmas.Bool.Decides.{nat_tests}
+use Rattle.std.proofs.Common.{◌≡◌, ℕ, ◌<◌, List, [], ◌∷◌, ◌++◌, length, true, false, Option, Some, None, Result, Ok, Err, refl, sym, ap, ◌∙◌, subst, arith, inl, inr, ◌⊎◌, append_assoc}
 use Rattle.std.proofs.lemmas.List.{append-nil, map-append}
 use Rattle.pg_spec.specs.RawMessages.{RawMessage, is_ready, ends_in}
 use Rattle.pg_spec.specs.SimpleQuery.{simple_reading}
@@ -8,7 +7,7 @@ use Rattle.pg_client.specs.Simple.{answer_view}
 use Rattle.pg_client.specs.SimpleLife.{IsDecided}
 use Rattle.pg_desk.proofs.Soundness.{AllCut, legal-sound}
 use Rattle.pg_desk.specs.Kept.{legal-if-exact}
-use Rattle.pg_desk.specs.History.{State, start, finished, taken, waiting, is_hung_up, after, after_all, take_answer, Allows, Needs, IsExact, IsFrontOf, IsSound, joined, received, reply}
+use Rattle.pg_desk.specs.History.{State, start, taken, waiting, is_hung_up, after, after_all, take_answer, Allows, Needs, IsExact, IsFrontOf, IsSound, joined, received, reply}
 use Rattle.pg_desk.specs.declared.event.Event.{Event}
 use Rattle.pg_desk.specs.declared.event.Event.TheVariants as call
 use Rattle.pg_desk.specs.declared.event.Stamp.{Stamp}
@@ -161,13 +160,9 @@ pub refuses-not : (take : Option ℕ) (s : State) (k : ℕ) (done : List Deed) (
 refuses-not take s k done (call.Take id (Ok taking.Over)) r reached whole h undecided own allows needs refuses =
     let over = took-over s k (allows ∙ ap (take_answer s) own) in
     let all = all-taken s k reached.sound over.none in
-    let lt : k < finished s.deliveries = by-test k (finished s.deliveries) over.ended in
     whole-decides take (messages_taken done)
-    (subst (λ (l : List RawMessage). ends_in is_ready l ≡ true) (reached.sound.given_is_group k ∙ sym all ∙ sym h.took) (group-ends k s.deliveries reached.cut lt))
+    (subst (λ (l : List RawMessage). ends_in is_ready l ≡ true) (reached.sound.given_is_group k ∙ sym all ∙ sym h.took) (group-ends s k reached.sound reached.cut over.ended))
     (undecided (messages_taken done) ([], append-nil (messages_taken done)))
-  where
-    by-test : (a b : ℕ) → nat_lt a b ≡ true → a < b
-    by-test a b e = grind (arith, nat_tests)
 refuses-not take s k done (call.Take id (Ok taking.Gone)) r reached whole h undecided own allows needs refuses =
     never-gone s k (allows ∙ ap (take_answer s) own) h.booked h.there whole
 refuses-not take s k done (call.Take id (Ok (taking.Batch ms))) r reached whole h undecided own allows needs refuses = refuses

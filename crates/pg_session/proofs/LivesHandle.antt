@@ -21,7 +21,7 @@ use Rattle.pg_query.specs.declared.simple_message.SimpleMessage.{SimpleMessage}
 use Rattle.pg_text.specs.Views.{command_of, booking_of, answer_of}
 use Rattle.pg_text.specs.declared.command.Command.{Command}
 use Rattle.pg_text.specs.declared.command.Command.TheVariants as command
-use Rattle.pg_session.proofs.LivesCases.{StillWaits, NowAnswers, run-waits, run-answers, begin-waits, begin-answers, begun-id, refused-said}
+use Rattle.pg_session.proofs.LivesCases.{StillWaits, NowAnswers, run-waits, run-answers, begin-waits, begin-answers, begun-id, refused-said, none-came}
 use Rattle.pg_session.proofs.LivesLists.{one-more}
 use Rattle.pg_session.proofs.LivesPolls.{BeganSo, Booked, Unwritten, Refused, BegunWaits, begins-waits, begins-answers, polled-waits, polled-answers, answer-waits-not, answer-stays}
 use Rattle.pg_session.proofs.LivesReached.{Reached, state_of, state-more, reached-more, book_in, own-kept, none-kept, booked-one, never-refused}
@@ -261,7 +261,7 @@ module _ (script : List Command) (trace : List told.TurnMark) (m : told.TurnMark
           let id = begun.id ∙ begun-id a b stamp begun.frame goes.events was goes.became begun.now in
           let now = begins-turn (map command_of script) trace m (book_in a) came (now_come was) (map answer_of old.answers) (state_of was) (state_of next) turn row waits.to text take begun.frame many own
           (said-at script (length row) (length old.answers) (command.Simple text take) h.count stands) begun.is (stood None waits.starts.none_runs) begun.alive
-          (id ∙ booked-many a was) still.reader still.undecided in
+          (id ∙ booked-many a was) still.reader still.undecided (none-came a was begun.alive.booked.id id) in
           let same = same-request (book_in a) turn (length row) (length old.answers) (length trace) time begun.frame h.count made in
           subst (λ (x : HandleState). Polled script trace m came turn time a was old b x 0) (sym waits.handle)
           (record {
@@ -312,7 +312,7 @@ module _ (script : List Command) (trace : List told.TurnMark) (m : told.TurnMark
           let times : Times = record { begins = length trace; answers = length trace } in
           let now = begins-answered (map command_of script) trace m (book_in a) came (now_come was) (map answer_of old.answers) (answer_of (kept_answer r)) (state_of was) (state_of next) turn row text take begun.frame
           begun.now.id many counted own (said-at script (length row) (length old.answers) (command.Simple text take) h.count stands) begun.is (stood None starts.none_runs)
-          (id ∙ booked-many a was) says.decided in
+          (id ∙ booked-many a was) says.decided (none-came a was begun.now.id id) in
           let same = same-request (book_in a) turn (length row) (length old.answers) (length trace) time begun.frame h.count made in
           let there = slice_get_within script (length old.answers) (command.Simple text take) stands in
           subst (λ (x : HandleState). Polled script trace m came turn time a was old b x 1) (sym handle)

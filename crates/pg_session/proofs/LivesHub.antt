@@ -1,12 +1,12 @@
 -- What the calls of a command's polls and of a connection's do to a hub's state.
-use Rattle.std.proofs.Common.{◌≡◌, ℕ, List, [], ◌∷◌, length, map, drop, Bool, true, false, Ok, Err, refl, sym, ◌∙◌, if◌then◌else◌, nat_lt}
+use Rattle.std.proofs.Common.{◌≡◌, ℕ, List, [], ◌∷◌, length, map, drop, Bool, true, false, Ok, Err, refl, sym, ◌∙◌, if◌then◌else◌}
 use Rattle.pg_desk.specs.declared.event.Deliver.TheVariants as delivering
 use Rattle.pg_desk.specs.declared.event.Out.TheVariants as out
 use Rattle.pg_desk.specs.declared.event.Take.TheVariants as taking
 use Rattle.pg_desk.specs.declared.event.Event.{Event}
 use Rattle.pg_desk.specs.declared.event.Event.TheVariants.{Book, Take as TakeEvent, HangUp, NextStatement, NextPortal, NextOut, Deliver as DeliverEvent, CloseRequests, Fail}
 use Rattle.pg_desk.specs.declared.event.Stamp.{Stamp}
-use Rattle.pg_desk.specs.History.{State, finished, after, after_all, out_of_rest, wire, Allows, IsExact}
+use Rattle.pg_desk.specs.History.{State, has_open, after, after_all, out_of_rest, wire, Allows, IsExact}
 use Rattle.pg_query.specs.Lives.{Deed, IsOf, AllOf}
 use Rattle.pg_connect.specs.Ends.{last_is, has_no_more}
 use Rattle.pg_connect.specs.Passed.{IsEngineCall, AllEngineCalls}
@@ -50,7 +50,7 @@ engine-all s (e ∷ es) h = same-then s (after s e) (after_all s (e ∷ es)) (en
 -- nothing more comes only where requests are closed
 rest-closed : (s : State) (parts : List (List ℕ)) → out.NoMore ≡ out_of_rest s parts → s.closed ≡ true
 rest-closed s (part ∷ parts) h = absurd cc
-rest-closed s [] h = by (nat_lt (finished s.deliveries) (length s.gone_out)) s.closed h
+rest-closed s [] h = by (has_open s) s.closed h
   where
     by : (b c : Bool) → out.NoMore ≡ (if b then out.Nothing else (if c then out.NoMore else out.Nothing)) → c ≡ true
     by true c h = absurd cc

@@ -34,7 +34,7 @@ request handle place turn frame = record { stamp = record { owner = handle; comm
 
 -- ---- the book
 
-eq-same : (n : ℕ) → (n == n) ≡ true
+pub eq-same : (n : ℕ) → (n == n) ≡ true
 eq-same n = grind (arith, nat_tests)
 
 eq-other : (a b : ℕ) → a ≢ b → (a == b) ≡ false
@@ -128,6 +128,7 @@ pub record Runs (script : List Command) (trace : List TurnMark) (book : List Boo
   pub alive : Alive text take frame here
   pub at : slice_get book alive.booked.id ≡ Some (request handle (length row) begun frame)
   pub reader : Reader s alive.booked.id alive.booked.after
+  pub unasked : reply alive.booked.id (came_at came begun) ≡ []
   pub undecided : UndecidedSo take alive.booked.id trace came handle begun (length trace)
 
 abbrev pub Now : List Command → List TurnMark → List Booking → List (List RawMessage) → State → (handle : ℕ) → List Times →
@@ -152,6 +153,15 @@ came-before came c place h = ap (λ (o : Option (List RawMessage)). unwrap_or o 
 came-last : (came : List (List RawMessage)) (c : List RawMessage) (place : ℕ) → length came ≡ place → came_at (came ++ c ∷ []) place ≡ c
 came-last came c place h =
     ap (λ (n : ℕ). came_at (came ++ c ∷ []) n) (sym h) ∙ ap (λ (o : Option (List RawMessage)). unwrap_or o []) (get-last came c)
+
+-- where nothing of a reply had come, nothing of it had
+unasked-grows : (id : ℕ) (trace : List TurnMark) (came : List (List RawMessage)) (c : List RawMessage) (place : ℕ) →
+    length came ≡ length trace → place < length trace → reply id (came_at came place) ≡ [] → reply id (came_at (came ++ c ∷ []) place) ≡ []
+unasked-grows id trace came c place many made none = ap (λ (ms : List RawMessage). reply id ms) (came-before came c place (omega (arith, made, many))) ∙ none
+
+unasked-now : (id : ℕ) (came : List (List RawMessage)) (c : List RawMessage) (place : ℕ) → length came ≡ place → reply id c ≡ [] →
+    reply id (came_at (came ++ c ∷ []) place) ≡ []
+unasked-now id came c place many none = ap (λ (ms : List RawMessage). reply id ms) (came-last came c place many) ∙ none
 
 undecided-grows : (take : Option ℕ) (id : ℕ) (trace : List TurnMark) (m : TurnMark) (came : List (List RawMessage)) (c : List RawMessage)
     (handle from to : ℕ) → length came ≡ length trace → to ≤ length trace →
@@ -186,9 +196,10 @@ book-pushed book book' b h k x e = ap (λ (bs : List Booking). slice_get bs k) h
 
 follows-grows : (trace : List TurnMark) (m : TurnMark) (book book' : List Booking) (came : List (List RawMessage)) (c : List RawMessage)
     (handle place : ℕ) (command : Command) (times : Times) (answer : Answer) →
-    length came ≡ length trace → times.answers < length trace → BookGrows book book' → Follows trace book came handle place command times answer →
+    length came ≡ length trace → times.answers < length trace → times.begins ≤ times.answers → BookGrows book book' →
+    Follows trace book came handle place command times answer →
     Follows (trace ++ m ∷ []) book' (came ++ c ∷ []) handle place command times answer
-follows-grows trace m book book' came c handle place (Simple text take) times answer many made grows h = by (query_frame text) h
+follows-grows trace m book book' came c handle place (Simple text take) times answer many made later grows h = by (query_frame text) h
   where
     by : (f : Result (List ℕ) spec.FrameFault) → FollowsBy trace book came handle place take times answer f →
         FollowsBy (trace ++ m ∷ []) book' (came ++ c ∷ []) handle place take times answer f
@@ -196,6 +207,7 @@ follows-grows trace m book book' came c handle place (Simple text take) times an
     by (Ok frame) k = record {
       id = k.id;
       booked = grows k.id (request handle place times.begins frame) k.booked;
+      unasked = unasked-grows k.id trace came c times.begins many (omega (arith, later, made)) k.unasked;
       decided = subst (λ (ms : List RawMessage). Decided take (reply k.id ms) answer) (sym (came-before came c times.answers (omega (arith, made, many)))) k.decided;
       undecided = undecided-grows take k.id trace m came c handle times.begins times.answers many (omega (arith, made)) k.undecided;
     }
@@ -213,7 +225,7 @@ entry-grows script trace m book book' came c answers answers' handle row row' pl
   own = same ∙ h.own;
   answer = h.answer;
   answer_at = stays ∙ h.answer_at;
-  follows = follows-grows trace m book book' came c handle place h.command times h.answer many h.answered.made grows h.follows;
+  follows = follows-grows trace m book book' came c handle place h.command times h.answer many h.answered.made h.answered.no_sooner grows h.follows;
 }
 
 -- times that stand are of turns that were made
@@ -268,6 +280,7 @@ other-turn script trace m book book' came c answers s s' handle row running many
       at = leaves.grows k.alive.booked.id (request handle (length row) k.begun k.frame) k.at;
       reader = reader-stays s s' k.alive.booked.id k.alive.booked.after leaves.more
           (leaves.readers k.alive.booked.id (request handle (length row) k.begun k.frame) k.at refl) k.reader;
+      unasked = unasked-grows k.alive.booked.id trace came c k.begun many k.begins.made k.unasked;
       undecided = λ place ge lt own.
           undecided-grows k.take k.alive.booked.id trace m came c handle k.begun (length trace) many (omega arith) k.undecided place ge
           (before place lt own) own;
@@ -304,6 +317,7 @@ row-stays script trace book came answers s s' handle row running more same h = r
       alive = k.alive;
       at = k.at;
       reader = reader-stays s s' k.alive.booked.id k.alive.booked.after more (same k.alive.booked.id) k.reader;
+      unasked = k.unasked;
       undecided = k.undecided;
     }
 
@@ -343,6 +357,8 @@ waits-turn script trace m book came c answers s s' handle row here there many h 
     alive = alive;
     at = ap (slice_get book) same ∙ h.now.at;
     reader = reader;
+    unasked = ap (λ (n : ℕ). reply n (came_at (came ++ c ∷ []) h.now.begun)) same
+        ∙ unasked-grows h.now.alive.booked.id trace came c h.now.begun many h.now.begins.made h.now.unasked;
     undecided = undecided-now h.now.take alive.booked.id trace m came c handle h.now.begun many now
         (subst (λ (n : ℕ). UndecidedSo h.now.take n trace came handle h.now.begun (length trace)) (sym same) h.now.undecided);
   };
@@ -357,9 +373,9 @@ pub begins-turn : (script : List Command) (trace : List TurnMark) (m : TurnMark)
     (there : Place (List SimpleMessage)) (text : List ℕ) (take : Option ℕ) (frame : List ℕ) → length came ≡ length trace →
     m.turn ≡ handle → slice_get script (length row) ≡ Some (Simple text take) → query_frame text ≡ Ok frame →
     RowStands script trace book came answers s handle row None → (alive : Alive text take frame there) → alive.booked.id ≡ length book →
-    Reader s' alive.booked.id alive.booked.after → Undecided take (reply alive.booked.id c) →
+    Reader s' alive.booked.id alive.booked.after → Undecided take (reply alive.booked.id c) → reply alive.booked.id c ≡ [] →
     RowStands script (trace ++ m ∷ []) (book ++ request handle (length row) (length trace) frame ∷ []) (came ++ c ∷ []) answers s' handle row (Some there)
-begins-turn script trace m book came c answers s s' handle row there text take frame many own stands written h alive id reader now = record {
+begins-turn script trace m book came c answers s s' handle row there text take frame many own stands written h alive id reader now none = record {
   entries = λ place times e.
       entry-grows script trace m book (book ++ request handle (length row) (length trace) frame ∷ []) came c answers answers handle row row place times many
       (book-pushed book (book ++ request handle (length row) (length trace) frame ∷ []) (request handle (length row) (length trace) frame) refl) refl refl
@@ -379,6 +395,7 @@ begins-turn script trace m book came c answers s s' handle row there text take f
     alive = alive;
     at = ap (slice_get (book ++ request handle (length row) (length trace) frame ∷ [])) id ∙ get-last book (request handle (length row) (length trace) frame);
     reader = reader;
+    unasked = unasked-now alive.booked.id came c (length trace) many none;
     undecided = undecided-now take alive.booked.id trace m came c handle (length trace) many now (λ place ge lt own. absurd (omega (arith, ge, lt)));
   };
 }
@@ -477,6 +494,7 @@ runs-answers script trace m book came c answers answer s s' handle row here many
           (record {
             id = h.now.alive.booked.id;
             booked = h.now.at;
+            unasked = unasked-grows h.now.alive.booked.id trace came c h.now.begun many h.now.begins.made h.now.unasked;
             decided = decided-now h.now.take h.now.alive.booked.id came c answer (length trace) many decided;
             undecided = undecided-grows h.now.take h.now.alive.booked.id trace m came c handle h.now.begun (length trace) many (omega arith) h.now.undecided;
           });
@@ -487,10 +505,10 @@ pub begins-answered : (script : List Command) (trace : List TurnMark) (m : TurnM
     (c : List RawMessage) (answers : List Answer) (answer : Answer) (s s' : State) (handle : ℕ) (row : List Times)
     (text : List ℕ) (take : Option ℕ) (frame : List ℕ) (id : ℕ) → length came ≡ length trace → length row ≡ length answers →
     m.turn ≡ handle → slice_get script (length row) ≡ Some (Simple text take) → query_frame text ≡ Ok frame →
-    RowStands script trace book came answers s handle row None → id ≡ length book → Decided take (reply id c) answer →
+    RowStands script trace book came answers s handle row None → id ≡ length book → Decided take (reply id c) answer → reply id c ≡ [] →
     RowStands script (trace ++ m ∷ []) (book ++ request handle (length row) (length trace) frame ∷ []) (came ++ c ∷ []) (answers ++ answer ∷ []) s' handle
     (row ++ record { begins = length trace; answers = length trace } ∷ []) None
-begins-answered script trace m book came c answers answer s s' handle row text take frame id many count own stands written h at decided =
+begins-answered script trace m book came c answers answer s s' handle row text take frame id many count own stands written h at decided none =
     answers-turn script trace m book (book ++ request handle (length row) (length trace) frame ∷ []) came c answers answer s s' handle row None
     (record { begins = length trace; answers = length trace }) many
     (book-pushed book (book ++ request handle (length row) (length trace) frame ∷ []) (request handle (length row) (length trace) frame) refl) count refl
@@ -511,6 +529,7 @@ begins-answered script trace m book came c answers answer s s' handle row text t
           (record {
             id = id;
             booked = ap (slice_get (book ++ request handle (length row) (length trace) frame ∷ [])) at ∙ get-last book (request handle (length row) (length trace) frame);
+            unasked = unasked-now id came c (length trace) many none;
             decided = decided-now take id came c answer (length trace) many decided;
             undecided = λ place ge lt own. absurd (omega (arith, ge, lt));
           });

@@ -14,7 +14,7 @@ use Rattle.pg_desk.specs.declared.event.Event.TheVariants.{Book, Take as TakeEve
 use Rattle.pg_desk.specs.declared.event.Out.TheVariants as out
 use Rattle.pg_desk.specs.declared.event.Stamp.{Stamp}
 use Rattle.pg_desk.specs.declared.event.Take.TheVariants as taking
-use Rattle.pg_desk.specs.History.{State, Delivery, finished, given, taken, waiting, is_in, is_hung_up, after, after_all, take_answer, take_of_waiting, Allows, IsExact, IsFrontOf, IsSound, joined, received, reply}
+use Rattle.pg_desk.specs.History.{State, Delivery, finished, given, between_ends, has_ended, next_owner, may_let_go, taken, waiting, is_in, is_hung_up, after, after_all, take_answer, take_of_waiting, Allows, IsExact, IsFrontOf, IsSound, joined, received, reply}
 use Rattle.pg_desk.proofs.Soundness.{AllCut, cut-more, taken-own, taken-other}
 use Rattle.pg_query.specs.Lives.{IsOf, AllOf, messages_taken, taken_by}
 use Rattle.pg_session.proofs.LivesHub.{stamped}
@@ -49,7 +49,7 @@ other-reader s j k (TakeEvent which (Ok taking.Empty)) apart h = reader-here j s
 other-reader s j k (TakeEvent which (Ok taking.Over)) apart h = reader-here j s
 other-reader s j k (TakeEvent which (Ok taking.Gone)) apart h = reader-here j s
 other-reader s j k (TakeEvent which (Err e)) apart h = reader-here j s
-other-reader s j k (HangUp which (Ok x)) apart h = record { taken = refl; hung = in-other-if (nat_lt which (length s.book)) j which s.hung_up (λ e. apart (e ∙ h)) }
+other-reader s j k (HangUp which (Ok x)) apart h = record { taken = refl; hung = in-other-if (may_let_go s which) j which s.hung_up (λ e. apart (e ∙ h)) }
 other-reader s j k (HangUp which (Err e)) apart h = reader-here j s
 other-reader s j k (Book stamp part copying r) apart h = absurd h
 other-reader s j k (NextStatement r) apart h = absurd h
@@ -154,7 +154,7 @@ engine-one s (NextOut (Ok out.NoMore)) h = none-came s
 engine-one s (NextOut (Err e)) h = none-came s
 engine-one s (DeliverEvent batch complete delivering.Taken) h = record {
   readers = λ j. record { taken = refl; hung = refl };
-  received = received-more s.deliveries (record { messages = batch; complete = complete }) ∙ ap (λ (l : List RawMessage). received s.deliveries ++ l) (sym (append-nil batch));
+  received = received-more s.deliveries (record { owner = next_owner s; messages = batch; complete = complete }) ∙ ap (λ (l : List RawMessage). received s.deliveries ++ l) (sym (append-nil batch));
 }
 engine-one s (DeliverEvent batch complete (delivering.Full back)) h = none-came s
 engine-one s (DeliverEvent batch complete (delivering.NoRequest back)) h = none-came s
@@ -198,12 +198,12 @@ took-empty s k h = by (nat_lt k (length s.book)) (is_hung_up s k) h
 
 pub record IsOver (s : State) (k : ℕ) : Type 0 where
   pub none : waiting s k ≡ []
-  pub ended : nat_lt k (finished s.deliveries) ≡ true
+  pub ended : has_ended k s.deliveries ≡ true
 
 over-waits : (s : State) (k : ℕ) (w : List (List RawMessage)) → taking.Over ≡ take_of_waiting s k w →
-    (w ≡ []) × (nat_lt k (finished s.deliveries) ≡ true)
+    (w ≡ []) × (has_ended k s.deliveries ≡ true)
 over-waits s k (ms ∷ w) h = absurd cc
-over-waits s k [] h = by s.failed (nat_lt k (finished s.deliveries)) h
+over-waits s k [] h = by s.failed (has_ended k s.deliveries) h
   where
     by : (b c : Bool) → taking.Over ≡ (if b then taking.Gone else (if c then taking.Over else taking.Empty)) → (◌≡◌ {A = List (List RawMessage)} [] []) × (c ≡ true)
     by true c h = absurd cc
@@ -220,7 +220,7 @@ took-over s k h = by (nat_lt k (length s.book)) (is_hung_up s k) h
 
 gone-waits : (s : State) (k : ℕ) (w : List (List RawMessage)) → taking.Gone ≡ take_of_waiting s k w → s.failed ≡ true
 gone-waits s k (ms ∷ w) h = absurd cc
-gone-waits s k [] h = by s.failed (nat_lt k (finished s.deliveries)) h
+gone-waits s k [] h = by s.failed (has_ended k s.deliveries) h
   where
     by : (b c : Bool) → taking.Gone ≡ (if b then taking.Gone else (if c then taking.Over else taking.Empty)) → b ≡ true
     by true c h = refl
@@ -260,7 +260,7 @@ taken-front s k sound =
 -- ---- a group that ended
 
 cut-one : (s : State) (e : Event) → Allows s e → AllCut s.deliveries → AllCut (after s e).deliveries
-cut-one s (DeliverEvent batch complete delivering.Taken) a h = cut-more s.deliveries (record { messages = batch; complete = complete }) h a.0
+cut-one s (DeliverEvent batch complete delivering.Taken) a h = cut-more s.deliveries (record { owner = next_owner s; messages = batch; complete = complete }) h a.0
 cut-one s (DeliverEvent batch complete (delivering.Full back)) a h = h
 cut-one s (DeliverEvent batch complete (delivering.NoRequest back)) a h = h
 cut-one s (DeliverEvent batch complete (delivering.OutOfMemory back)) a h = h
@@ -314,20 +314,28 @@ ends-behind (x ∷ []) [] h = absurd cc
 ends-behind (x ∷ []) (y ∷ ys) h = h
 ends-behind (x ∷ z ∷ xs) ys h = ends-behind (z ∷ xs) ys h
 
-pub group-ends : (k : ℕ) (ds : List Delivery) → AllCut ds → k < finished ds → ends_in is_ready (joined (given k ds)) ≡ true
-group-ends k [] cut lt = absurd (omega (arith, lt))
-group-ends zero (d ∷ ds) cut lt = first d.complete d.messages cut.0 lt (group-ends zero ds cut.1)
+piece-ends : (k : ℕ) (ds : List Delivery) → AllCut ds → k < finished ds → ends_in is_ready (joined (between_ends k ds)) ≡ true
+piece-ends k [] cut lt = absurd (omega (arith, lt))
+piece-ends zero (d ∷ ds) cut lt = first d.complete d.messages cut.0 lt (piece-ends zero ds cut.1)
   where
     first : (b : Bool) (ms : List RawMessage) → is_batch b ms ≡ true → zero < (if b then suc (finished ds) else finished ds) →
-        (zero < finished ds → ends_in is_ready (joined (given zero ds)) ≡ true) → ends_in is_ready (ms ++ joined (if b then [] else given zero ds)) ≡ true
+        (zero < finished ds → ends_in is_ready (joined (between_ends zero ds)) ≡ true) → ends_in is_ready (ms ++ joined (if b then [] else between_ends zero ds)) ≡ true
     first true ms c lt f = subst (λ (l : List RawMessage). ends_in is_ready l ≡ true) (sym (append-nil ms)) (batch-ends ms c)
-    first false ms c lt f = ends-behind ms (joined (given zero ds)) (f lt)
-group-ends (suc k) (d ∷ ds) cut lt = later d.complete lt (group-ends k ds cut.1) (group-ends (suc k) ds cut.1)
+    first false ms c lt f = ends-behind ms (joined (between_ends zero ds)) (f lt)
+piece-ends (suc k) (d ∷ ds) cut lt = later d.complete lt (piece-ends k ds cut.1) (piece-ends (suc k) ds cut.1)
   where
-    later : (b : Bool) → suc k < (if b then suc (finished ds) else finished ds) → (k < finished ds → ends_in is_ready (joined (given k ds)) ≡ true) →
-        (suc k < finished ds → ends_in is_ready (joined (given (suc k) ds)) ≡ true) → ends_in is_ready (joined (given (if b then k else suc k) ds)) ≡ true
+    later : (b : Bool) → suc k < (if b then suc (finished ds) else finished ds) → (k < finished ds → ends_in is_ready (joined (between_ends k ds)) ≡ true) →
+        (suc k < finished ds → ends_in is_ready (joined (between_ends (suc k) ds)) ≡ true) → ends_in is_ready (joined (between_ends (if b then k else suc k) ds)) ≡ true
     later true lt f g = f (omega (arith, lt))
     later false lt f g = g lt
+
+pub group-ends : (s : State) (k : ℕ) → IsSound s → AllCut s.deliveries → has_ended k s.deliveries ≡ true → ends_in is_ready (joined (given k s.deliveries)) ≡ true
+group-ends s k sound cut over =
+    let low : k < finished s.deliveries = less k (finished s.deliveries) (sym (sound.ended_in_order k) ∙ over) in
+    ap (λ (l : List (List RawMessage)). ends_in is_ready (joined l)) (sound.given_is_between k) ∙ piece-ends k s.deliveries cut low
+  where
+    less : (a b : ℕ) → nat_lt a b ≡ true → a < b
+    less a b e = grind (arith, nat_tests)
 
 -- a ReadyForQuery is the end of a reading
 ready-body : (state : SimpleState) (body : List ℕ) → (a : SimpleAnswer) × (simple_next state (record { tag = 90; body = body }) ≡ Answers a)

@@ -91,7 +91,8 @@ read {T} stamp (Read cleanup decides next) id (call.Take which (Ok (taking.Batch
     record { tame = subst (λ (x : Dialogue T). Tame x) (sym s.1) (tame-fed ms (Read cleanup decides next) t); last = λ k. absurd k }
 read {T} stamp (Read cleanup decides next) id (call.Take which (Ok taking.Empty)) d' id' i t s = record { tame = subst (λ (x : Dialogue T). Tame x) (sym s.1) t; last = λ k. absurd k }
 read stamp (Read cleanup decides next) id (call.Take which (Ok taking.Over)) d' id' i t s = to-answer _ d' (Err Closed) s.1
-read stamp (Read cleanup decides next) id (call.Take which (Ok taking.Gone)) d' id' i t s = to-answer _ d' (Err Closed) s.1
+read {T} stamp (Read cleanup decides next) id (call.Take which (Ok taking.Gone)) d' id' i t s =
+    record { tame = subst (λ (x : Dialogue T). Tame x) (sym s.1) tt; last = λ k. absurd k }
 read stamp (Read cleanup decides next) id (call.Take which (Err e)) d' id' i t s = to-answer _ d' (Err (of_fault e)) s.1
 read stamp (Read cleanup decides next) id (call.Book a b c r) d' id' i t s = absurd s
 read stamp (Read cleanup decides next) id (call.HangUp k r) d' id' i t s = absurd s

@@ -14,24 +14,25 @@ use Rattle.pg_text.specs.declared.command.Answer.{Answer}
 use Rattle.pg_text.specs.declared.command.Command.{Command}
 use Rattle.pg_text.specs.declared.report.Report.{Report}
 use Rattle.pg_session.proofs.LivesAnswers.{answers-well, risen-small, front-short}
+use Rattle.pg_session.proofs.LivesAtOnce.{answers-at-once}
 use Rattle.pg_session.proofs.LivesEnd.{handles-did}
 use Rattle.pg_connect.specs.Passed.{AllEngineCalls}
-use Rattle.pg_session.specs.Lives.{calls_of, HandlesRan, AnswersFollow, RanAndAnswered}
+use Rattle.pg_session.specs.Lives.{calls_of, HandlesRan, AnswersAtOnce, AnswersFollow, RanAndAnswered}
 use Rattle.pg_session.specs.Sessions.{HasPlayed}
 
 -- a front as long as the whole is the whole
-front-whole : {A : Type 0} (xs ys : List A) → IsFrontOf xs ys → length xs ≡ length ys → ys ≡ xs
+pub front-whole : {A : Type 0} (xs ys : List A) → IsFrontOf xs ys → length xs ≡ length ys → ys ≡ xs
 front-whole xs ys (more, e) same =
     let none = nil_from_length more (omega (arith, length-append xs more, ap length e, same)) in
     sym e ∙ ap (λ l. xs ++ l) none ∙ append-nil xs
 
 -- what ran and followed, in the words of a report that tells so
-record Said (scripts : List (List told.Command)) (report : told.Report) (all : List RawMessage) : Type 0 where
-  schedule : List (List Times)
-  ran : HandlesRan scripts report.answers report.book report.trace schedule
-  follow : AnswersFollow scripts report.answers report.book report.trace schedule all
+pub record Said (scripts : List (List told.Command)) (report : told.Report) (all : List RawMessage) : Type 0 where
+  pub schedule : List (List Times)
+  pub ran : HandlesRan scripts report.answers report.book report.trace schedule
+  pub follow : AnswersFollow scripts report.answers report.book report.trace schedule all
 
-said-so : (user nonce : List ℕ) (scripts : List (List Command)) (given : List ℕ) (before after : LinkView) (report : Report) →
+pub said-so : (user nonce : List ℕ) (scripts : List (List Command)) (given : List ℕ) (before after : LinkView) (report : Report) →
     (p : HasPlayed user nonce scripts given before after report) →
     AllEngineCalls (calls_of scripts given p.new p.link p.last after p.plays) → Said (scripts_of scripts) (report_of report)
     (delivered_by (calls_of scripts given p.new p.link p.last after p.plays))
@@ -58,7 +59,12 @@ answered s all h front whole small =
     let short = front-short all (sync_of (later_messages s)) front in
     let less : length all < 2 ^ 64 = omega (arith, short, small) in
     let count : length all ≡ length (sync_of (later_messages s)) = sym (risen-small (length all) less) ∙ sym h.follow.counted_all ∙ whole in
-    record { schedule = h.schedule; ran = h.ran; well = answers-well s h.schedule all h.ran h.follow (front-whole all (sync_of (later_messages s)) front count) less }
+    record {
+      schedule = h.schedule;
+      ran = h.ran;
+      at_once = answers-at-once s.scripts s.report.answers s.report.book s.report.trace h.schedule all h.ran h.follow;
+      well = answers-well s h.schedule all h.ran h.follow (front-whole all (sync_of (later_messages s)) front count) less;
+    }
 
 -- a session that was played ran and answered as the main theorem says
 pub ran-and-answered : (user nonce : List ℕ) (scripts : List (List Command)) (given : List ℕ) (before after : LinkView) (report : Report) →
@@ -77,8 +83,9 @@ ran-and-answered user nonce scripts given before after report p calls s asked to
 
 -- with its turns it is what can be said without the bytes
 pub has-run : (scripts : List (List told.Command)) (turns : List ℕ) (report : told.Report) (schedule : List (List Times)) → IsTrace turns (length scripts) report.trace →
-    HandlesRan scripts report.answers report.book report.trace schedule → HasRun scripts turns report schedule
-has-run scripts turns report schedule made h = record {
+    HandlesRan scripts report.answers report.book report.trace schedule → AnswersAtOnce scripts report.answers schedule →
+    HasRun scripts turns report schedule
+has-run scripts turns report schedule made h at_once = record {
   one_answer_each = h.one_answer_each;
   one_time_each = h.one_time_each;
   turns_made = made;
@@ -87,4 +94,5 @@ has-run scripts turns report schedule made h = record {
   own_request = h.own_request;
   no_other = h.no_other;
   in_order = h.in_order;
+  at_once = at_once;
 }

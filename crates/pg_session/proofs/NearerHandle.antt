@@ -90,7 +90,8 @@ step {T} stamp (Read cleanup decides next) id (TakeEvent which (Ok (taking.Batch
 step {T} stamp (Read cleanup decides next) id (TakeEvent which (Ok taking.Empty)) d' id' h q =
     record { reader = tt; reads = subst (λ (x : Dialogue T). ReadsToAnswer x) (sym h.1) q; takes = inl tt }
 step stamp (Read cleanup decides next) id (TakeEvent which (Ok taking.Over)) d' id' h q = answered _ _ d' tt h.1
-step stamp (Read cleanup decides next) id (TakeEvent which (Ok taking.Gone)) d' id' h q = answered _ _ d' tt h.1
+step {T} stamp (Read cleanup decides next) id (TakeEvent which (Ok taking.Gone)) d' id' h q =
+    record { reader = tt; reads = subst (λ (x : Dialogue T). ReadsToAnswer x) (sym h.1) tt; takes = inl tt }
 step stamp (Read cleanup decides next) id (TakeEvent which (Err e)) d' id' h q = answered _ _ d' tt h.1
 step stamp (Read cleanup decides next) id _ d' id' h q = absurd h
 step {T} stamp (HangUp d) id (HangUpEvent which (Ok x)) d' id' h q = record {
@@ -148,7 +149,7 @@ readers-left s (e ∷ es) r l =
     let more = readers-left (after s e) es r.1 l.1 in
     omega (arith, one, more)
 
-one-take-left : (s : State) (e : Event) → IsTake e → IsLegal s (e ∷ []) → state_left (after s e) + one_if (moves_one e) ≤ state_left s
+one-take-left : (s : State) (e : Event) → IsTake e → IsLegal s (e ∷ []) → state_left (after s e) + one_if (moves_one s e) ≤ state_left s
 one-take-left s (TakeEvent id (Ok (taking.Batch ms))) r l = take-left s id ms l.0
 one-take-left s (TakeEvent id (Ok taking.Empty)) r l = omega arith
 one-take-left s (TakeEvent id (Ok taking.Over)) r l = omega arith
@@ -156,12 +157,12 @@ one-take-left s (TakeEvent id (Ok taking.Gone)) r l = omega arith
 one-take-left s (TakeEvent id (Err e)) r l = omega arith
 one-take-left s _ r l = absurd r
 
-pub takes-left : (s : State) (es : List Event) → AreTakes es → IsLegal s es → state_left (after_all s es) + one_if (moves es) ≤ state_left s
+pub takes-left : (s : State) (es : List Event) → AreTakes es → IsLegal s es → state_left (after_all s es) + one_if (moves s es) ≤ state_left s
 takes-left s [] r l = omega arith
 takes-left s (e ∷ es) r l =
     let one = one-take-left s e r.0 (l.0, tt) in
     let more = takes-left (after s e) es r.1 l.1 in
-    omega (arith, one, more, one-or (moves_one e) (moves es))
+    omega (arith, one, more, one-or (moves_one s e) (moves (after s e) es))
 
 -- A command that begins leaves no more than its request's part in addition, and reads then.
 pub record Leaves {T : Type 0} (s : State) (es : List Event) (more : ℕ) (d : Dialogue T) : Type 0 where

@@ -12,8 +12,9 @@ use Rattle.pg_desk.specs.declared.event.Event.TheVariants.{Book, Take as TakeEve
 use Rattle.pg_desk.specs.declared.event.Out.TheVariants as out
 use Rattle.pg_desk.specs.declared.event.Stamp.{Stamp}
 use Rattle.pg_desk.specs.declared.event.Take.TheVariants as taking
-use Rattle.pg_desk.specs.History.{State, Delivery, Taken, wire, finished, given, taken, waiting, is_hung_up, after, after_all, take_answer, take_of_waiting, out_of_rest, Allows, IsLegal}
-use Rattle.pg_desk.proofs.Soundness.{given-own, given-other, taken-own, taken-other, wire-more, in-more-if}
+use Rattle.pg_desk.specs.History.{State, Delivery, Taken, wire, given, has_ended, has_open, may_let_go, next_owner, taken, waiting, is_hung_up, after, after_all, take_answer, take_of_waiting, out_of_rest, Allows, IsLegal}
+use Rattle.pg_desk.proofs.Owners.{given-own, given-other}
+use Rattle.pg_desk.proofs.Soundness.{taken-own, taken-other, wire-more, in-more-if}
 use Rattle.pg_hub.specs.declared.mailbox.Mailbox.{Mailbox}
 use Rattle.pg_hub.specs.declared.mailbox.Mailbox.TheVariants.{Empty, One, Two, HungUp}
 use Rattle.pg_hub.specs.Fits.{Fits, MailFits}
@@ -91,7 +92,7 @@ book-left s h stamp part copying id fits =
 
 first-waits : (s : State) (id : ℕ) (ms : List RawMessage) (l : List (List RawMessage)) → taking.Batch ms ≡ take_of_waiting s id l → 0 < length l
 first-waits s id ms (x ∷ l) h = omega arith
-first-waits s id ms [] h = by s.failed (nat_lt id (finished s.deliveries)) h
+first-waits s id ms [] h = by s.failed (has_ended id s.deliveries) h
   where
     by : (b c : Bool) → taking.Batch ms ≡ (if b then taking.Gone else (if c then taking.Over else taking.Empty)) → 0 < 0
     by true c h = absurd cc
@@ -145,7 +146,7 @@ pub hang-up-left : (s : State) (id : ℕ) → state_left (after s (HangUp id (Ok
 hang-up-left s id =
     let t = after s (HangUp id (Ok tt)) in
     let less = total-less (waits_for s) (waits_for t) (length s.book)
-    (λ k. gone-less (is_hung_up s k) (is_hung_up t k) (length (waiting s k)) (in-more-if (nat_lt id (length s.book)) k id s.hung_up)) in
+    (λ k. gone-less (is_hung_up s k) (is_hung_up t k) (length (waiting s k)) (in-more-if (may_let_go s id) k id s.hung_up)) in
     omega (arith, less)
 
 -- ---- a delivery
@@ -157,15 +158,15 @@ pub deliver-left : (s : State) (batch : List RawMessage) (complete : Bool) →
     state_left (after s (DeliverEvent batch complete delivering.Taken)) ≤ state_left s + 1
 deliver-left s batch complete =
     let t = after s (DeliverEvent batch complete delivering.Taken) in
-    let entry : Delivery = record { messages = batch; complete = complete } in
-    let place = finished s.deliveries in
-    let own : given place t.deliveries ≡ given place s.deliveries ++ batch ∷ [] = given-own s.deliveries entry in
+    let place = next_owner s in
+    let entry : Delivery = record { owner = place; messages = batch; complete = complete } in
+    let own : given place t.deliveries ≡ given place s.deliveries ++ batch ∷ [] = given-own place s.deliveries entry refl in
     let here : waits_for t place ≤ waits_for s place + 1 =
     by (length (waiting t place)) (length (waiting s place)) (is_hung_up s place) (subst (λ (l : List (List RawMessage)). length (drop (length (taken place s.takes)) l) ≤ length (waiting s place) + 1) (sym own)
     (one-behind (length (taken place s.takes)) (given place s.deliveries) batch)) in
     let others : (k : ℕ) → k ≢ place → waits_for t k ≤ waits_for s k =
     λ k apart. let same = ap (λ (l : List (List RawMessage)). if is_hung_up s k then 0 else length (drop (length (taken k s.takes)) l))
-    (given-other s.deliveries entry k apart) in omega (arith, same) in
+    (given-other k s.deliveries entry (λ e. apart (sym e))) in omega (arith, same) in
     let grows = total-grows (waits_for s) (waits_for t) place (length s.book) others here in
     omega (arith, grows)
   where
@@ -177,7 +178,7 @@ deliver-left s batch complete =
 
 first-part : (s : State) (part : List ℕ) (l : List (List ℕ)) → out.Part part ≡ out_of_rest s l → (more : List (List ℕ)) × (l ≡ part ∷ more)
 first-part s part (x ∷ l) h = let same : x ≡ part = cc in (l, ap (λ (p : List ℕ). p ∷ l) same)
-first-part s part [] h = by (nat_lt (finished s.deliveries) (length s.gone_out)) s.closed h
+first-part s part [] h = by (has_open s) s.closed h
   where
     by : (b c : Bool) → out.Part part ≡ (if b then out.Nothing else (if c then out.NoMore else out.Nothing)) → (more : List (List ℕ)) × (◌≡◌ {A = List (List ℕ)} [] (part ∷ more))
     by true c h = absurd cc

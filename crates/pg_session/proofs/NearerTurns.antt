@@ -49,15 +49,15 @@ begins-less script stamp s a b h p q fits starts g =
     }
 
 -- a command that ran before
-pub record RunsLess (a b : Standing) (es : List Event) (q : Place (List SimpleMessage)) : Type 0 where
+pub record RunsLess (s : State) (a b : Standing) (es : List Event) (q : Place (List SimpleMessage)) : Type 0 where
   pub state : State
   pub fits : Fits state b
   pub left : hub_left b ≤ hub_left a
-  pub takes : IsRead q.dialogue → hub_left b + one_if (moves es) ≤ hub_left a
+  pub takes : IsRead q.dialogue → hub_left b + one_if (moves s es) ≤ hub_left a
   pub reads : ReadsToAnswer q.dialogue
 
 runs-less : (stamp : Stamp) (s : State) (a b : Standing) (p q : Place (List SimpleMessage)) →
-    Fits s a → ReadsToAnswer p.dialogue → (g : Goes HubBecomes stamp a p b q) → RunsLess a b g.events q
+    Fits s a → ReadsToAnswer p.dialogue → (g : Goes HubBecomes stamp a p b q) → RunsLess s a b g.events q
 runs-less stamp s a b p q fits reads g =
     let next = g.became.stands s fits in
     let legal = legal-if-exact s g.events next.0 in
@@ -118,8 +118,8 @@ waits script stamp s a b old new fits still runs h =
     let less = runs-less stamp s a b h.from h.to fits from h.pauses.goes in
     let takes = less.takes h.pauses.reads in
     let before = share script old.answers old.running (Some h.from) h.starts in
-    let touched : one_if b.touched ≡ one_if (moves h.pauses.goes.events) =
-    ap one_if (h.pauses.goes.became.touched ∙ ap (λ (x : Bool). moves h.pauses.goes.events || x) still) ∙ or-none (moves h.pauses.goes.events) in
+    let touched : one_if b.touched ≡ one_if (moves s h.pauses.goes.events) =
+    ap one_if (h.pauses.goes.became.touched s fits ∙ ap (λ (x : Bool). moves s h.pauses.goes.events || x) still) ∙ or-none (moves s h.pauses.goes.events) in
     subst (λ (x : HandleState). HandleLess script a b old x b.touched) (sym h.handle)
     (record { state = less.state; fits = less.fits; left = omega (arith, takes, before, touched); runs = less.reads })
 

@@ -22,6 +22,7 @@ use Rattle.pg_spec.specs.Startup.{Outcome, Done, More}
 use Rattle.pg_errors.specs.Views.{failure_of}
 use Rattle.pg_errors.specs.declared.error.Error.{Error}
 use Rattle.pg_errors.specs.declared.error.Error.TheVariants as error
+use Rattle.pg_desk.proofs.Soundness.{wire-counted}
 use Rattle.pg_desk.specs.History.{State, wire}
 use Rattle.pg_desk.specs.declared.event.Event.{Event}
 use Rattle.pg_wire.specs.LinkCalls.{Keeps}
@@ -180,7 +181,7 @@ none-kept call user opening first scripts s l t m before after means asked frame
       many,
       units,
       dropped (length st.gone_out) (wire st.book) out.parts,
-      q.reached.fits.all_parts,
+      wire-counted st.book q.reached.fits.in_order.one_part,
       q.reached.fits.gone_out,
       h.fits.gone_out,
       ap length q.reached.fits.book,

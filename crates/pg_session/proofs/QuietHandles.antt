@@ -119,7 +119,7 @@ module _ (scripts : List (List Command)) (turn : ℕ) (s t : SessionState) (st :
       let runs : (place : CommandPlace) → old.running ≡ Some place → MayAnswer st place.dialogue place.reads = λ place e. are.running turn old place made.old_at e in
       let became = goes.became.stands st fa in
       let walk = walk-late stamp st h.from.dialogue h.from.reads es h.to.dialogue h.to.reads cut are.whole became.0 (runs h.from h.starts) goes.walked in
-      let none : moves es ≡ false = sym (or-none (moves es)) ∙ sym goes.became.touched ∙ quiet in
+      let none : moves st es ≡ false = sym (or-none (moves st es)) ∙ sym (goes.became.touched st fa) ∙ quiet in
       let same : after_all st es ≡ st = walk.still none in
       let tends = again made.script stamp a old st fa cut are.whole runs es h.from h.to h.starts walk in
       let new : HandleState = record { running = Some h.to; answers = old.answers } in

@@ -1,5 +1,5 @@
 -- A poll of the connection in which nothing moved, behind turns of all handles in which nothing moved.
-use Rattle.std.proofs.Common.{◌≡◌, ℕ, zero, suc, ◌<◌, ◌≤◌, nat_lt, List, [], ◌∷◌, length, Bool, true, false, not, ◌||◌, if◌then◌else◌, Option, Some, None, Ok, Err, refl, sym, ap, ◌∙◌, subst, arith, inl, inr, ◌⊎◌, slice_get}
+use Rattle.std.proofs.Common.{◌≡◌, ℕ, zero, suc, ◌<◌, ◌≤◌, nat_lt, List, [], ◌∷◌, length, Bool, true, false, not, ◌&&◌, ◌||◌, if◌then◌else◌, Option, Some, None, Ok, Err, refl, sym, ap, ◌∙◌, subst, arith, inl, inr, ◌⊎◌, slice_get}
 use Rattle.std.specs.List.{list_any}
 use Rattle.std.proofs.lemmas.Bool.Decides.{nat_tests}
 use Rattle.pg_spec.specs.Batches.{is_nothing}
@@ -7,7 +7,7 @@ use Rattle.pg_spec.specs.Links.{LinkView}
 use Rattle.pg_spec.specs.RawMessages.{RawMessage}
 use Rattle.pg_connect.specs.Answers.{Turned}
 use Rattle.pg_connect.specs.Passed.{IsEngineCall, AllEngineCalls, moves_in}
-use Rattle.pg_connect.specs.Polls.{some_is}
+use Rattle.pg_connect.specs.Ends.{some_is}
 use Rattle.pg_connect.specs.Reads.{is_full}
 use Rattle.pg_connect.specs.declared.ends.TurnEnd.{TurnEnd}
 use Rattle.pg_connect.specs.declared.streams.Streams.{Streams}
@@ -16,7 +16,8 @@ use Rattle.pg_desk.specs.declared.event.Event.{Event}
 use Rattle.pg_desk.specs.declared.event.Event.TheVariants.{Book, Take as TakeEvent, HangUp, NextStatement, NextPortal, NextOut, Deliver as DeliverEvent, CloseRequests, Fail}
 use Rattle.pg_desk.specs.declared.event.Out.TheVariants as out
 use Rattle.pg_desk.specs.declared.event.Take.TheVariants as taking
-use Rattle.pg_desk.specs.History.{State, finished, waiting, is_hung_up, after, after_all, take_answer, take_of_waiting, HasOpen, Allows, IsExact}
+use Rattle.pg_desk.specs.History.{State, waiting, is_hung_up, has_begun, has_ended, has_open, next_owner, after, after_all, take_answer, take_of_waiting, Allows, IsExact, IsOldestOpen}
+use Rattle.pg_desk.proofs.Soundness.{owner-is-oldest}
 use Rattle.pg_hub.specs.Fits.{Fits, HubBecomes}
 use Rattle.pg_hub.specs.Standing.{Standing}
 use Rattle.pg_text.specs.declared.command.Command.{Command}
@@ -76,7 +77,7 @@ none-moved a b old new l m end over polled unmoved =
 
 -- the open request, if there is one and its reader is there, has room
 abbrev HasRoom : State → Type 0
-HasRoom s = HasOpen s → is_hung_up s (finished s.deliveries) ≡ false → 2 ≤ length (waiting s (finished s.deliveries)) → ⊥
+HasRoom s = has_open s ≡ true → is_hung_up s (next_owner s) ≡ false → 2 ≤ length (waiting s (next_owner s)) → ⊥
 
 full-not : (s : State) (e : Event) → HasRoom s → Allows s e → is_full e ≡ false
 full-not s (DeliverEvent batch complete (delivering.Full back)) room allows = absurd (room allows.1 allows.2 allows.3)
@@ -114,18 +115,24 @@ read-room s k script h place runs reads (Awaits at e empty) =
     let id : at.reads ≡ k = ap (λ (p : CommandPlace). p.reads) (sym same) ∙ reads in
     took-empty s k (empty ∙ ap (take_answer s) id)
 
-booked-open : (s : State) (a : Standing) → Fits s a → HasOpen s → finished s.deliveries < length s.book
-booked-open s a f open_ = omega (arith, open_, f.gone_out, f.standing.out, ap length f.book)
+-- a request that is open hasn't ended
+open-unended : (b c : Bool) → (b && not c) ≡ true → c ≡ true → ⊥
+open-unended true true h e = absurd cc
+open-unended false c h e = absurd cc
+open-unended true false h e = absurd cc
 
 has-room : (scripts : List (List Command)) (handles : List HandleState) (s : State) (a : Standing) → Fits s a → AreRead handles s → AllQuiet scripts handles s → HasRoom s
-has-room scripts handles s a f are quiet open_ there two = by (are.read (finished s.deliveries) (booked-open s a f open_))
+has-room scripts handles s a f are quiet open_ there two = by (are.read (next_owner s) oldest.booked)
   where
-    by : IsLetGo s (finished s.deliveries) ⊎ IsReadIn handles (finished s.deliveries) → ⊥
+    oldest : IsOldestOpen s (next_owner s)
+    oldest = owner-is-oldest s open_
+
+    by : IsLetGo s (next_owner s) ⊎ IsReadIn handles (next_owner s) → ⊥
     by (inl (inl hung)) = absurd (let no_way : true ≡ false = sym hung ∙ there in cc)
-    by (inl (inr lt)) = omega (arith, lt)
+    by (inl (inr over)) = open-unended (has_begun s (next_owner s)) (has_ended (next_owner s) s.deliveries) oldest.open_ over
     by (inr r) =
         let q = quiet r.handle r.state r.at in
-        omega (arith, two, ap length (read-room s (finished s.deliveries) q.0 r.state r.place r.runs r.reads q.2))
+        omega (arith, two, ap length (read-room s (next_owner s) q.0 r.state r.place r.runs r.reads q.2))
 
 -- no delivery of the poll met a full mailbox
 pub not-full : (scripts : List (List Command)) (handles : List HandleState) (s : State) (a b : Standing) (old new : Streams) (l m : LinkView) (end : TurnEnd) (over : Bool) →
@@ -154,18 +161,17 @@ pub record IsAwaited (handles : List HandleState) (s : State) : Type 0 where
   pub booked : place.reads < length s.book
   pub there : is_hung_up s place.reads ≡ false
   pub taken : waiting s place.reads ≡ []
-  pub unended : finished s.deliveries ≤ place.reads
-  pub behind : finished s.deliveries < length s.book
+  pub unended : has_ended place.reads s.deliveries ≡ false
 
 -- what a take that gave nothing tells
 record TookNone (s : State) (k : ℕ) : Type 0 where
   booked : k < length s.book
   there : is_hung_up s k ≡ false
-  unended : finished s.deliveries ≤ k
+  unended : has_ended k s.deliveries ≡ false
 
-none-waits : (s : State) (k : ℕ) (w : List (List RawMessage)) → taking.Empty ≡ take_of_waiting s k w → nat_lt k (finished s.deliveries) ≡ false
+none-waits : (s : State) (k : ℕ) (w : List (List RawMessage)) → taking.Empty ≡ take_of_waiting s k w → has_ended k s.deliveries ≡ false
 none-waits s k (ms ∷ w) h = absurd cc
-none-waits s k [] h = by s.failed (nat_lt k (finished s.deliveries)) h
+none-waits s k [] h = by s.failed (has_ended k s.deliveries) h
   where
     by : (b c : Bool) → taking.Empty ≡ (if b then taking.Gone else (if c then taking.Over else taking.Empty)) → c ≡ false
     by true c h = absurd cc
@@ -178,15 +184,12 @@ took-none s k h = by (nat_lt k (length s.book)) refl (is_hung_up s k) refl h
     less : (a b : ℕ) → nat_lt a b ≡ true → a < b
     less a b e = grind (arith, nat_tests)
 
-    not-less : (a b : ℕ) → nat_lt a b ≡ false → b ≤ a
-    not-less a b e = grind (arith, nat_tests)
-
     by : (b : Bool) → nat_lt k (length s.book) ≡ b → (c : Bool) → is_hung_up s k ≡ c →
         taking.Empty ≡ (if b then (if c then taking.Gone else take_of_waiting s k (waiting s k)) else taking.Gone) → TookNone s k
     by false is c hung h = absurd cc
     by true is true hung h = absurd cc
     by true is false hung h =
-        record { booked = less k (length s.book) is; there = hung; unended = not-less k (finished s.deliveries) (none-waits s k (waiting s k) h) }
+        record { booked = less k (length s.book) is; there = hung; unended = none-waits s k (waiting s k) h }
 
 -- some command runs, or none does
 record SomeRuns (handles : List HandleState) : Type 0 where
@@ -226,7 +229,6 @@ awaited-by handles s script r (Awaits place runs empty) =
       there = took.there;
       taken = took-empty s place.reads empty;
       unended = took.unended;
-      behind = omega (arith, took.unended, took.booked);
     }
 
 left-none : (scripts : List (List Command)) (handles : List HandleState) →

@@ -6,7 +6,8 @@ use Rattle.futures.specs.declared.task.Poll.{Poll}
 use Rattle.futures.specs.declared.task.Poll.TheVariants.{Ready, Pending}
 use Rattle.pg_spec.specs.Links.{LinkView}
 use Rattle.pg_connect.specs.Answers.{PollAnswers, Turned}
-use Rattle.pg_connect.specs.Polls.{some_is}
+use Rattle.pg_connect.specs.Calm.{MissesFew}
+use Rattle.pg_connect.specs.Ends.{some_is}
 use Rattle.pg_connect.specs.Reads.{is_full}
 use Rattle.pg_connect.specs.declared.ends.TurnEnd.TheVariants as turn_end
 use Rattle.pg_connect.specs.declared.streams.Streams.{Streams}
@@ -37,6 +38,7 @@ pub record QuietRound (scripts : List (List Command)) (s : SessionState) (l : Li
   -- the poll
   pub polled : Turned HubBecomes hub t.hub s.streams t.streams l m turn_end.Waits false
   pub unmoved : t.streams.moved ≡ false
+  pub misses : MissesFew l m
   pub not_full : some_is is_full polled.turns.goes.events ≡ false
   -- the handles
   pub quiet : AllQuiet scripts t.handles (state_of reached)
@@ -101,6 +103,7 @@ round-by scripts s l t m h stands read-t stands-t last = by last.now.0 last.now.
           before = before.fits;
           polled = polled;
           unmoved = poll.unmoved;
+          misses = subst (λ (x : LinkView). MissesFew x m) before.link made.misses;
           not_full = not-full scripts last.mid.handles st last.mid.hub t.hub s.streams t.streams l m turn_end.Waits false before.fits before.are quiet-mid polled poll.unmoved;
           quiet = quiet-t;
           awaits = elim (awaited-or-done scripts t.handles st quiet-t) [

@@ -1,5 +1,5 @@
 -- A reader that is done with its request has let it go: it hung up, or the request's group has ended. Each stays so.
-use Rattle.std.proofs.Common.{◌≡◌, ℕ, zero, suc, ◌<◌, ◌≤◌, ◌==◌, nat_lt, List, [], ◌∷◌, ◌++◌, length, drop, Bool, true, false, ◌||◌, ◌&&◌, if◌then◌else◌, Some, Ok, Err, refl, sym, ap, ◌∙◌, subst, arith, inl, inr, ◌⊎◌, slice_get}
+use Rattle.std.proofs.Common.{◌≡◌, ℕ, zero, suc, ◌<◌, ◌==◌, nat_lt, List, [], ◌∷◌, ◌++◌, length, drop, Bool, true, false, not, ◌||◌, ◌&&◌, if◌then◌else◌, Some, Ok, Err, refl, sym, ap, ◌∙◌, subst, arith, inl, inr, ◌⊎◌, slice_get}
 use Rattle.std.specs.List.{list_any}
 use Rattle.std.proofs.lemmas.Bool.Decides.{nat_tests}
 use Rattle.pg_spec.specs.Batches.{is_batch, is_nothing}
@@ -10,12 +10,12 @@ use Rattle.pg_desk.specs.declared.event.Event.{Event}
 use Rattle.pg_desk.specs.declared.event.Event.TheVariants.{Book, Take as TakeEvent, HangUp, NextStatement, NextPortal, NextOut, Deliver as DeliverEvent, CloseRequests, Fail}
 use Rattle.pg_desk.specs.declared.event.Out.TheVariants as out
 use Rattle.pg_desk.specs.declared.event.Take.TheVariants as taking
-use Rattle.pg_desk.specs.History.{State, Delivery, finished, given, taken, is_in, is_hung_up, after, after_all, take_answer}
+use Rattle.pg_desk.specs.History.{State, Delivery, given, has_ended, next_owner, may_let_go, taken, is_in, is_hung_up, after, after_all, take_answer}
 use Rattle.pg_session.proofs.LivesTakes.{never-gone}
 
 -- the reader of request k hung up, or its group has ended
 abbrev pub IsLetGo : State → ℕ → Type 0
-IsLetGo s k = (is_hung_up s k ≡ true) ⊎ (k < finished s.deliveries)
+IsLetGo s k = (is_hung_up s k ≡ true) ⊎ (has_ended k s.deliveries ≡ true)
 
 -- ---- each event leaves it so
 
@@ -47,21 +47,21 @@ in-now k (x ∷ xs) = by (x == k) (in-now k xs)
     by true h = refl
     by false h = h
 
-finished-more : (ds : List Delivery) (d : Delivery) → finished ds ≤ finished (ds ++ d ∷ [])
-finished-more [] d = omega arith
-finished-more (x ∷ ds) d = by x.complete (finished-more ds d)
+ended-more : (k : ℕ) (ds : List Delivery) (d : Delivery) → has_ended k ds ≡ true → has_ended k (ds ++ d ∷ []) ≡ true
+ended-more k [] d h = absurd cc
+ended-more k (x ∷ ds) d h = by (x.complete && (x.owner == k)) h (ended-more k ds d)
   where
-    by : (b : Bool) → finished ds ≤ finished (ds ++ d ∷ []) → (if b then suc (finished ds) else finished ds) ≤ (if b then suc (finished (ds ++ d ∷ [])) else finished (ds ++ d ∷ []))
-    by true h = omega (arith, h)
-    by false h = h
+    by : (b : Bool) → (b || has_ended k ds) ≡ true → (has_ended k ds ≡ true → has_ended k (ds ++ d ∷ []) ≡ true) → (b || has_ended k (ds ++ d ∷ [])) ≡ true
+    by true h f = refl
+    by false h f = f h
 
 hung-stays : (s : State) (id k : ℕ) → IsLetGo s k → IsLetGo (after s (HangUp id (Ok tt))) k
-hung-stays s id k (inl h) = inl (in-more-if (nat_lt id (length s.book)) k id s.hung_up h)
+hung-stays s id k (inl h) = inl (in-more-if (may_let_go s id) k id s.hung_up h)
 hung-stays s id k (inr h) = inr h
 
 came-stays : (s : State) (batch : List RawMessage) (complete : Bool) (k : ℕ) → IsLetGo s k → IsLetGo (after s (DeliverEvent batch complete delivering.Taken)) k
 came-stays s batch complete k (inl h) = inl h
-came-stays s batch complete k (inr h) = inr (omega (arith, h, finished-more s.deliveries (record { messages = batch; complete = complete })))
+came-stays s batch complete k (inr h) = inr (ended-more k s.deliveries (record { owner = next_owner s; messages = batch; complete = complete }) h)
 
 stays-one : (s : State) (e : Event) → StaysLetGo s (after s e)
 stays-one s (Book stamp part copying (Ok id)) = record { let_go = λ k h. h; closed = λ h. h }
@@ -102,14 +102,16 @@ stays-let-go s (e ∷ es) =
 
 -- it hangs up
 pub hung-now : (s : State) (which k : ℕ) → which ≡ k → k < length s.book → is_hung_up (after s (HangUp which (Ok tt))) k ≡ true
-hung-now s which k same lt = subst (λ (n : ℕ). is_in k (if nat_lt n (length s.book) then s.hung_up ++ n ∷ [] else s.hung_up) ≡ true) (sym same) (by (nat_lt k (length s.book)) within)
+hung-now s which k same lt = subst (λ (n : ℕ). is_in k (if may_let_go s n then s.hung_up ++ n ∷ [] else s.hung_up) ≡ true) (sym same)
+    (by (nat_lt k (length s.book)) (is_hung_up s k) within refl)
   where
     within : nat_lt k (length s.book) ≡ true
     within = grind (arith, nat_tests, lt)
 
-    by : (b : Bool) → b ≡ true → is_in k (if b then s.hung_up ++ k ∷ [] else s.hung_up) ≡ true
-    by true e = in-now k s.hung_up
-    by false e = absurd cc
+    by : (b c : Bool) → b ≡ true → is_hung_up s k ≡ c → is_in k (if b && not c then s.hung_up ++ k ∷ [] else s.hung_up) ≡ true
+    by true true e hung = hung
+    by true false e hung = in-now k s.hung_up
+    by false c e hung = absurd cc
 
 -- nothing comes any more of a request that is booked
 pub gone-hung : (s : State) (k : ℕ) → taking.Gone ≡ take_answer s k → k < length s.book → s.failed ≡ false → is_hung_up s k ≡ true
@@ -135,24 +137,20 @@ ready-complete b (m ∷ ms) h r = by (is_aside m) (is_ready m) h r (ready-comple
     by false false h r f = f h r
 
 given-ready : (k : ℕ) (ds : List Delivery) (n : ℕ) (ms : List RawMessage) → AllCut ds → slice_get (given k ds) n ≡ Some ms → list_any is_ready ms ≡ true →
-    k < finished ds
+    has_ended k ds ≡ true
 given-ready k [] n ms cut at ready = absurd cc
-given-ready zero (d ∷ ds) n ms cut at ready = first d.complete d.messages cut.0 n at (λ m. given-ready zero ds m ms cut.1)
+given-ready k (d ∷ ds) n ms cut at ready = by d.complete (d.owner == k) d.messages cut.0 n at (λ m. given-ready k ds m ms cut.1)
   where
-    first : (b : Bool) (xs : List RawMessage) → is_batch b xs ≡ true → (n : ℕ) → slice_get (xs ∷ (if b then [] else given zero ds)) n ≡ Some ms →
-        ((m : ℕ) → slice_get (given zero ds) m ≡ Some ms → list_any is_ready ms ≡ true → zero < finished ds) → zero < (if b then suc (finished ds) else finished ds)
-    first true xs c n at f = omega arith
-    first false xs c zero at f =
+    by : (b c : Bool) (xs : List RawMessage) → is_batch b xs ≡ true → (n : ℕ) → slice_get (if c then xs ∷ given k ds else given k ds) n ≡ Some ms →
+        ((m : ℕ) → slice_get (given k ds) m ≡ Some ms → list_any is_ready ms ≡ true → has_ended k ds ≡ true) → ((b && c) || has_ended k ds) ≡ true
+    by true true xs cut n at f = refl
+    by true false xs cut n at f = f n at ready
+    by false false xs cut n at f = f n at ready
+    by false true xs cut zero at f =
         let same : ms ≡ xs = cc in
-        let no_way : false ≡ true = ready-complete false xs c (ap (λ (l : List RawMessage). list_any is_ready l) (sym same) ∙ ready) in
+        let no_way : false ≡ true = ready-complete false xs cut (ap (λ (l : List RawMessage). list_any is_ready l) (sym same) ∙ ready) in
         absurd cc
-    first false xs c (suc n) at f = f n at ready
-given-ready (suc k) (d ∷ ds) n ms cut at ready = later d.complete at (λ e. given-ready k ds n ms cut.1 e ready) (λ e. given-ready (suc k) ds n ms cut.1 e ready)
-  where
-    later : (b : Bool) → slice_get (given (if b then k else suc k) ds) n ≡ Some ms → (slice_get (given k ds) n ≡ Some ms → k < finished ds) →
-        (slice_get (given (suc k) ds) n ≡ Some ms → suc k < finished ds) → suc k < (if b then suc (finished ds) else finished ds)
-    later true at f g = omega (arith, f at)
-    later false at f g = g at
+    by false true xs cut (suc n) at f = f n at ready
 
 drop-there : (n : ℕ) (xss : List (List RawMessage)) (ms : List RawMessage) (more : List (List RawMessage)) → drop n xss ≡ ms ∷ more → slice_get xss n ≡ Some ms
 drop-there zero [] ms more h = absurd cc
@@ -162,7 +160,7 @@ drop-there (suc n) (xs ∷ xss) ms more h = drop-there n xss ms more h
 
 -- where it was taken, the group has ended
 pub ready-ended : (s : State) (k : ℕ) (ms : List RawMessage) → AllCut s.deliveries → taking.Batch ms ≡ take_answer s k → list_any is_ready ms ≡ true →
-    k < finished s.deliveries
+    has_ended k s.deliveries ≡ true
 ready-ended s k ms cut took ready =
     let front = take-first s k ms took in
     given-ready k s.deliveries (length (taken k s.takes)) ms cut (drop-there (length (taken k s.takes)) (given k s.deliveries) ms front.0 front.1) ready

@@ -149,7 +149,7 @@ module _ (script : List Command) (stamp : Stamp) (a : Standing) (old : HandleSta
       (subst (λ (x : Standing). PollTends a x s old old) (sym h.desk) (record { events = []; became = stays a; tends = idle h.none_runs }))
 
   -- it waits again
-  pub again : (es : List Event) (from to : CommandPlace) → old.running ≡ Some from → GoesOnLate s (after_all s es) to.dialogue from.reads to.reads (moves es) →
+  pub again : (es : List Event) (from to : CommandPlace) → old.running ≡ Some from → GoesOnLate s (after_all s es) to.dialogue from.reads to.reads (moves s es) →
       Tends s (after_all s es) old (record { running = Some to; answers = old.answers })
   again es from to starts w =
       let t = after_all s es in
@@ -167,7 +167,7 @@ module _ (script : List Command) (stamp : Stamp) (a : Standing) (old : HandleSta
 
   -- it answers
   answered : (es : List Event) (from to : CommandPlace) (r : Result (List SimpleMessage) Error) (answers : List replies.Answer) → old.running ≡ Some from → to.dialogue ≡ Answer r →
-      GoesOnLate s (after_all s es) to.dialogue from.reads to.reads (moves es) → Tends s (after_all s es) old (record { running = None; answers = answers })
+      GoesOnLate s (after_all s es) to.dialogue from.reads to.reads (moves s es) → Tends s (after_all s es) old (record { running = None; answers = answers })
   answered es from to r answers starts at w =
       let t = after_all s es in
       let gone : IsLetGo t from.reads = w.now.sure (subst (λ (d : Dialogue (List SimpleMessage)). AnswersLate w.now.seen d) at w.now.late) in

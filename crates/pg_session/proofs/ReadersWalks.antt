@@ -1,10 +1,9 @@
 -- The polls of a command: it answers only where its request was let go.
-use Rattle.std.proofs.Common.{◌≡◌, ℕ, ◌<◌, length, List, [], ◌∷◌, ◌++◌, nat_lt, Bool, true, false, ◌||◌, Result, Ok, Err, refl, sym, ap, ◌∙◌, subst, arith, inl, inr}
+use Rattle.std.proofs.Common.{◌≡◌, ℕ, ◌<◌, length, List, [], ◌∷◌, ◌++◌, Bool, true, false, ◌||◌, Result, Ok, Err, refl, sym, ap, ◌∙◌, subst, arith, inl, inr}
 use Rattle.std.specs.List.{list_any}
-use Rattle.std.proofs.lemmas.Bool.Decides.{nat_tests}
 use Rattle.pg_spec.specs.RawMessages.{RawMessage, is_ready}
 use Rattle.pg_desk.proofs.Soundness.{AllCut}
-use Rattle.pg_desk.specs.History.{State, after, after_all, finished, take_answer, Allows, Needs, IsExact}
+use Rattle.pg_desk.specs.History.{State, after, after_all, take_answer, Allows, Needs, IsExact}
 use Rattle.pg_desk.specs.declared.event.Booking.{Booking}
 use Rattle.pg_desk.specs.declared.event.Event.{Event}
 use Rattle.pg_desk.specs.declared.event.Event.TheVariants as call
@@ -13,13 +12,14 @@ use Rattle.pg_desk.specs.declared.event.Take.TheVariants as taking
 use Rattle.pg_errors.specs.declared.error.Error.{Error}
 use Rattle.pg_errors.specs.declared.error.Error.TheVariants.{Closed}
 use Rattle.pg_hub.specs.Fits.{moves_one, moves}
+use Rattle.pg_desk.proofs.Soundness.{let-go-none}
 use Rattle.pg_query.specs.Dialogue.{Dialogue, Answer, Ask, Send, Leave, Read, HangUp, Call, Hear, Steps, Walks}
 use Rattle.pg_query.specs.Faults.{of_fault}
 use Rattle.pg_query.specs.Scripts.{IsRead}
-use Rattle.pg_query.specs.declared.query.Cleanup.{Cleanup}
+use Rattle.pg_query.specs.declared.desk_call.Cleanup.{Cleanup}
 use Rattle.pg_session.proofs.LivesLists.{one-more}
 use Rattle.pg_session.proofs.LivesTakes.{all-cut, took-over}
-use Rattle.pg_session.proofs.ReadersLeft.{IsLetGo, hung-now, gone-hung, ready-ended}
+use Rattle.pg_session.proofs.ReadersLeft.{IsLetGo, hung-now, ready-ended}
 use Rattle.pg_session.proofs.ReadersAnswers.{IsAnswer, AnswersLate, BooksFirst, or-either, or-neither, late-fed}
 
 -- ---- one event
@@ -44,7 +44,7 @@ let-go {T} s d' k r lt h is = record { booked = lt; seen = true; sure = λ e. h;
 
 read-step : {T : Type 0} (stamp : Stamp) (s : State) (cleanup : List Cleanup) (decides : List RawMessage → Bool) (next : List RawMessage → Dialogue T) (k : ℕ) (e : Event)
     (d' : Dialogue T) (k' : ℕ) → AllCut s.deliveries → s.failed ≡ false → Allows s e → Needs s e → MayAnswer s (Read cleanup decides next) k →
-    Steps stamp (Read cleanup decides next) k e d' k' → GoesOnLate s (after s e) d' k k' (moves_one e)
+    Steps stamp (Read cleanup decides next) k e d' k' → GoesOnLate s (after s e) d' k k' (moves_one s e)
 read-step {T} stamp s cleanup decides next k (call.Take which (Ok (taking.Batch ms))) d' k' cut whole allows needs h st = record {
   same = st.2;
   book = refl;
@@ -73,30 +73,27 @@ read-step stamp s cleanup decides next k (call.Take which (Ok taking.Over)) d' k
       same = st.2;
       book = refl;
       failed = refl;
-      now = let-go s d' k (Err Closed) h.booked (inr (by k (finished s.deliveries) over.ended)) st.1;
+      now = let-go s d' k (Err Closed) h.booked (inr over.ended) st.1;
       still = λ e. refl;
     }
-  where
-    by : (a b : ℕ) → nat_lt a b ≡ true → a < b
-    by a b e = grind (arith, nat_tests)
-read-step stamp s cleanup decides next k (call.Take which (Ok taking.Gone)) d' k' cut whole allows needs h st = record {
+read-step {T} stamp s cleanup decides next k (call.Take which (Ok taking.Gone)) d' k' cut whole allows needs h st = record {
   same = st.2;
   book = refl;
   failed = refl;
-  now = let-go s d' k (Err Closed) h.booked (inl (gone-hung s k (allows ∙ ap (take_answer s) st.0) h.booked whole)) st.1;
+  now = record { booked = h.booked; seen = h.seen; sure = h.sure; late = subst (λ (x : Dialogue T). AnswersLate h.seen x) (sym st.1) tt };
   still = λ e. refl;
 }
 read-step stamp s cleanup decides next k (call.Take which (Err e)) d' k' cut whole allows needs h st = absurd needs
 read-step stamp s cleanup decides next k e d' k' cut whole allows needs h st = absurd st
 
 hang-step : {T : Type 0} (stamp : Stamp) (s : State) (d : Dialogue T) (k : ℕ) (e : Event) (d' : Dialogue T) (k' : ℕ) → k < length s.book → Needs s e → IsAnswer d →
-    Steps stamp (HangUp d) k e d' k' → GoesOnLate s (after s e) d' k k' (moves_one e)
+    Steps stamp (HangUp d) k e d' k' → GoesOnLate s (after s e) d' k k' (moves_one s e)
 hang-step stamp s (Answer r) k (call.HangUp which (Ok x)) d' k' lt needs last st = record {
   same = st.2;
   book = refl;
   failed = refl;
   now = let-go (after s (call.HangUp which (Ok x))) d' k r lt (inl (hung-now s which k st.0 lt)) st.1;
-  still = λ e. absurd cc;
+  still = λ none. let-go-none s which none;
 }
 hang-step stamp s (Answer r) k (call.HangUp which (Err e)) d' k' lt needs last st = absurd needs
 hang-step stamp s (Answer r) k e d' k' lt needs last st = absurd st
@@ -109,7 +106,7 @@ hang-step stamp s (Call q next) k e d' k' lt needs last st = absurd last
 hang-step stamp s (Hear next) k e d' k' lt needs last st = absurd last
 
 step : {T : Type 0} (stamp : Stamp) (s : State) (d : Dialogue T) (k : ℕ) (e : Event) (d' : Dialogue T) (k' : ℕ) → AllCut s.deliveries → s.failed ≡ false →
-    Allows s e → Needs s e → MayAnswer s d k → Steps stamp d k e d' k' → GoesOnLate s (after s e) d' k k' (moves_one e)
+    Allows s e → Needs s e → MayAnswer s d k → Steps stamp d k e d' k' → GoesOnLate s (after s e) d' k k' (moves_one s e)
 step stamp s (Answer r) k e d' k' cut whole allows needs h st = absurd st
 step stamp s (Ask copying part d) k e d' k' cut whole allows needs h st = absurd h.late
 step stamp s (Send part d) k e d' k' cut whole allows needs h st = absurd h.late
@@ -123,7 +120,7 @@ step stamp s (Hear next) k e d' k' cut whole allows needs h st = absurd h.late
 
 -- of a command that has booked
 pub walk-late : {T : Type 0} (stamp : Stamp) (s : State) (d : Dialogue T) (k : ℕ) (es : List Event) (d' : Dialogue T) (k' : ℕ) → AllCut s.deliveries →
-    s.failed ≡ false → IsExact s es → MayAnswer s d k → Walks stamp d k es d' k' → GoesOnLate s (after_all s es) d' k k' (moves es)
+    s.failed ≡ false → IsExact s es → MayAnswer s d k → Walks stamp d k es d' k' → GoesOnLate s (after_all s es) d' k k' (moves s es)
 walk-late {T} stamp s d k [] d' k' cut whole exact h w = record {
   same = w.1;
   book = refl;
@@ -140,7 +137,7 @@ walk-late {T} stamp s d k (e ∷ es) d' k' cut whole exact h (mid, n, st, w) =
       book = rest.book ∙ first.book;
       failed = rest.failed ∙ first.failed;
       now = subst (λ (i : ℕ). MayAnswer (after_all (after s e) es) d' i) first.same rest.now;
-      still = λ q. let none = or-neither (moves_one e) (moves es) q in rest.still none.1 ∙ first.still none.0;
+      still = λ q. let none = or-neither (moves_one s e) (moves (after s e) es) q in rest.still none.1 ∙ first.still none.0;
     }
 
 -- it booked nothing, or one request, which is the book's last

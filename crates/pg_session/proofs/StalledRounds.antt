@@ -14,14 +14,18 @@ use Rattle.pg_desk.specs.declared.event.Event.{Event}
 use Rattle.pg_desk.specs.declared.event.Event.TheVariants.{NextOut}
 use Rattle.pg_desk.specs.declared.event.Out.{Out}
 use Rattle.pg_desk.specs.declared.event.Out.TheVariants as out
-use Rattle.pg_desk.specs.History.{State, start, after, after_all, finished, joined, out_of_rest, received, wire, Allows, IsExact, IsFrontOf}
+use Rattle.pg_desk.proofs.Owners.{ended-counted, open-less}
+use Rattle.pg_desk.proofs.Soundness.{wire-counted}
+use Rattle.pg_desk.specs.History.{State, start, after, after_all, finished, has_open, joined, out_of_rest, received, wire, Allows, IsExact, IsFrontOf}
 use Rattle.pg_desk.proofs.Soundness.{legal-sound}
 use Rattle.pg_errors.specs.declared.error.Error.TheVariants as error
 use Rattle.pg_connect.specs.Answers.{fresh, left_open}
 use Rattle.pg_connect.specs.Ends.{WasBlocked, last_is, has_none, has_no_more}
 use Rattle.pg_connect.specs.Passed.{AllEngineCalls, bytes_out_by, delivered_by, moves_in}
 use Rattle.pg_connect.specs.Passes.{goodbye}
-use Rattle.pg_connect.specs.Polls.{ReadDry, StopsWriting, Waits, some_is}
+use Rattle.pg_connect.specs.Ends.{some_is}
+use Rattle.pg_connect.specs.Passes.{waiting}
+use Rattle.pg_connect.specs.Polls.{ReadDry, SomeGivesBack, StopsWriting, Waits}
 use Rattle.pg_connect.specs.Reads.{is_full}
 use Rattle.pg_connect.specs.Startups.{Ends, frame_of}
 use Rattle.pg_connect.specs.declared.streams.Streams.{Streams}
@@ -33,13 +37,13 @@ use Rattle.pg_session.proofs.CausedAsks.{AsksQueries, tame-in, wire-asks}
 use Rattle.pg_session.proofs.CausedFrames.{AreQueries, front-queries}
 use Rattle.pg_session.proofs.CrossedChain.{StoodIn}
 use Rattle.pg_session.proofs.CrossedEnd.{of-bytes, added-is}
-use Rattle.pg_session.proofs.CrossedHub.{Ran, ran-all, received-all, out-all}
+use Rattle.pg_session.proofs.CrossedHub.{Ran, ran-all, ran-start, received-all, out-all}
 use Rattle.pg_session.proofs.CrossedStart.{is-started}
 use Rattle.pg_session.proofs.LivesReached.{state_of}
 use Rattle.pg_session.proofs.QuietPolls.{IsAwaited, none-moved, still-all}
 use Rattle.pg_session.proofs.QuietRounds.{QuietRound}
 use Rattle.pg_session.proofs.StalledGroups.{groups-ended, units-sent}
-use Rattle.pg_session.proofs.StalledStart.{lulls-so, rests-so}
+use Rattle.pg_session.proofs.StalledStart.{last-so, lulls-so, rests-so}
 
 -- ---- the connection's poll
 
@@ -82,7 +86,7 @@ module _ (s t : Streams) (l m : LinkView) (events : List Event) (unmoved : t.mov
     where
       written : StopsWriting t l m events → (t.unsent ≡ []) × (last_is has_none events ≡ true)
       written (inl blocked) = absurd (never steady blocked)
-      written (inr all) = all
+      written (inr all) = (all.0, all.1)
 
       over : t.closing ≡ false → (t.closing ≡ true) ⊎ WasBlocked t.moved l m → ⊥
       over active (inl closing) = contradicts t.closing closing active
@@ -94,9 +98,9 @@ module _ (s t : Streams) (l m : LinkView) (events : List Event) (unmoved : t.mov
   pub went-quietly : (s.closing ≡ true → t.closing ≡ true) → WentQuietly t l m events
   went-quietly stays = by w.reading
     where
-      by : (s.closing ≡ true) ⊎ ((some_is is_full events ≡ true) ⊎ ReadDry t l m) → WentQuietly t l m events
+      by : (s.closing ≡ true) ⊎ (((some_is is_full events ≡ true) × SomeGivesBack (waiting t.held) events) ⊎ ReadDry t l m) → WentQuietly t l m events
       by (inl closing) = blocks (w.closing (stays closing))
-      by (inr (inl full)) = contradicts (some_is is_full events) full not_full
+      by (inr (inl full)) = contradicts (some_is is_full events) full.0 not_full
       by (inr (inr dry)) = record { quiet = dry.quiet; lulls = dry.lulls unmoved; settled = settles dry }
 
 -- ---- the hub's last answer
@@ -104,16 +108,16 @@ module _ (s t : Streams) (l m : LinkView) (events : List Event) (unmoved : t.mov
 -- all parts went out, and a request is open or may still come
 pub record AllOut (s : State) : Type 0 where
   pub parts : drop (length s.gone_out) (wire s.book) ≡ []
-  pub more : (finished s.deliveries < length s.gone_out) ⊎ (s.closed ≡ false)
+  pub more : (has_open s ≡ true) ⊎ (s.closed ≡ false)
 
 none-out : (s : State) (parts : List (List ℕ)) (o : Out) → o ≡ out_of_rest s parts → has_none (NextOut (Ok o)) ≡ true → has_no_more (NextOut (Ok o)) ≡ false →
-    (parts ≡ []) × ((finished s.deliveries < length s.gone_out) ⊎ (s.closed ≡ false))
+    (parts ≡ []) × ((has_open s ≡ true) ⊎ (s.closed ≡ false))
 none-out s (part ∷ parts) o e none more = absurd (let no : false ≡ true = ap (λ (x : Out). has_none (NextOut (Ok x))) (sym e) ∙ none in cc)
-none-out s [] o e none more = (refl, by (nat_lt (finished s.deliveries) (length s.gone_out)) s.closed refl refl e)
+none-out s [] o e none more = (refl, by (has_open s) s.closed refl refl e)
   where
-    by : (b c : Bool) → nat_lt (finished s.deliveries) (length s.gone_out) ≡ b → s.closed ≡ c → o ≡ (if b then out.Nothing else (if c then out.NoMore else out.Nothing)) →
-        (finished s.deliveries < length s.gone_out) ⊎ (s.closed ≡ false)
-    by true c less is e = inl (grind (arith, nat_tests, less))
+    by : (b c : Bool) → has_open s ≡ b → s.closed ≡ c → o ≡ (if b then out.Nothing else (if c then out.NoMore else out.Nothing)) →
+        (has_open s ≡ true) ⊎ (s.closed ≡ false)
+    by true c less is e = inl less
     by false true less is e = absurd (let no : true ≡ false = ap (λ (x : Out). has_no_more (NextOut (Ok x))) (sym e) ∙ more in cc)
     by false false less is e = inr is
 
@@ -140,18 +144,24 @@ dropped zero (x ∷ xs) e = absurd cc
 dropped (suc n) [] e = omega arith
 dropped (suc n) (x ∷ xs) e = let rest = dropped n xs e in omega (arith, rest)
 
+not-less : (a b : ℕ) → nat_lt a b ≡ false → b ≤ a
+not-less a b e = grind (arith, nat_tests)
+
 -- a request went out whose group hasn't ended
 open-request : (scripts : List (List Command)) (s : SessionState) (l : LinkView) (t : SessionState) (m : LinkView) (q : QuietRound scripts s l t m) →
     AllOut (state_of q.reached) → t.hub.finished < t.hub.gone_out
 open-request scripts s l t m q all = by q.awaits all.more
   where
     by : IsAwaited t.handles (state_of q.reached) ⊎ ((t.unanswered ≡ 0) × (t.hub.closed ≡ true)) →
-        (finished (state_of q.reached).deliveries < length (state_of q.reached).gone_out) ⊎ ((state_of q.reached).closed ≡ false) →
+        (has_open (state_of q.reached) ≡ true) ⊎ ((state_of q.reached).closed ≡ false) →
         t.hub.finished < t.hub.gone_out
     by (inl awaited) more =
         let st = state_of q.reached in
-        omega (arith, awaited.booked, awaited.unended, q.before.all_parts, dropped (length st.gone_out) (wire st.book) all.parts, q.reached.fits.finished, q.reached.fits.gone_out)
-    by (inr done) (inl less) = omega (arith, less, q.reached.fits.finished, q.reached.fits.gone_out)
+        let order = q.before.in_order in
+        let unended : finished st.deliveries ≤ awaited.place.reads =
+        not-less awaited.place.reads (finished st.deliveries) (sym (ended-counted st.deliveries order.owners awaited.place.reads) ∙ awaited.unended) in
+        omega (arith, awaited.booked, unended, wire-counted st.book order.one_part, dropped (length st.gone_out) (wire st.book) all.parts, q.reached.fits.finished, q.reached.fits.gone_out)
+    by (inr done) (inl less) = omega (arith, open-less (state_of q.reached) q.before.in_order less, q.reached.fits.finished, q.reached.fits.gone_out)
     by (inr done) (inr active) = contradicts t.hub.closed done.1 (q.reached.fits.closed ∙ active)
 
 -- ---- the bytes
@@ -171,7 +181,7 @@ module _ (call : Call) (user opening : List ℕ) (first : List RawMessage) (t : 
       ∙ ap (λ (x : List RawMessage). h.read ++ x) settled.dry.decoded.none_whole ∙ append-nil h.read
 
   ran : Ran st
-  ran = ran-all (start 0 0) h.events (record { cut = tt; tail = λ e. absurd (let no : true ≡ false = e in cc) }) h.legal
+  ran = ran-all (start 0 0) h.events (ran-start 0 0) h.legal
 
   sync-is : sync_of h.read ≡ received st.deliveries
   sync-is = h.delivered ∙ ap (λ (x : List RawMessage). delivered_by h.events ++ x) settled.dry.cleared.held ∙ append-nil (delivered_by h.events) ∙ sym (received-all (start 0 0) h.events)
@@ -221,6 +231,11 @@ stalled-round call user opening first scripts s l t m waited before after means 
       from = omega (arith, keeps-l.counts.quiet, from);
       to = omega (arith, rests.keeps.counts.quiet, to);
       rose = subst (λ (n : ℕ). Rose n after) (sym from) (subst (λ (n : ℕ). Rose l.quiet n) (sym to) went.quiet);
+      round = (
+        omega (arith, q.misses.two, from, to),
+        λ steady. let few = q.misses.steady (keeps-l.steady steady) in omega (arith, few, from, to),
+      );
+      last = omega (arith, last-so waited m call.after fails.2, to);
       awaited = λ steady.
           let is_steady = keeps-l.steady steady in
           let settled = went.settled is_steady in

@@ -1,5 +1,5 @@
 -- Why a startup may be stalled.
-use Rattle.std.proofs.Common.{◌≡◌, ◌≤◌, ℕ, zero, suc, Bool, true, List, [], ◌++◌, length, Result, Ok, inl, inr, append-nil, refl, sym, ◌∙◌, ap, subst, arith}
+use Rattle.std.proofs.Common.{◌≡◌, ◌≤◌, ◌+◌, ℕ, zero, suc, Bool, true, List, [], ◌++◌, length, Result, Ok, inl, inr, append-nil, refl, sym, ◌∙◌, ap, subst, arith}
 use Rattle.std.specs.Prelude.{IsTrue}
 use Rattle.std.specs.List.{concat}
 use Rattle.pg_spec.specs.Causes.{Call, IsAwaited, IsStalled}
@@ -20,15 +20,20 @@ use Rattle.pg_session.proofs.StartCauses.{awaits, of_grown}
 
 -- however it gave up, the link rests
 pub rests-so : (waited : Bool) (a b : LinkView) → GivesUp waited a b → Rests a b
-rests-so waited a b (inl wait) = wait.1
+rests-so waited a b (inl wait) = wait.rests
 rests-so waited a b (inr round) = subst (λ (x : LinkView). Rests a x) (sym round.1) (rests_none a)
 
 -- Waiting was in vain, or the round behind a wait was: either is a lull.
 pub lulls-so : (waited : Bool) (base l m n : LinkView) → base.lulls ≤ l.lulls → base.lulls ≤ m.lulls → (waited ≡ true → IsTrue l.promised) →
     (IsTrue l.promised → Rose l.lulls m.lulls) → GivesUp waited m n → Rose base.lulls n.lulls
-lulls-so waited base l m n before after promised lulls (inl wait) = rose_later base.lulls m.lulls n.lulls after wait.0
+lulls-so waited base l m n before after promised lulls (inl wait) = rose_later base.lulls m.lulls n.lulls after wait.lulls
 lulls-so waited base l m n before after promised lulls (inr round) =
     subst (λ (x : LinkView). Rose base.lulls x.lulls) (sym round.1) (rose_later base.lulls l.lulls m.lulls before (lulls (promised round.0)))
+
+-- behind the round at most the wait wasn't ready
+pub last-so : (waited : Bool) (m n : LinkView) → GivesUp waited m n → n.quiet ≤ m.quiet + 1
+last-so waited m n (inl wait) = omega (arith, wait.quiet)
+last-so waited m n (inr round) = omega (arith, ap (λ (x : LinkView). x.quiet) round.1)
 
 -- the dialogue writes nothing behind messages that no frame answers
 silent-behind : (n : ℕ) (d : Dialogue) → (behind n d).frames ≡ d.frames
@@ -75,6 +80,8 @@ stalled-start call user s before after means h =
       from = omega (arith, h.keeps.counts.quiet, from);
       to = omega (arith, rests.keeps.counts.quiet, to);
       rose = subst (λ (n : ℕ). Rose n after) (sym from) (subst (λ (n : ℕ). Rose h.link.quiet n) (sym to) h.goes_on.quiet);
+      round = (omega (arith, h.misses, from, to), λ steady. omega (arith, h.misses, from, to));
+      last = omega (arith, last-so h.waited h.polled call.after h.fails.2, to);
       awaited = λ steady.
           let idle = h.goes_on.idle (h.keeps.steady steady) in (
             rests.bytes.due ∙ idle.empty,

@@ -1,12 +1,12 @@
 -- What crossed the link in a session that ended.
-use Rattle.std.specs.Prelude.{◌≡◌, ◌≢◌, ℕ, ◌≤◌, ◌++◌, IsTrue, List, length, map, Some, EachIndex}
+use Rattle.std.specs.Prelude.{◌≡◌, ◌≢◌, ℕ, ◌≤◌, ◌++◌, IsTrue, IsFalse, List, length, map, Some, EachIndex}
 use Rattle.std.specs.List.{concat, list_all}
 use Rattle.pg_spec.specs.Book.{wire}
 use Rattle.pg_spec.specs.ConnectionStrings.{only_user}
 use Rattle.pg_spec.specs.EndedWell.{Session, received, startup_of, startup_messages, later_messages, replies}
 use Rattle.pg_spec.specs.Frames.{terminate_frame}
 use Rattle.pg_spec.specs.Parameters.{AreLastValues, parameter_reports}
-use Rattle.pg_spec.specs.RawMessages.{is_whole_group, sync_of, async_of}
+use Rattle.pg_spec.specs.RawMessages.{bytes_left, has_bad_header, is_whole_group, sync_of, async_of}
 use Rattle.pg_spec.specs.Report.{async_of_raw}
 use Rattle.pg_spec.specs.Settings.{Require}
 use Rattle.pg_spec.specs.Startup.{Done, cancel_key}
@@ -39,6 +39,7 @@ pub record Crossed (s : Session) (taken : List ℕ) : Type 0 where
   pub sends : Sent s taken
   pub one_group_each : length (replies s) ≡ length s.report.book
   pub whole_groups : IsTrue (list_all is_whole_group (replies s))
+  pub no_bad_header : IsFalse (has_bad_header (bytes_left s.given))
   pub delivered_all : delivered_before s.report.trace (length s.report.trace) ≡ length (sync_of (later_messages s))
   pub asynchronous : map (λ m. Some m) s.report.asynchronous ≡ map async_of_raw (async_of (startup_messages s ++ later_messages s))
   pub parameters : AreLastValues (parameter_reports (received s)) s.report.parameters

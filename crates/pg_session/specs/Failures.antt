@@ -2,8 +2,9 @@
 use Rattle.std.specs.Prelude.{◌≡◌, ◌⊎◌, ◌≤◌, ◌+◌, ℕ, Bool, true, false, IsTrue, List, length, Option, Some, Result, Err}
 use Rattle.futures.specs.declared.task.Poll.{Poll}
 use Rattle.futures.specs.declared.task.Poll.TheVariants.{Ready}
-use Rattle.pg_spec.specs.Links.{LinkView, Rose}
+use Rattle.pg_spec.specs.Links.{LinkView, Rose, next_count}
 use Rattle.pg_connect.specs.Answers.{IsWithinPoll, PollAnswers}
+use Rattle.pg_connect.specs.Calm.{MissesFew, MissesOne}
 use Rattle.pg_wire.specs.LinkCalls.{Keeps, SameBytes}
 use Rattle.pg_connect.specs.Startups.{Opened, Opening}
 use Rattle.pg_connect.specs.StartupPolls.{IsFresh, GoesOn}
@@ -37,6 +38,7 @@ pub record WasPolled (s : SessionState) (before after : LinkView) : Type 0 where
   pub streams : Streams
   pub answer : Poll (Option (Result AsyncMessage Error))
   pub polled : PollAnswers HubBecomes s.hub hub s.streams streams before after answer
+  pub misses : MissesFew before after
   pub fine : IsFine answer
 
 -- Memory lacked in a turn: in a handle's, which crosses no link, or behind a poll of the connection.
@@ -48,9 +50,15 @@ pub record LacksMemory (s : SessionState) (before after : LinkView) (e : Error) 
 abbrev pub TurnFails : SessionState → (before after : LinkView) → Error → Type 0
 TurnFails s before after e = LacksMemory s before after e ⊎ PollFails s before after e
 
+-- The link was waited for in vain: that is a lull, and one more call that wasn't ready.
+pub record WaitsInVain (before after : LinkView) : Type 0 where
+  pub lulls : Rose before.lulls after.lulls
+  pub quiet : after.quiet ≡ next_count before.quiet
+  pub rests : Rests before after
+
 -- Nothing moved in a round or a poll, and the link was waited for in vain, or the round came behind a wait already.
 abbrev pub GivesUp : (waited : Bool) → (before after : LinkView) → Type 0
-GivesUp waited before after = (Rose before.lulls after.lulls × Rests before after) ⊎ ((waited ≡ true) × (after ≡ before))
+GivesUp waited before after = WaitsInVain before after ⊎ ((waited ≡ true) × (after ≡ before))
 
 -- Why a pause of the link failed, behind a round or a poll in which nothing moved and its count of calls that weren't
 -- ready went from one number to another.
@@ -67,6 +75,7 @@ pub record StopsOpening (user nonce : List ℕ) (begin now : LinkView) (s : Star
   pub opening : Opening user nonce begin polled s
   pub within : s.given ≤ s.max_bytes
   pub goes_on : GoesOn s link polled
+  pub misses : MissesOne link polled
   pub unmoved : s.moved ≡ false
   pub waited : Bool
   pub promised : waited ≡ true → IsTrue link.promised

@@ -5,6 +5,7 @@ pub mod Turns
 pub mod Sessions
 pub mod Reports
 pub mod Lives
+pub mod Events
 pub mod Crossed
 pub mod Failures
 pub mod WholeSession

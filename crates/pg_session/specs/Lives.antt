@@ -1,11 +1,11 @@
 -- What the handles of a session did, and that its connection called the hub as an engine alone.
-use Rattle.std.specs.Prelude.{◌≡◌, ℕ, ◌<◌, ◌≤◌, Bool, List, [], ◌∷◌, ◌++◌, length, map, Option, Some, None, unwrap_or, option_map, slice_get, Result, Ok, Err, All, EachIndex, IsSome}
+use Rattle.std.specs.Prelude.{◌≡◌, ℕ, ◌<◌, ◌≤◌, Bool, List, [], ◌∷◌, ◌++◌, length, map, take, Option, Some, None, unwrap_or, option_map, slice_get, Result, Ok, Err, All, EachIndex, IsSome, IfSome}
 use Rattle.std.proofs.Common.{inl, inr}
 use Rattle.std.specs.List.Sorted.{IsNonDecreasingBy}
 use Rattle.futures.specs.declared.task.Poll.{Poll}
 use Rattle.futures.specs.declared.task.Poll.TheVariants.{Ready, Pending}
 use Rattle.pg_spec.specs.Book.{Booking, bookings_of, request_of}
-use Rattle.pg_spec.specs.EndedWell.{Session, EachCommand, IsDecided, later_messages, own_requests, answer_of as answer_to}
+use Rattle.pg_spec.specs.EndedWell.{Session, EachCommand, IsDecided, later_messages, reply as reply_to, delivered_of, booked_in, own_requests, answer_of as answer_to, answer_at_once}
 use Rattle.pg_spec.specs.Links.{LinkView, Grew}
 use Rattle.pg_spec.specs.Faults as spec
 use Rattle.pg_spec.specs.Frames.{query_frame}
@@ -92,11 +92,12 @@ UndecidedSo take id trace came handle from to =
     (place : ℕ) → from ≤ place → place < to → turn_of trace place ≡ handle → Undecided take (reply id (came_at came place))
 
 -- A command whose frame was booked when it began answered what the reply to its request said by then, and
--- it said nothing in an earlier turn of its handle.
+-- it said nothing in an earlier turn of its handle. Nothing of that reply had come before it was booked.
 pub record FollowsReply (trace : List said.TurnMark) (book : List Booking) (came : List (List RawMessage)) (handle place : ℕ) (take : Option ℕ) (frame : List ℕ)
     (times : Times) (answer : said.Answer) : Type 0 where
   pub id : ℕ
   pub booked : slice_get book id ≡ Some (record { stamp = record { owner = handle; command = place; turn = times.begins }; parts = frame ∷ [] })
+  pub unasked : reply id (came_at came times.begins) ≡ []
   pub decided : Decided take (reply id (came_at came times.answers)) answer
   pub undecided : UndecidedSo take id trace came handle times.begins times.answers
 
@@ -140,6 +141,8 @@ pub record AnswersWell (s : Session) (schedule : List (List Times)) : Type 0 whe
       entry_at s.report.answers handle place ≡ answer_to s command (request_of s.report.book handle place))
   pub answers_in_turn : EachCommand s.scripts schedule (λ handle place command times.
       IsFirstTurn s.report.trace handle times.begins (IsDecided s command (request_of s.report.book handle place)) times.answers)
+  -- of the reply to a request nothing was delivered when it was booked
+  pub unasked : EachIndex s.report.book (λ k. take (delivered_of s k (booked_in s k)) (reply_to s k) ≡ [])
 
 -- The link gave so many bytes, whose messages are those that the startup read and more, and what came is a front
 -- of the synchronous ones among those.
@@ -151,8 +154,14 @@ pub record CameBehind (first : List RawMessage) (before after : LinkView) (all :
   pub behind : messages got ≡ first ++ more
   pub front : IsFrontOf all (sync_of more)
 
+-- an answer that needs no message is given in the turn in which the command begins
+abbrev pub AnswersAtOnce : (scripts : List (List said.Command)) (answers : List (List said.Answer)) (schedule : List (List Times)) → Type 0
+AnswersAtOnce scripts answers schedule = EachCommand scripts schedule (λ handle place command times. IfSome (answer_at_once command) (λ answer.
+    (entry_at answers handle place ≡ Some answer) × (times.answers ≡ times.begins)))
+
 -- when each command began and answered, and that it did so as the main theorem says
 pub record RanAndAnswered (s : Session) : Type 0 where
   pub schedule : List (List Times)
   pub ran : HandlesRan s.scripts s.report.answers s.report.book s.report.trace schedule
+  pub at_once : AnswersAtOnce s.scripts s.report.answers schedule
   pub well : AnswersWell s schedule

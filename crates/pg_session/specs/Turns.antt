@@ -5,6 +5,7 @@ use Rattle.futures.specs.declared.task.Poll.{Poll}
 use Rattle.futures.specs.declared.task.Poll.TheVariants.{Ready, Pending}
 use Rattle.pg_spec.specs.Links.{LinkView}
 use Rattle.pg_connect.specs.Answers.{PollAnswers}
+use Rattle.pg_connect.specs.Calm.{MissesFew}
 use Rattle.pg_connect.specs.declared.streams.Streams.{Streams}
 use Rattle.pg_desk.specs.declared.event.Event.TheVariants.{CloseRequests}
 use Rattle.pg_errors.specs.declared.async_message.AsyncMessage.{AsyncMessage}
@@ -65,6 +66,8 @@ HandsOn (Ready (Some (Err e))) old new over = ⊥
 pub record ConnectionMade (turn : ℕ) (s t : SessionState) (before after : LinkView) (over : Bool) : Type 0 where
   pub answer : Poll (Option (Result AsyncMessage Error))
   pub polled : PollAnswers HubBecomes s.hub t.hub s.streams t.streams before after answer
+  -- at most two of its calls weren't ready, and on a steady link at most one
+  pub misses : MissesFew before after
   pub hands : HandsOn answer s.asynchronous t.asynchronous over
   pub handles : t.handles ≡ s.handles
   pub unanswered : t.unanswered ≡ s.unanswered

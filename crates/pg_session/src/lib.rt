@@ -4,6 +4,7 @@
 mod causes;
 mod completeness;
 mod crossed;
+mod events;
 mod handle_turn;
 mod lives;
 mod main_theorem;
@@ -15,6 +16,7 @@ mod turns_given;
 pub use causes::each_failure_has_its_cause;
 pub use completeness::{valid_input_ends_well, what_may_fail_over_a_link_that_conforms};
 pub use crossed::what_crossed;
+pub use events::each_request_reads_its_reply;
 pub use handle_turn::Polling;
 pub use lives::{what_came, what_commands_answered, what_handles_did, what_was_answered};
 pub use main_theorem::every_session_ends_well;

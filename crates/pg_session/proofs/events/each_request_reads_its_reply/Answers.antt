@@ -1,0 +1,13 @@
+use Rattle.pg_session.proofs.CrossedEnd.{of-bytes}
+use Rattle.pg_session.proofs.EventsOf.{are-events, reads-so}
+use Rattle.pg_session.specs.Crossed.{session_of}
+use Rattle.pg_session.specs.Events.{turn_events, ReadsItsReply}
+use Rattle.pg_session.proofs.events.each_request_reads_its_reply.Goals as goal
+
+pub returns-clause-events : goal.returns-clause-events
+returns-clause-events c = are-events
+
+pub returns-clause-reads : goal.returns-clause-reads
+returns-clause-reads c user nonce scripts given before after report p =
+    of-bytes before after (λ g t. ReadsItsReply scripts (session_of user nonce scripts given report g) (turn_events scripts given p.new p.link p.last after p.plays))
+    (λ g t e d. reads-so user nonce scripts given before after report p g t e d)
