@@ -1,5 +1,5 @@
 -- A session that must end well does so, and so does the program that plays it.
-use Rattle.std.proofs.Common.{◌≡◌, ◌≤◌, ◌<◌, ◌+◌, ◌⊎◌, ℕ, inl, inr, List, [], length, Option, Some, None, Result, Ok, Err, IfErr, refl, sym, ap, subst, ◌∙◌, arith}
+use Rattle.std.proofs.Common.{◌≡◌, ◌≤◌, ◌+◌, ◌⊎◌, ℕ, inl, inr, List, [], length, Option, Some, None, Result, Ok, Err, IfErr, refl, ap, subst, arith}
 use Rattle.std.specs.Prelude.{IfSome}
 use Rattle.pg_spec.specs.Causes.{Call, HasCause}
 use Rattle.pg_spec.specs.Faults.{Failure, OutOfMemory}
@@ -57,7 +57,7 @@ few_turns : (text : SessionText) (result : SessionResult) (failure : Failure) (p
     turns_given p.taken ≤ 1 + requests_in text.scripts
 few_turns text result failure p is made =
     let call = call_of text p.after in
-    let sent : SendsInOrder call (Err failure) = subst (SendsInOrder call) is p.sent in
+    let sent : SendsInOrder call (Err failure) = subst (SendsInOrder call) is p.session.sent in
     let crossed = sent (made.settings, made.means, tt) in
     let user = crossed.1.0 in
     let gave : added (Some []) p.after.given ≡ Some p.given = ap (λ o. added (Some []) o) p.told_given in
@@ -69,7 +69,7 @@ few_turns text result failure p is made =
 ends_well : (text : SessionText) (result : SessionResult) (failure : Failure) → IsPlayed text result → result ≡ Err failure → IsWellMade text → EndsWell (Err failure)
 ends_well text result failure p is made =
     subst EndsWell is
-    (p.must_end_well (plan_of text) made.settings p.taken refl refl refl p.told_taken made.means (same_valid text (new_link text) p.after made.settings (plan_of text) made.valid)
+    (p.session.must_end_well (plan_of text) made.settings p.taken refl refl refl p.told_taken made.means (same_valid text (new_link text) p.after made.settings (plan_of text) made.valid)
     (same_conforms text (new_link text) p.after made.settings (plan_of text) p.taken (made.conforms p.taken (few_turns text result failure p is made))))
 
 -- the text due was written, or memory lacked

@@ -131,5 +131,5 @@ pub mark_lacks : (s t : SessionState) (l m : LinkView) (moved : Option Bool) (r 
 mark_lacks s t l m moved (Ok passed) p h = tt
 mark_lacks s t l m moved (Err e) p h = inl (record {
   memory = h;
-  crossed = inr (record { hub = t.hub; streams = t.streams; answer = p.answer; polled = p.polled; fine = fine_so p.answer s.asynchronous t.asynchronous (is_over moved) p.hands });
+  crossed = inr (record { hub = t.hub; streams = t.streams; answer = p.answer; polled = p.polled; misses = p.misses; fine = fine_so p.answer s.asynchronous t.asynchronous (is_over moved) p.hands });
 })

@@ -1,9 +1,10 @@
 -- A link that goes on from where it stood.
 use Rattle.std.proofs.Common.{ℕ, List, ◌++◌, Option, Some, None, Result, Ok, Err, inl, inr, append-nil, append_assoc, [], refl, sym, ◌∙◌, ap, subst}
+use Rattle.std.specs.Prelude.{IsTrue}
 use Rattle.futures.specs.declared.task.Poll.{Poll}
 use Rattle.futures.specs.declared.task.Poll.TheVariants.{Ready, Pending}
 use Rattle.pg_spec.specs.Links.{LinkView, Grew}
-use Rattle.pg_wire.specs.LinkCalls.{Keeps, SameBytes, Extends, Continues}
+use Rattle.pg_wire.specs.LinkCalls.{Keeps, SameBytes, SameWriting, Extends, Continues}
 use Rattle.pg_desk.specs.declared.event.Event.{Event}
 use Rattle.pg_errors.specs.declared.async_message.AsyncMessage.{AsyncMessage}
 use Rattle.pg_errors.specs.declared.error.Error.{Error}
@@ -75,8 +76,9 @@ continues_poll becomes a b old new before after (Ready (Some (Err e))) t = elim 
 ]
 
 -- the startup waits for the link
-pub opening_waits : (name nonce : List ℕ) (begin a b : LinkView) (s : Startup) → Opening name nonce begin a s → SameBytes a b → Keeps a b → Opening name nonce begin b s
-opening_waits name nonce begin a b s o bytes keeps = record {
+pub opening_waits : (name nonce : List ℕ) (begin a b : LinkView) (s : Startup) → Opening name nonce begin a s → SameBytes a b → SameWriting a b → Keeps a b →
+    Opening name nonce begin b s
+opening_waits name nonce begin a b s o bytes writing keeps = record {
   got = o.got;
   sent = o.sent;
   read = o.read;
@@ -86,6 +88,8 @@ opening_waits name nonce begin a b s o bytes keeps = record {
   out = o.out;
   frame = o.frame;
   leads = o.leads;
+  flushed = λ is. let was = o.flushed is in (was.0, subst IsTrue (sym writing.flushed) was.1);
+  behind = o.behind;
   count = o.count;
   link = keeps_then begin a b o.link keeps;
 }

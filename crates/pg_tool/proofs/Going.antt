@@ -16,7 +16,7 @@ use Rattle.pg_session.specs.States.{SessionState}
 use Rattle.pg_session.specs.Turns.{HandsOn, Makes, Turns}
 use Rattle.pg_session.proofs.Nearer.{answered-nearer}
 use Rattle.pg_tool.specs.declared.play.Play.{Play}
-use Rattle.pg_tool.specs.Plays.{ConnectionPolled, HandlePolled, IsGoing, IsLimited, is_over, state_of}
+use Rattle.pg_tool.specs.Plays.{ConnectionPolled, HandlePolled, IsGoing, IsLimited, Leaves, is_over, state_of}
 
 first_false : (a b : Bool) → (a || b) ≡ false → a ≡ false
 first_false true b e = absurd cc
@@ -57,17 +57,6 @@ turn_goes scripts turn p u l m (Err e) going within turns = tt
 turn_goes scripts turn p u l m (Ok moved) going within turns = goes_so scripts turn p u l m moved going within turns
 
 -- its two parts
-pub then_going : (scripts : List (List Command)) (p u : Play) (r : Result (Option Bool) Error) → IfOk r (λ moved. IfSome moved (GoesOn scripts p u)) → IfOk r (λ moved. IfSome moved (λ m. IsGoing u))
-then_going scripts p u (Err e) goes = tt
-then_going scripts p u (Ok None) goes = tt
-then_going scripts p u (Ok (Some moved)) goes = goes.going
-
-pub then_nearer : (scripts : List (List Command)) (p u : Play) (r : Result (Option Bool) Error) → IfOk r (λ moved. IfSome moved (GoesOn scripts p u)) →
-    IfOk r (λ moved. IfSome moved (λ m. IsNearer scripts m (state_of p) (state_of u)))
-then_nearer scripts p u (Err e) goes = tt
-then_nearer scripts p u (Ok None) goes = tt
-then_nearer scripts p u (Ok (Some moved)) goes = goes.nearer
-
 -- ---- the limit
 
 -- a poll that didn't fail gave no more than it may
@@ -100,3 +89,11 @@ handle_limited scripts turn p u (Ok moved) going polled = handle_so scripts turn
 pub limited_then : (p q u : Play) (r : Result (Unit {0}) Error) → q.streams.max_bytes ≡ p.streams.max_bytes → OnOk r (IsLimited q u) → OnOk r (IsLimited p u)
 limited_then p q u (Err e) same limited = tt
 limited_then p q u (Ok x) same limited = (limited.0, limited.1 ∙ same)
+
+-- ---- what is left
+
+pub leaves_of : (scripts : List (List Command)) (p u : Play) (r : Result (Option Bool) Error) → IfOk r (λ x. IsLimited p u) →
+    IfOk r (λ moved. IfSome moved (GoesOn scripts p u)) → IfOk r (Leaves scripts p u)
+leaves_of scripts p u (Err e) limited goes = tt
+leaves_of scripts p u (Ok None) limited goes = record { limited = limited; going = tt; nearer = tt }
+leaves_of scripts p u (Ok (Some moved)) limited goes = record { limited = limited; going = goes.going; nearer = goes.nearer }

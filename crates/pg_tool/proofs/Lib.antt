@@ -10,10 +10,13 @@ pub mod Counting
 pub mod Made
 pub mod Chaining
 pub mod Played
+pub mod Promised
 pub mod Failing
 pub mod Going
 pub mod Causing
 pub mod Limiting
 pub mod Sending
 pub mod Calming
+pub mod Crossing
 pub mod Completing
+pub mod WellMade

@@ -94,6 +94,7 @@ made_so scripts turn p q u l m moved other polled same marks = record {
   made = record {
     answer = polled.answer;
     polled = subst (λ (x : Play). PollAnswers HubBecomes p.hub x.hub p.streams x.streams l m polled.answer) (sym same) polled.polled;
+    misses = polled.misses;
     hands = subst (λ (x : Play). HandsOn polled.answer p.asynchronous.items x.asynchronous.items (is_over moved)) (sym same) polled.hands;
     handles = ap (λ (x : Play). map view_of x.handles.items) same ∙ polled.handles;
     unanswered = ap (λ (x : Play). x.unanswered) same ∙ polled.unanswered;

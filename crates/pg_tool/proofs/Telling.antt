@@ -13,7 +13,7 @@ use Rattle.pg_errors.specs.Views.{failure_of}
 use Rattle.pg_tool.specs.Reading.{longest_text, ReadWhole}
 use Rattle.pg_tool.proofs.Completing.{must_text}
 use Rattle.pg_tool.specs.SessionContract.{SessionResult}
-use Rattle.pg_tool.specs.RunContract.{Answered, EndsWith, IsPlayed, IsRefused, NotPlayed, PlayedText, RefusedLine, Run, RunContract, SaysResult, StatusSays, Written, play, usage}
+use Rattle.pg_tool.specs.RunContract.{Answered, EndsWith, IsPlayed, IsRefused, IsRefusedFor, NotPlayed, PlayedText, RefusedLine, Run, RunContract, SaysResult, StatusSays, Written, play, usage}
 
 -- ---- a session's result
 
@@ -68,8 +68,9 @@ no_session : (P : SessionResult → Type 0) (result : Option SessionResult) → 
 no_session P result none = subst (λ r. IfSome r P) (sym none) tt
 
 -- other words
-pub run_usage : (run : Run) → run.words ≢ play → run.result ≡ None → Written run.sink_before run.sink_after usage 2 run.status → RunContract run
-run_usage run other none w = record {
+pub run_usage : (run : Run) → run.link_after ≡ run.link_before → run.words ≢ play → run.result ≡ None → Written run.sink_before run.sink_after usage 2 run.status → RunContract run
+run_usage run unused other none w = record {
+  link = unused;
   status = subst (λ r. StatusSays run r) (sym none) (inl (other, w.ends));
   source_failed = λ is. absurd (ends_not_3 _ _ _ 2 run.status w.ends (λ e. cc e) is);
   sink_failed = w.sink_failed (λ e. cc e);
@@ -77,29 +78,30 @@ run_usage run other none w = record {
   must_play = λ bytes text words left within is made calm_source calm_sink. absurd (other words);
 }
 
-text_status : (run : Run) (bytes : List ℕ) (result : Option SessionResult) → run.words ≡ play → IfSome run.source_before.left (λ left. left ≡ bytes) →
+refused_so : (bytes : List ℕ) (why : Option ℕ) → length bytes ≤ longest_text → IsRefusedFor bytes why → IsRefused bytes why
+refused_so bytes None within refused = refused
+refused_so bytes (Some n) within refused = (within, refused)
+
+text_status : (run : Run) (bytes : List ℕ) (result : Option SessionResult) → run.words ≡ play → IfSome run.source_before.left (λ left. left ≡ bytes) → length bytes ≤ longest_text →
     PlayedText bytes run.sink_before run.sink_after run.status result → StatusSays run result
-text_status run bytes (Some result) words all played = played.2.answered.says
-text_status run bytes None words all (inl refused) =
-    inr (inl (words, refused.0, of_left (λ text. IsRefused text refused.0) run.source_before.left bytes all refused.1, refused.2.ends))
-text_status run bytes None words all (inr nothing) = inr (inr (inr nothing.0, nothing.1))
+text_status run bytes (Some result) words all within played = played.2.answered.says
+text_status run bytes None words all within (inl refused) =
+    inr (inl (words, refused.0, of_left (λ text. IsRefused text refused.0) run.source_before.left bytes all (refused_so bytes refused.0 within refused.1), refused.2.ends))
+text_status run bytes None words all within (inr nothing) = inr (inr (inr nothing.0, nothing.1))
 
 text_session : (run : Run) (bytes : List ℕ) (result : Option SessionResult) → run.words ≡ play → ReadWhole run.source_before bytes →
     PlayedText bytes run.sink_before run.sink_after run.status result →
-    IfSome result (λ result. (run.words ≡ play) × IfSome run.source_before.left (λ bytes. (length bytes ≤ longest_text)
-    × (text : SessionText) × IsSessionText bytes text × IsPlayed text result))
+    IfSome result (λ result. (run.words ≡ play) × (bytes : List ℕ) × IfSome run.source_before.left (λ left. left ≡ bytes) × (length bytes ≤ longest_text)
+    × (text : SessionText) × IsSessionText bytes text × IsPlayed text result)
 text_session run bytes None words read played = tt
-text_session run bytes (Some result) words read played = (
-  words,
-  of_left (λ bytes. (length bytes ≤ longest_text) × (text : SessionText) × IsSessionText bytes text × IsPlayed text result)
-      run.source_before.left bytes read.all (read.within, played.0, played.1, played.2.played),
-)
+text_session run bytes (Some result) words read played = (words, bytes, read.all, read.within, played.0, played.1, played.2.played)
 
 -- a text was read
-pub run_text : (run : Run) (bytes : List ℕ) → run.words ≡ play → ReadWhole run.source_before bytes →
+pub run_text : (run : Run) (bytes : List ℕ) → run.link_after ≡ run.link_before → run.words ≡ play → ReadWhole run.source_before bytes →
     PlayedText bytes run.sink_before run.sink_after run.status run.result → RunContract run
-run_text run bytes words read played = record {
-  status = text_status run bytes run.result words read.all played;
+run_text run bytes unused words read played = record {
+  link = unused;
+  status = text_status run bytes run.result words read.all read.within played;
   source_failed = λ is. absurd (text_not_3 bytes _ _ run.status run.result played is);
   sink_failed = text_sink_failed bytes _ _ run.status run.result played;
   session = text_session run bytes run.result words read played;

@@ -2,7 +2,8 @@
 use Rattle.std.proofs.Common.{◌≡◌, ◌≤◌, ◌<◌, ℕ, ◌+◌, ◌*◌, Bool, true, false, not, if◌then◌else◌, List, Result, Ok, Err, refl, sym, subst, arith}
 use Rattle.std.specs.Prelude.{IsTrue}
 use Rattle.pg_spec.specs.Links.{LinkView}
-use Rattle.pg_wire.specs.LinkCalls.{Keeps, SameBytes, Continues}
+use Rattle.pg_wire.specs.LinkCalls.{Keeps, SameBytes, SameWriting, Continues}
+use Rattle.pg_connect.specs.Calm.{MissesOne}
 use Rattle.pg_errors.specs.declared.cause.Cause.TheVariants as cause
 use Rattle.pg_errors.specs.declared.error.Error.{Error}
 use Rattle.pg_errors.specs.declared.error.Error.TheVariants as error
@@ -15,7 +16,7 @@ use Rattle.pg_tool.specs.Asked.{ConfigIsNotBuilt}
 use Rattle.pg_session.specs.Failures.{PauseFails}
 use Rattle.pg_session.proofs.StalledStart.{rests-so}
 use Rattle.pg_tool.specs.Openings.{OpenEnds}
-use Rattle.pg_tool.proofs.Following.{opening_waits, continues_grown, continues_then}
+use Rattle.pg_tool.proofs.Following.{opening_waits, continues_grown, continues_still, continues_then}
 
 -- Where something moved less is left to do, and else a pause may come once: the number falls.
 pub fewer_left : (moved next waited : Bool) (a b : ℕ) → b + (if moved then 1 else 0) ≤ a → next ≡ not moved → (next ≡ true → waited ≡ false) →
@@ -37,32 +38,33 @@ open_fails name nonce begin now s (error.Stalled before after) f = absurd f.fail
 open_fails name nonce begin now s _ f = f
 
 -- behind a poll that moved nothing, a pause ended it
-pub open_stops : (name nonce : List ℕ) (begin l a b : LinkView) (s : Startup) (waited : Bool) (e : Error) → Keeps begin l → Opening name nonce begin a s → s.given ≤ s.max_bytes → GoesOn s l a → s.moved ≡ false →
-    (waited ≡ true → IsTrue l.promised) → SameBytes a b → Keeps a b → PauseFails l.quiet a.quiet waited a b e → OpenEnds name nonce begin b s (Err e)
-open_stops name nonce begin l a b s waited (error.Stalled x y) keeps-l o within goes_on unmoved promised bytes keeps fails = record {
+pub open_stops : (name nonce : List ℕ) (begin l a b : LinkView) (s : Startup) (waited : Bool) (e : Error) → Keeps begin l → Opening name nonce begin a s → s.given ≤ s.max_bytes → GoesOn s l a → MissesOne l a → s.moved ≡ false →
+    (waited ≡ true → IsTrue l.promised) → SameBytes a b → SameWriting a b → Keeps a b → PauseFails l.quiet a.quiet waited a b e → OpenEnds name nonce begin b s (Err e)
+open_stops name nonce begin l a b s waited (error.Stalled x y) keeps-l o within goes_on misses unmoved promised bytes writing keeps fails = record {
   link = l;
   keeps = keeps-l;
   polled = a;
   opening = o;
   within = within;
   goes_on = goes_on;
+  misses = misses;
   unmoved = unmoved;
   waited = waited;
   promised = promised;
   fails = fails;
 }
-open_stops name nonce begin l a b s waited (error.Io cause.Link) keeps-l o within goes_on unmoved promised bytes keeps fails =
-    opening-failed name nonce begin b s s (error.Io cause.Link) (opening_waits name nonce begin a b s o bytes keeps) refl
-    (rose_later begin.faults a.faults b.faults o.link.counts.faults fails) (subst (λ (n : ℕ). n ≤ s.max_bytes) (opening_waits name nonce begin a b s o bytes keeps).count within)
-open_stops name nonce begin l a b s waited _ keeps-l o within goes_on unmoved promised bytes keeps fails = absurd fails
+open_stops name nonce begin l a b s waited (error.Io cause.Link) keeps-l o within goes_on misses unmoved promised bytes writing keeps fails =
+    opening-failed name nonce begin b s s (error.Io cause.Link) (opening_waits name nonce begin a b s o bytes writing keeps) refl
+    (rose_later begin.faults a.faults b.faults o.link.counts.faults fails) (subst (λ (n : ℕ). n ≤ s.max_bytes) (opening_waits name nonce begin a b s o bytes writing keeps).count within)
+open_stops name nonce begin l a b s waited _ keeps-l o within goes_on misses unmoved promised bytes writing keeps fails = absurd fails
 
 -- however it ends, the link goes on from where it stood
 pub open_continues : (name nonce : List ℕ) (begin now : LinkView) (s : Startup) (r : Result (Unit {0}) Error) → OpenEnds name nonce begin now s r → Continues begin now
 open_continues name nonce begin now s (Ok x) o = continues_grown begin now o.got s.opening.items o.given o.taken o.link
 open_continues name nonce begin now s (Err (error.Stalled before after)) h =
     let rests = rests-so h.waited h.polled now h.fails.2 in
-    let o = opening_waits name nonce begin h.polled now s h.opening rests.bytes rests.keeps in
-    continues_grown begin now o.got o.sent o.given o.taken o.link
+    let o = h.opening in
+    continues_then begin h.polled now (continues_grown begin h.polled o.got o.sent o.given o.taken o.link) (continues_still h.polled now rests.bytes rests.keeps)
 open_continues name nonce begin now s (Err _) o = continues_grown begin now o.got o.sent o.given o.taken o.link
 
 -- and where it is done, so does what follows

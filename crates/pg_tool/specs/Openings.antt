@@ -1,6 +1,7 @@
 -- How the startup of a session ends.
 use Rattle.std.specs.Prelude.{◌≡◌, ℕ, ◌+◌, ◌*◌, ◌≤◌, if◌then◌else◌, Bool, true, false, not, IsTrue, List, Option, Some, None, Result, Ok, Err}
 use Rattle.pg_spec.specs.Links.{LinkView}
+use Rattle.pg_connect.specs.Calm.{MissesOne}
 use Rattle.pg_connect.specs.declared.startup.Startup.{Startup}
 use Rattle.pg_connect.specs.StartupPolls as startups
 use Rattle.pg_session.specs.Failures.{PauseFails, StopsOpening}
@@ -17,6 +18,7 @@ Steps name nonce begin now s (Err e) = Failed name nonce begin now s e
 -- A poll that doesn't end it met a link that wasn't ready, and says whether it moved.
 pub record Waits (before after : LinkView) (old s : Startup) (moved : Bool) : Type 0 where
   pub goes_on : startups.GoesOn s before after
+  pub misses : MissesOne before after
   pub nearer : startups.IsNearer old s
   pub within : s.given ≤ s.max_bytes
   pub says : moved ≡ s.moved

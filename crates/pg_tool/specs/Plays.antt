@@ -1,16 +1,18 @@
 -- What stands between two turns of a session, and what its steps do.
-use Rattle.std.specs.Prelude.{◌≡◌, ◌⊎◌, ℕ, ◌^◌, ◌<◌, ◌≤◌, Bool, true, false, List, ◌++◌, ◌+◌, ◌*◌, if◌then◌else◌, length, map, Option, Some, None, IfSome, Result}
+use Rattle.std.specs.Prelude.{◌≡◌, ◌⊎◌, ℕ, ◌^◌, ◌<◌, ◌≤◌, Bool, true, false, List, ◌++◌, ◌+◌, ◌*◌, if◌then◌else◌, length, map, Option, Some, None, IfErr, IfSome, OnOk, Result}
 use Rattle.std.specs.List.{All}
 use Rattle.pg_errors.specs.declared.error.Error.{Error}
 use Rattle.pg_errors.specs.declared.error.Error.TheVariants as error
 use Rattle.pg_spec.specs.Links.{LinkView}
+use Rattle.pg_wire.specs.LinkCalls.{Continues}
+use Rattle.pg_connect.specs.Calm.{MissesFew, StaysCalm}
 use Rattle.pg_connect.specs.Answers.{IsWithinPoll, PollAnswers}
 use Rattle.pg_hub.specs.Fits.{HubBecomes}
 use Rattle.futures.specs.declared.task.Poll.{Poll}
 use Rattle.pg_errors.specs.declared.async_message.AsyncMessage.{AsyncMessage}
 use Rattle.pg_session.specs.Failures.{BreaksOff, RunsShort}
 use Rattle.pg_session.specs.Sessions.{EndsWith, MakesAll, StaysAll, numbers, rounds}
-use Rattle.pg_session.specs.Measure.{IsUnderWay, left_to_do}
+use Rattle.pg_session.specs.Measure.{IsNearer, IsUnderWay, left_to_do}
 use Rattle.pg_session.specs.States.{SessionState}
 use Rattle.pg_session.specs.Turns.{HandleMade, HandsOn, moved_by, moved_in_poll}
 use Rattle.pg_session.specs.declared.handle_turn.Polling.{Polling}
@@ -71,6 +73,7 @@ pub record HandlePolled (scripts : List (List Command)) (turn : ℕ) (s t : Sess
 pub record ConnectionPolled (s t : SessionState) (before after : LinkView) (moved : Option Bool) : Type 0 where
   pub answer : Poll (Option (Result AsyncMessage Error))
   pub polled : PollAnswers HubBecomes s.hub t.hub s.streams t.streams before after answer
+  pub misses : MissesFew before after
   pub hands : HandsOn answer s.asynchronous t.asynchronous (is_over moved)
   pub says : IfSome moved (λ m. moved_in_poll answer t.streams ≡ m)
   pub kept : s.streams.ended ≡ false → IsWithinPoll t.streams answer
@@ -91,6 +94,20 @@ RoundMade scripts s l t m None = (last : ℕ) × (last ≤ length scripts) × En
 -- some turns of a round were made, and the next one failed, or memory ran out
 abbrev pub RoundFails : List (List Command) → SessionState → (before after : LinkView) → Error → Type 0
 RoundFails scripts s l m e = RunsShort scripts s l m e ⊎ BreaksOff scripts s l m e
+
+-- what a turn or a round leaves, where it doesn't fail
+pub record Leaves (scripts : List (List Command)) (old new : Play) (moved : Option Bool) : Type 0 where
+  pub limited : IsLimited old new
+  -- while the connection is open the session can go on, and less is left to do where something moved
+  pub going : IfSome moved (λ m. IsGoing new)
+  pub nearer : IfSome moved (λ m. IsNearer scripts m (state_of old) (state_of new))
+
+-- What holds behind turns and rounds, whatever they answer: the link goes on from where it stood, an error doesn't
+-- speak of what was asked for, and where they didn't fail no call was a lull.
+pub record Crosses {A : Type 0} (before after : LinkView) (result : Result A Error) : Type 0 where
+  pub link : Continues before after
+  pub error : IfErr result IsLater
+  pub calm : OnOk result (StaysCalm before after)
 
 -- whole rounds were made
 pub record RoundsMade (scripts : List (List Command)) (s : SessionState) (l : LinkView) (t : SessionState) (m : LinkView) : Type 0 where

@@ -1,18 +1,18 @@
 -- The contract of the program: what it writes, and its exit status.
-use Rattle.std.specs.Prelude.{◌≡◌, ◌≢◌, ℕ, ◌+◌, ◌<◌, ◌≤◌, ◌⊎◌, true, false, List, [], ◌∷◌, ◌++◌, length, Result, Ok, Err, Option, Some, None, IfSome, IfOk, IfErr, codes, decimal}
+use Rattle.std.specs.Prelude.{◌≡◌, ◌≢◌, ℕ, ◌+◌, ◌<◌, ◌≤◌, ◌⊎◌, true, false, List, [], ◌∷◌, ◌++◌, length, Ok, Err, Option, Some, None, IfSome, codes, decimal}
 use Rattle.std.specs.List.{concat}
-use Rattle.pg_spec.specs.Causes.{Call, HasCause, IsNotBuilt}
-use Rattle.pg_spec.specs.Faults.{Failure, OutOfMemory, Config, NotBuilt}
+use Rattle.pg_spec.specs.Causes.{Call}
+use Rattle.pg_spec.specs.Faults.{OutOfMemory}
 use Rattle.pg_spec.specs.ConnectionStrings.{Means}
-use Rattle.pg_spec.specs.Links.{LinkView, Plan, Rose, Grew}
-use Rattle.pg_spec.specs.Promises.{Conforms, IsValid, MustEndWell, NoneKeptBack, requests_in}
+use Rattle.pg_spec.specs.Links.{LinkView, Plan, Rose, Grew, course_of}
+use Rattle.pg_spec.specs.Promises.{Conforms, IsValid, requests_in}
 use Rattle.pg_spec.specs.Sent.{turns_given}
 use Rattle.pg_spec.specs.Settings.{Settings}
 use Rattle.pg_spec.specs.ReportText.{report_text, error_text}
 use Rattle.pg_spec.specs.SessionText.{SessionText, IsSessionText, IsRefusedAt}
-use Rattle.pg_wire.specs.LinkCalls.{Tells, Continues}
+use Rattle.pg_wire.specs.LinkCalls.{Tells}
 use Rattle.pg_wire.specs.Streams.{SourceView, SinkView}
-use Rattle.pg_tool.specs.SessionContract.{IsEndedWell, IsRun, KeepsLimit, SendsInOrder, SessionResult}
+use Rattle.pg_tool.specs.SessionContract.{SessionContract, SessionResult}
 use Rattle.pg_tool.specs.Reading.{longest_text}
 use Rattle.pg_tool.specs.Writing as writing
 
@@ -23,6 +23,9 @@ pub record Run : Type 0 where
   pub source_after : SourceView
   pub sink_before : SinkView
   pub sink_after : SinkView
+  -- the link handed in
+  pub link_before : LinkView
+  pub link_after : LinkView
   pub status : ℕ
   pub result : Option SessionResult
 
@@ -36,9 +39,12 @@ new_link text = record {
   given = Some [];
   taken = Some [];
   plan = Some (plan_of text);
+  course = Some (course_of (plan_of text));
   due = Some [];
   steady = true;
   promised = false;
+  flushed = false;
+  shut = false;
   faults = 0;
   quiet = 0;
   dry = 0;
@@ -72,19 +78,11 @@ pub record IsPlayed (text : SessionText) (result : SessionResult) : Type 0 where
   pub told_given : after.given ≡ Some given
   pub told_taken : after.taken ≡ Some taken
   pub tells : Tells after
-  pub link : Continues (new_link text) after
   pub rest : List ℕ
   pub front : given ++ rest ≡ concat text.plan
   pub no_fault : after.faults ≡ 0
-  -- where the session answered Ok, the main theorem
-  pub ended_well : IfOk result (IsEndedWell (call_of text after))
-  pub has_run : IfOk result (IsRun (call_of text after))
-  pub cause : IfErr result (HasCause (call_of text after))
-  pub limit : KeepsLimit (call_of text after) result
-  pub sent : SendsInOrder (call_of text after) result
-  pub none_kept_back : NoneKeptBack (call_of text after) result
-  pub must_end_well : MustEndWell (call_of text after) result
-  pub refused : IsNotBuilt (call_of text after) → (result ≡ Err (Config NotBuilt)) × (after ≡ new_link text)
+  -- all that a session promises
+  pub session : SessionContract (call_of text after) result
 
 -- With the status that is due the text was written whole, with 4 or 5 a front of it; and nothing else was.
 abbrev pub EndsWith : SinkView → SinkView → List ℕ → (due status : ℕ) → Type 0
@@ -120,7 +118,12 @@ pub record PlayedSession (text : SessionText) (old new : SinkView) (status : ℕ
 -- why a text is refused: its length, or the first line that breaks the rules
 abbrev pub IsRefused : List ℕ → Option ℕ → Type 0
 IsRefused text None = longest_text < length text
-IsRefused text (Some n) = IsRefusedAt text n
+IsRefused text (Some n) = (length text ≤ longest_text) × IsRefusedAt text n
+
+-- the same of a text that isn't too long
+abbrev pub IsRefusedFor : List ℕ → Option ℕ → Type 0
+IsRefusedFor text None = longest_text < length text
+IsRefusedFor text (Some n) = IsRefusedAt text n
 
 -- what is written then
 abbrev pub refusal : Option ℕ → List ℕ
@@ -142,7 +145,7 @@ play = codes "play" ∷ []
 -- what is written where a text was refused, or memory ran out before its session
 abbrev pub NotPlayed : List ℕ → SinkView → SinkView → ℕ → Type 0
 NotPlayed bytes old new status =
-    ((why : Option ℕ) × IsRefused bytes why × Written old new (refusal why) 2 status)
+    ((why : Option ℕ) × IsRefusedFor bytes why × Written old new (refusal why) 2 status)
     ⊎ WroteNothing old new status
 
 -- what a text came to
@@ -187,9 +190,12 @@ pub record RunContract (run : Run) : Type 0 where
   pub status : StatusSays run run.result
   pub source_failed : run.status ≡ 3 → Rose run.source_before.faults run.source_after.faults
   pub sink_failed : run.status ≡ 4 → Rose run.sink_before.faults run.sink_after.faults
-  -- with `play`, the source's bytes are a session text, and the result is that session's
+  -- with `play`, there are bytes that are a session text, and the result is that session's; they are the source's,
+  -- where it tells them
   pub session : IfSome run.result (λ result. (run.words ≡ play)
-      × IfSome run.source_before.left (λ bytes. (length bytes ≤ longest_text)
-      × (text : SessionText) × IsSessionText bytes text × IsPlayed text result))
+      × (bytes : List ℕ) × IfSome run.source_before.left (λ left. left ≡ bytes) × (length bytes ≤ longest_text)
+      × (text : SessionText) × IsSessionText bytes text × IsPlayed text result)
+  -- the link handed in isn't used
+  pub link : run.link_after ≡ run.link_before
   -- a text that is well made is played well
   pub must_play : MustPlay run

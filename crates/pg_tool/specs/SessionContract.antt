@@ -1,17 +1,19 @@
--- What a session that ended well is, by what was asked.
-use Rattle.std.specs.Prelude.{◌≡◌, ◌<◌, ℕ, List, length, Result, Ok, Err, ⊤}
-use Rattle.pg_spec.specs.Causes.{Call, OfDialogue, Unless, WithSettings}
+-- What a session promises, by what was asked.
+use Rattle.std.specs.Prelude.{◌≡◌, ◌<◌, ℕ, List, length, Result, Ok, Err, IfOk, IfErr, ⊤}
+use Rattle.pg_spec.specs.Causes.{Call, HasCause, IsNotBuilt, OfDialogue, Unless, WithSettings}
 use Rattle.pg_spec.specs.Links.{OfBytes}
 use Rattle.pg_errors.specs.Views.{failure_of}
 use Rattle.pg_errors.specs.declared.error.Error.{Error}
 use Rattle.pg_text.specs.Views.{report_of}
 use Rattle.pg_text.specs.declared.report.Report as told
 use Rattle.pg_spec.specs.EndedWell.{Session, HasRun, EndedWell}
-use Rattle.pg_spec.specs.Faults.{Failure, LimitReached}
-use Rattle.pg_spec.specs.Promises.{SentInOrder}
+use Rattle.pg_spec.specs.Faults.{Failure, Config, LimitReached, NotBuilt}
+use Rattle.pg_spec.specs.Promises.{MustEndWell, NoneKeptBack, SentInOrder}
 use Rattle.pg_spec.specs.Report.{Report}
 use Rattle.pg_spec.specs.Settings.{Settings}
 use Rattle.pg_spec.specs.Turns.{Times}
+use Rattle.pg_wire.specs.LinkCalls.{Continues}
+use Rattle.pg_session.specs.WholeSession.{IsClosed}
 
 -- what a session answers
 abbrev pub SessionResult : Type 0
@@ -44,3 +46,28 @@ IsRun call report = (schedule : List (List Times)) × HasRun call.scripts call.t
 abbrev pub SendsInOrder : Call → SessionResult → Type 0
 SendsInOrder call (Ok report) = ⊤
 SendsInOrder call (Err failure) = WithSettings call (λ s. ⊤) → OfDialogue call (λ s g t. SentInOrder call s g t)
+
+-- Config comes for one cause only: that this version isn't built for what was asked.
+abbrev pub NoOtherConfig : Failure → Type 0
+NoOtherConfig (Config NotBuilt) = ⊤
+NoOtherConfig (Config _) = ⊥
+NoOtherConfig _ = ⊤
+
+-- What a session promises of what was asked and of its answer.
+pub record SessionContract (call : Call) (result : SessionResult) : Type 0 where
+  -- where it answers Ok, the main theorem
+  pub ended_well : IfOk result (IsEndedWell call)
+  pub has_run : IfOk result (IsRun call)
+  -- and all that the link took is flushed, and it is shut down
+  pub closed : IfOk result (λ report. IsClosed call.after)
+  -- the link went on from where it stood
+  pub link : Continues call.before call.after
+  -- each failure has its cause
+  pub cause : IfErr result (HasCause call)
+  pub config : IfErr result NoOtherConfig
+  pub limit : KeepsLimit call result
+  pub sent : SendsInOrder call result
+  pub none_kept_back : NoneKeptBack call result
+  pub must_end_well : MustEndWell call result
+  -- what isn't built is refused before any byte
+  pub refused : IsNotBuilt call → (result ≡ Err (Config NotBuilt)) × (call.after ≡ call.before)

@@ -3,6 +3,7 @@
 
 mod asked;
 mod handle;
+mod laws;
 mod opening;
 mod play;
 mod program;
@@ -11,6 +12,7 @@ mod report;
 mod session;
 mod writing;
 
+pub use laws::some_text_is_well_made;
 pub use pg_text::{
     Answer, Cells, Command, Pair, Report, Scripts, Session, SimpleMessage, TextFault, TurnMark,
     report_text, session_text,

@@ -2,7 +2,7 @@
 
 ghost use Rattle.std.specs.Prelude.{◌≡◌, ◌^◌, ◌<◌, ◌≤◌, ℕ, List, OnOk};
 ghost use Rattle.pg_spec.specs.Links.{LinkView};
-ghost use Rattle.pg_wire.specs.LinkCalls.{SameBytes, Keeps};
+ghost use Rattle.pg_wire.specs.LinkCalls.{SameBytes, SameWriting, Keeps};
 ghost use Rattle.pg_connect.specs.Calm.{StaysCalm};
 ghost use Rattle.pg_connect.specs.Startups.{Opening};
 ghost use Rattle.pg_connect.specs.StartupPolls.{SameStart};
@@ -35,6 +35,7 @@ fn poll_once<L: Link>(startup: &mut Startup, link: &mut L) -> Result<Option<bool
 pub(crate) fn wait_for<L: Link>(link: &mut L, before: u64, after: u64) -> Result<(), Error>
     ensures end { WaitEnds before after (L.view link.old) (L.view link.new) result }
     ensures bytes { SameBytes (L.view link.old) (L.view link.new) }
+    ensures writing { SameWriting (L.view link.old) (L.view link.new) }
     ensures keeps { Keeps (L.view link.old) (L.view link.new) }
     ensures calm { OnOk result (StaysCalm (L.view link.old) (L.view link.new)) }
 {
@@ -57,6 +58,7 @@ pub(crate) fn pause<L: Link>(
 ) -> Result<bool, Error>
     ensures end { PauseEnds moved before after waited (L.view link.old) (L.view link.new) result }
     ensures bytes { SameBytes (L.view link.old) (L.view link.new) }
+    ensures writing { SameWriting (L.view link.old) (L.view link.new) }
     ensures keeps { Keeps (L.view link.old) (L.view link.new) }
     ensures calm { OnOk result (StaysCalm (L.view link.old) (L.view link.new)) }
 {

@@ -1,15 +1,14 @@
 //! A session behind its startup: handles and the connection take turns on one hub.
 
-ghost use Rattle.std.specs.Prelude.{◌≡◌, ◌^◌, ◌<◌, ◌≤◌, ◌++◌, ◌∷◌, [], length, slice_get, Some, false, IfOk, IfErr, IfSome, OnOk};
+ghost use Rattle.std.specs.Prelude.{◌≡◌, ◌^◌, ◌<◌, ◌≤◌, ◌++◌, ◌∷◌, [], length, slice_get, Some, false, IfOk, IfErr, OnOk};
 ghost use Rattle.pg_connect.specs.Calm.{StaysCalm};
 ghost use Rattle.pg_session.specs.Failures.{HasFailed, TurnFails};
-ghost use Rattle.pg_session.specs.Measure.{IsNearer};
 ghost use Rattle.pg_session.specs.Sessions.{IsNewSession, Plays};
 ghost use Rattle.pg_session.specs.States.{commands_in};
 ghost use Rattle.pg_session.specs.Turns.{Closes, ClosesBehind, Turns, left_behind, moved_by};
 ghost use Rattle.pg_text.specs.Scripts.{AreScripts};
 ghost use Rattle.pg_wire.specs.LinkCalls.{Continues};
-ghost use Rattle.pg_tool.specs.Plays.{ConnectionPolled, HandlePolled, IsGoing, IsLater, IsLimited, IsReady, RoundFails, RoundMade, RoundsEnd, state_of};
+ghost use Rattle.pg_tool.specs.Plays.{ConnectionPolled, Crosses, HandlePolled, IsGoing, IsLater, IsLimited, IsReady, Leaves, RoundFails, RoundMade, RoundsEnd, state_of};
 
 use crate::handle::{Handle, new_handles, turn_at};
 use crate::opening::pause;
@@ -93,9 +92,7 @@ impl Play {
         ensures fails { IfErr result (HasFailed scripts.now (state_of self.old) (L.view link.old) (L.view link.new)) }
         ensures limited { OnOk result (IsLimited self.old self.new) }
         ensures plays { OnOk result (Plays scripts.now turns.now (state_of self.old) (L.view link.old) (state_of self.new) (L.view link.new)) }
-        ensures link { Continues (L.view link.old) (L.view link.new) }
-        ensures error { IfErr result IsLater }
-        ensures calm { OnOk result (StaysCalm (L.view link.old) (L.view link.new)) }
+        ensures crosses { Crosses (L.view link.old) (L.view link.new) result }
     {
         'turns: for turn in turns {
             match self.turn(alloc, link, scripts, *turn) {
@@ -121,9 +118,7 @@ impl Play {
         ensures fails { IfErr result (HasFailed scripts.now (state_of self.old) (L.view link.old) (L.view link.new)) }
         ensures limited { OnOk result (IsLimited self.old self.new) }
         ensures ends { OnOk result (RoundsEnd scripts.now (state_of self.old) (L.view link.old) (state_of self.new) (L.view link.new)) }
-        ensures link { Continues (L.view link.old) (L.view link.new) }
-        ensures error { IfErr result IsLater }
-        ensures calm { OnOk result (StaysCalm (L.view link.old) (L.view link.new)) }
+        ensures crosses { Crosses (L.view link.old) (L.view link.new) result }
     {
         let mut waited = false;
         'rounds: loop {
@@ -152,14 +147,10 @@ impl Play {
         requires ready { IsReady scripts.now self.old }
         requires going { IsGoing self.old }
         ensures ready { IsReady scripts.now self.new }
-        ensures going { IfOk result (λ moved. IfSome moved (λ m. IsGoing self.new)) }
-        ensures nearer { IfOk result (λ moved. IfSome moved (λ m. IsNearer scripts.now m (state_of self.old) (state_of self.new))) }
-        ensures limited { IfOk result (λ moved. IsLimited self.old self.new) }
+        ensures leaves { IfOk result (Leaves scripts.now self.old self.new) }
         ensures fails { IfErr result (RoundFails scripts.now (state_of self.old) (L.view link.old) (L.view link.new)) }
         ensures made { IfOk result (RoundMade scripts.now (state_of self.old) (L.view link.old) (state_of self.new) (L.view link.new)) }
-        ensures link { Continues (L.view link.old) (L.view link.new) }
-        ensures error { IfErr result IsLater }
-        ensures calm { StaysCalm (L.view link.old) (L.view link.new) }
+        ensures crosses { Crosses (L.view link.old) (L.view link.new) result }
     {
         let mut moved = false;
         let connection = scripts.as_slice().len() as u32;
@@ -185,14 +176,10 @@ impl Play {
         requires ready { IsReady scripts.now self.old }
         requires going { IsGoing self.old }
         ensures ready { IsReady scripts.now self.new }
-        ensures going { IfOk result (λ moved. IfSome moved (λ m. IsGoing self.new)) }
-        ensures nearer { IfOk result (λ moved. IfSome moved (λ m. IsNearer scripts.now m (state_of self.old) (state_of self.new))) }
-        ensures limited { IfOk result (λ moved. IsLimited self.old self.new) }
+        ensures leaves { IfOk result (Leaves scripts.now self.old self.new) }
         ensures fails { IfErr result (TurnFails (state_of self.old) (L.view link.old) (L.view link.new)) }
         ensures made { IfOk result (Turns scripts.now turn (state_of self.old) (state_of self.new) (L.view link.old) (L.view link.new)) }
-        ensures link { Continues (L.view link.old) (L.view link.new) }
-        ensures error { IfErr result IsLater }
-        ensures calm { StaysCalm (L.view link.old) (L.view link.new) }
+        ensures crosses { Crosses (L.view link.old) (L.view link.new) result }
     {
         if (turn as usize) < scripts.as_slice().len() {
             return self.handle_turn(alloc, scripts, turn);

@@ -43,6 +43,8 @@ pub fn run<S: Source, K: Sink, L: Link>(
       source_after = S.state source.new;
       sink_before = K.state sink.old;
       sink_after = K.state sink.new;
+      link_before = L.view link.old;
+      link_after = L.view link.new;
       status = result.status;
       result = option_map result_of result.result;
     }) }

@@ -1,15 +1,11 @@
 //! A session: the startup, the turns, and the report.
 
-ghost use Rattle.std.specs.Prelude.{◌≡◌, ◌<◌, ◌^◌, ℕ, List, Err, IfErr, IfOk, OnOk};
-ghost use Rattle.pg_spec.specs.Causes.{IsNotBuilt, HasCause};
+ghost use Rattle.std.specs.Prelude.{◌<◌, ◌^◌, ℕ, List, IfErr, IfOk, OnOk};
 ghost use Rattle.pg_spec.specs.ConnectionStrings.{Means, only_user};
-ghost use Rattle.pg_spec.specs.Promises.{MustEndWell, NoneKeptBack};
 ghost use Rattle.pg_connect.specs.Calm.{StaysCalm};
-ghost use Rattle.pg_errors.specs.Views.{failure_of};
 ghost use Rattle.pg_session.specs.Sessions.{HasPlayed};
 ghost use Rattle.pg_wire.specs.LinkCalls.{Continues};
-ghost use Rattle.pg_text.specs.Views.{report_of};
-ghost use Rattle.pg_tool.specs.SessionContract.{IsEndedWell, IsRun, KeepsLimit, SendsInOrder, result_of};
+ghost use Rattle.pg_tool.specs.SessionContract.{SessionContract, result_of};
 ghost use Rattle.pg_tool.specs.Fails.{PlaysWithin, SessionFails};
 ghost use Rattle.pg_tool.specs.Asked.{call_of, ConfigIsNotBuilt};
 
@@ -41,26 +37,10 @@ pub fn run_session<L: Link>(
     link: &mut L,
 ) -> Result<Report, Error>
     requires { max_bytes < 2 ^ 63 }
-    ensures ended_well { IfOk result (λ report. IsEndedWell
-        (call_of config.now nonce.now scripts.now turns.now max_bytes (L.view link.old) (L.view link.new)) (report_of report)) }
-    ensures has_run { IfOk result (λ report. IsRun
-        (call_of config.now nonce.now scripts.now turns.now max_bytes (L.view link.old) (L.view link.new)) (report_of report)) }
+    ensures session { SessionContract
+        (call_of config.now nonce.now scripts.now turns.now max_bytes (L.view link.old) (L.view link.new)) (result_of result) }
     ensures played { IfOk result (λ report. (user : List ℕ) × Means config.now (only_user user)
         × HasPlayed user nonce.now scripts.now turns.now (L.view link.old) (L.view link.new) report) }
-    ensures link { Continues (L.view link.old) (L.view link.new) }
-    ensures cause { IfErr result (λ e. HasCause
-        (call_of config.now nonce.now scripts.now turns.now max_bytes (L.view link.old) (L.view link.new)) (failure_of e)) }
-    ensures limit { KeepsLimit
-        (call_of config.now nonce.now scripts.now turns.now max_bytes (L.view link.old) (L.view link.new)) (result_of result) }
-    ensures sent { SendsInOrder
-        (call_of config.now nonce.now scripts.now turns.now max_bytes (L.view link.old) (L.view link.new)) (result_of result) }
-    ensures none_kept_back { NoneKeptBack
-        (call_of config.now nonce.now scripts.now turns.now max_bytes (L.view link.old) (L.view link.new)) (result_of result) }
-    ensures must_end_well { MustEndWell
-        (call_of config.now nonce.now scripts.now turns.now max_bytes (L.view link.old) (L.view link.new)) (result_of result) }
-    ensures refused { IsNotBuilt (call_of config.now nonce.now scripts.now turns.now max_bytes (L.view link.old) (L.view link.new)) →
-        (result ≡ Err (Error.Config Cause.NotBuilt)) × (L.view link.new ≡ L.view link.old) }
-    ensures config { IfErr result ConfigIsNotBuilt }
 {
     let Some(user) = user_of(config) else {
         return Err(Error::Config(Cause::NotBuilt));

@@ -21,8 +21,8 @@ returns-in-Err-pause-clause-answer g c name nonce begin at =
     let w = rw c.in-Ok-Some.field-0-is at c.in-Ok-Some.ensures.waits in
     let end = c.in-Err-pause.ensures.end in
     open_stops name nonce begin (g.L.Link.view c.polls.link) (g.L.Link.view c.poll_once.new.link) (g.L.Link.view c.pause.new.link) c.poll_once.new.startup
-    c.polls.waited c.in-Err-pause.error (keeps_then begin (g.L.Link.view c.args.link.now) (g.L.Link.view c.polls.link) at.link c.polls.invariant.link) o w.within w.goes_on (sym w.says ∙ end.0) c.polls.invariant.promised
-    c.in-Err-pause.ensures.bytes c.in-Err-pause.ensures.keeps (counted_so c.quiet-before.result (g.L.Link.view c.polls.link).quiet c.quiet-after.result (g.L.Link.view c.poll_once.new.link).quiet c.polls.waited
+    c.polls.waited c.in-Err-pause.error (keeps_then begin (g.L.Link.view c.args.link.now) (g.L.Link.view c.polls.link) at.link c.polls.invariant.link) o w.within w.goes_on w.misses (sym w.says ∙ end.0) c.polls.invariant.promised
+    c.in-Err-pause.ensures.bytes c.in-Err-pause.ensures.writing c.in-Err-pause.ensures.keeps (counted_so c.quiet-before.result (g.L.Link.view c.polls.link).quiet c.quiet-after.result (g.L.Link.view c.poll_once.new.link).quiet c.polls.waited
     (g.L.Link.view c.poll_once.new.link) (g.L.Link.view c.pause.new.link) c.in-Err-pause.error c.quiet-before.ensures c.quiet-after.ensures end.1)
 
 pub polls-preserved : goal.polls-preserved
@@ -37,7 +37,7 @@ polls-preserved g c =
       within = w.within;
       opening = λ name nonce begin at.
           let o = rw c.in-Ok-Some.field-0-is at (c.in-Ok-Some.ensures.answer name nonce begin (was.opening name nonce begin at)) in
-          opening_waits name nonce begin a b c.poll_once.new.startup o c.in-Ok.ensures.bytes c.in-Ok.ensures.keeps;
+          opening_waits name nonce begin a b c.poll_once.new.startup o c.in-Ok.ensures.bytes c.in-Ok.ensures.writing c.in-Ok.ensures.keeps;
       link = keeps_then (g.L.Link.view c.args.link.now) a b keeps c.in-Ok.ensures.keeps;
       promised = λ next. (c.in-Ok.ensures.end.1 next).1;
       calm = calm_then (g.L.Link.view c.args.link.now) a b (calm_then (g.L.Link.view c.args.link.now) (g.L.Link.view c.polls.link) a was.calm c.poll_once.ensures.calm) c.in-Ok.ensures.calm;

@@ -1,7 +1,7 @@
 use Rattle.std.proofs.Common.{Ok, Err, [], inl, inr, refl, ◌∙◌}
-use Rattle.pg_tool.specs.Asked.{call_of}
 use Rattle.pg_tool.proofs.Waiting.{open_config, open_continues, opened_continues}
 use Rattle.pg_tool.proofs.Calming.{calm_on}
+use Rattle.pg_tool.proofs.Crossing.{later_config}
 use Rattle.pg_tool.proofs.Played.{breaks_later, has_played, lacks_behind}
 use Rattle.pg_tool.proofs.session.play_as.Goals as goal
 
@@ -33,13 +33,13 @@ pub returns-in-Err-run-clause-link : goal.returns-in-Err-run-clause-link
 returns-in-Err-run-clause-link g c =
     let begin = g.L.Link.view c.args.link.now in
     opened_continues c.args.user.now [] begin (g.L.Link.view c.open.new.link) (g.L.Link.view c.run.new.link) c.open.new.startup
-    (c.in-Ok-open.ensures.answer c.args.user.now [] begin (c.in-Ok.ensures.fresh [] begin)) c.in-Err-run.ensures.link
+    (c.in-Ok-open.ensures.answer c.args.user.now [] begin (c.in-Ok.ensures.fresh [] begin)) c.in-Err-run.ensures.crosses.link
 
 pub returns-clause-link : goal.returns-clause-link
 returns-clause-link g c =
     let begin = g.L.Link.view c.args.link.now in
     opened_continues c.args.user.now [] begin (g.L.Link.view c.open.new.link) (g.L.Link.view c.run.new.link) c.open.new.startup
-    (c.in-Ok-open.ensures.answer c.args.user.now [] begin (c.in-Ok.ensures.fresh [] begin)) c.in-Ok-run.ensures.link
+    (c.in-Ok-open.ensures.answer c.args.user.now [] begin (c.in-Ok.ensures.fresh [] begin)) c.in-Ok-run.ensures.crosses.link
 
 pub returns-clause-played : goal.returns-clause-played
 returns-clause-played g c nonce =
@@ -86,4 +86,7 @@ returns-clause-fails g c nonce =
 
 pub returns-clause-calm : goal.returns-clause-calm
 returns-clause-calm g c =
-    calm_on c.into_report.result (g.L.Link.view c.args.link.now) (g.L.Link.view c.open.new.link) (g.L.Link.view c.run.new.link) c.in-Ok-open.ensures.calm c.in-Ok-run.ensures.calm
+    calm_on c.into_report.result (g.L.Link.view c.args.link.now) (g.L.Link.view c.open.new.link) (g.L.Link.view c.run.new.link) c.in-Ok-open.ensures.calm c.in-Ok-run.ensures.crosses.calm
+
+pub returns-in-Err-run-clause-config : goal.returns-in-Err-run-clause-config
+returns-in-Err-run-clause-config g c = later_config c.in-Err-run.error c.in-Err-run.ensures.crosses.error

@@ -1,4 +1,4 @@
-use Rattle.std.proofs.Common.{Bool, Option, Some, Result, Ok, Err, IfErr, IfOk, refl, subst, sym, inl, inr}
+use Rattle.std.proofs.Common.{Bool, Option, Some, Result, Ok, IfErr, IfOk, refl, subst, sym, inl, inr}
 use Rattle.pg_errors.specs.declared.error.Error.{Error}
 use Rattle.futures.specs.declared.task.Poll.TheVariants.{Ready}
 use Rattle.pg_hub.specs.Fits.{HubBecomes}
@@ -43,6 +43,7 @@ returns-after-push-clause-polled g c =
       | in-Ok v ↦ subst (λ (r : Result (Option Bool) Error). IfOk r (ConnectionPolled (state_of p) (state_of q) a b)) (sym v.result-is) (record {
         answer = Ready (Some (Ok w.message));
         polled = rw w.field-0-0-is at (rw w.field-0-is at w.ensures.answer);
+        misses = c.poll_message.ensures.quiet;
         hands = (v.in-Ok.ensures.items, refl);
         says = refl;
         kept = rw w.field-0-0-is at (rw w.field-0-is at w.ensures.limit_kept);
@@ -68,6 +69,7 @@ returns-after-push-clause-fails g c =
           streams = c.poll_message.new.self;
           answer = Ready (Some (Ok w.message));
           polled = rw w.field-0-0-is at (rw w.field-0-is at w.ensures.answer);
+          misses = c.poll_message.ensures.quiet;
           fine = tt;
         });
       }))

@@ -22,16 +22,6 @@ returns-in-Ok-None-clause-made g c =
       },
     )
 
-pub returns-in-Ok-None-clause-link : goal.returns-in-Ok-None-clause-link
-returns-in-Ok-None-clause-link g c =
-    continues_then (g.L.Link.view c.args.link.now) (g.L.Link.view c.turns.link) (g.L.Link.view c.turn.new.link) c.turns.invariant.link c.turn.ensures.link
-
-pub returns-in-Ok-None-clause-limited : goal.returns-in-Ok-None-clause-limited
-returns-in-Ok-None-clause-limited g c = (c.in-Ok-None.ensures.limited.0, c.in-Ok-None.ensures.limited.1 ∙ c.turns.invariant.limited)
-
-pub returns-clause-limited : goal.returns-clause-limited
-returns-clause-limited g c = (c.turns.invariant.going.within, c.turns.invariant.limited)
-
 pub turns-init : goal.turns-init
 turns-init g c =
     let l = g.L.Link.view c.args.link.now in
@@ -57,15 +47,16 @@ turns-preserved g c =
     let m = g.L.Link.view c.turn.new.link in
     let was = c.turns.invariant in
     let now = rw c.in-Ok-Some.field-0-is at c.in-Ok-Some.ensures.made in
+    let leaves = rw c.in-Ok-Some.field-0-is at c.in-Ok-Some.ensures.leaves in
     record {
       ready = c.turn.ensures.ready;
       made = round_more scripts c.turns.turn s l mid k t m was.made now.0;
       stays = stays_more scripts c.turns.turn c.turns.moved c.in-Ok-Some.more s l mid k t m was.stays now;
-      going = rw c.in-Ok-Some.field-0-is at c.in-Ok-Some.ensures.going;
-      limited = c.in-Ok-Some.ensures.limited.1 ∙ was.limited;
-      nearer = nearer-joined scripts c.turns.moved c.in-Ok-Some.more s mid t was.nearer (rw c.in-Ok-Some.field-0-is at c.in-Ok-Some.ensures.nearer);
-      link = continues_then l k m was.link c.turn.ensures.link;
-      calm = calm_then l k m was.calm c.turn.ensures.calm;
+      going = leaves.going;
+      limited = leaves.limited.1 ∙ was.limited;
+      nearer = nearer-joined scripts c.turns.moved c.in-Ok-Some.more s mid t was.nearer leaves.nearer;
+      link = continues_then l k m was.link c.turn.ensures.crosses.link;
+      calm = calm_then l k m was.calm c.in-Ok-Some.ensures.crosses.calm;
     }
 
 pub returns-in-Err-clause-fails : goal.returns-in-Err-clause-fails
@@ -73,14 +64,37 @@ returns-in-Err-clause-fails g c =
     round_fails c.args.scripts.now (numbers c.turns.turn) (state_of c.args.self.now) (g.L.Link.view c.args.link.now) (state_of c.turns.self) (g.L.Link.view c.turns.link)
     (g.L.Link.view c.turn.new.link) c.in-Err.error c.turns.invariant.made c.in-Err.ensures.fails
 
-pub returns-in-Err-clause-link : goal.returns-in-Err-clause-link
-returns-in-Err-clause-link g c =
-    continues_then (g.L.Link.view c.args.link.now) (g.L.Link.view c.turns.link) (g.L.Link.view c.turn.new.link) c.turns.invariant.link c.turn.ensures.link
+pub returns-in-Ok-None-clause-leaves : goal.returns-in-Ok-None-clause-leaves
+returns-in-Ok-None-clause-leaves g c = record {
+  limited = (c.in-Ok-None.ensures.leaves.limited.0, c.in-Ok-None.ensures.leaves.limited.1 ∙ c.turns.invariant.limited);
+  going = tt;
+  nearer = tt;
+}
 
-pub returns-in-Ok-None-clause-calm : goal.returns-in-Ok-None-clause-calm
-returns-in-Ok-None-clause-calm g c =
-    calm_then (g.L.Link.view c.args.link.now) (g.L.Link.view c.turns.link) (g.L.Link.view c.turn.new.link) c.turns.invariant.calm c.turn.ensures.calm
+pub returns-clause-leaves : goal.returns-clause-leaves
+returns-clause-leaves g c = record {
+  limited = (c.turns.invariant.going.within, c.turns.invariant.limited);
+  going = c.turns.invariant.going;
+  nearer = c.turns.invariant.nearer;
+}
 
-pub returns-in-Err-clause-calm : goal.returns-in-Err-clause-calm
-returns-in-Err-clause-calm g c =
-    calm_then (g.L.Link.view c.args.link.now) (g.L.Link.view c.turns.link) (g.L.Link.view c.turn.new.link) c.turns.invariant.calm c.turn.ensures.calm
+pub returns-in-Ok-None-clause-crosses : goal.returns-in-Ok-None-clause-crosses
+returns-in-Ok-None-clause-crosses g c =
+    let l = g.L.Link.view c.args.link.now in
+    let k = g.L.Link.view c.turns.link in
+    let m = g.L.Link.view c.turn.new.link in
+    record {
+      link = continues_then l k m c.turns.invariant.link c.turn.ensures.crosses.link;
+      error = tt;
+      calm = calm_then l k m c.turns.invariant.calm c.in-Ok-None.ensures.crosses.calm;
+    }
+
+pub returns-in-Err-clause-crosses : goal.returns-in-Err-clause-crosses
+returns-in-Err-clause-crosses g c = record {
+  link = continues_then (g.L.Link.view c.args.link.now) (g.L.Link.view c.turns.link) (g.L.Link.view c.turn.new.link) c.turns.invariant.link c.turn.ensures.crosses.link;
+  error = c.in-Err.ensures.crosses.error;
+  calm = tt;
+}
+
+pub returns-clause-crosses : goal.returns-clause-crosses
+returns-clause-crosses g c = record { link = c.turns.invariant.link; error = tt; calm = c.turns.invariant.calm }

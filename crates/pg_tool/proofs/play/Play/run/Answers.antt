@@ -14,21 +14,17 @@ returns-in-Ok-None-clause-plays g c =
     plays_given c.args.scripts.now c.args.turns.now c.turns.turn-index _ 0 (state_of c.args.self.now) (g.L.Link.view c.args.link.now) (state_of c.turns.self) (g.L.Link.view c.turns.link)
     (state_of c.turn.new.self) (g.L.Link.view c.turn.new.link) within refl c.turns.invariant.made (rw c.in-Ok-None.field-0-is at c.in-Ok-None.ensures.made)
 
-pub returns-in-Ok-None-clause-link : goal.returns-in-Ok-None-clause-link
-returns-in-Ok-None-clause-link g c =
-    continues_then (g.L.Link.view c.args.link.now) (g.L.Link.view c.turns.link) (g.L.Link.view c.turn.new.link) c.turns.invariant.link c.turn.ensures.link
-
 pub turns-preserved : goal.turns-preserved
 turns-preserved g c =
     let within : c.turns.turn-index < length c.args.turns.now = omega arith in
     record {
       ready = c.turn.ensures.ready;
-      going = rw c.in-Ok-Some.field-0-is at c.in-Ok-Some.ensures.going;
-      limited = c.in-Ok-Some.ensures.limited.1 ∙ c.turns.invariant.limited;
+      going = (rw c.in-Ok-Some.field-0-is at c.in-Ok-Some.ensures.leaves).going;
+      limited = c.in-Ok-Some.ensures.leaves.limited.1 ∙ c.turns.invariant.limited;
       made = given_more c.args.scripts.now c.args.turns.now c.turns.turn-index _ 0 (state_of c.args.self.now) (g.L.Link.view c.args.link.now) (state_of c.turns.self) (g.L.Link.view c.turns.link)
           (state_of c.turn.new.self) (g.L.Link.view c.turn.new.link) within refl c.turns.invariant.made (rw c.in-Ok-Some.field-0-is at c.in-Ok-Some.ensures.made).0;
-      link = continues_then (g.L.Link.view c.args.link.now) (g.L.Link.view c.turns.link) (g.L.Link.view c.turn.new.link) c.turns.invariant.link c.turn.ensures.link;
-      calm = calm_then (g.L.Link.view c.args.link.now) (g.L.Link.view c.turns.link) (g.L.Link.view c.turn.new.link) c.turns.invariant.calm c.turn.ensures.calm;
+      link = continues_then (g.L.Link.view c.args.link.now) (g.L.Link.view c.turns.link) (g.L.Link.view c.turn.new.link) c.turns.invariant.link c.turn.ensures.crosses.link;
+      calm = calm_then (g.L.Link.view c.args.link.now) (g.L.Link.view c.turns.link) (g.L.Link.view c.turn.new.link) c.turns.invariant.calm c.in-Ok-Some.ensures.crosses.calm;
     }
 
 pub returns-clause-plays : goal.returns-clause-plays
@@ -36,10 +32,6 @@ returns-clause-plays g c =
     let all : length c.args.turns.now ≤ c.turns.turn-index = omega arith in
     plays_after c.args.scripts.now c.args.turns.now c.turns.turn-index (state_of c.args.self.now) (g.L.Link.view c.args.link.now) (state_of c.turns.self) (g.L.Link.view c.turns.link)
     (state_of c.rounds.new.self) (g.L.Link.view c.rounds.new.link) c.rounds.result all c.turns.invariant.made c.rounds.ensures.ends
-
-pub returns-clause-link : goal.returns-clause-link
-returns-clause-link g c =
-    continues_then (g.L.Link.view c.args.link.now) (g.L.Link.view c.turns.link) (g.L.Link.view c.rounds.new.link) c.turns.invariant.link c.rounds.ensures.link
 
 pub returns-in-Err-clause-fails : goal.returns-in-Err-clause-fails
 returns-in-Err-clause-fails g c =
@@ -52,19 +44,36 @@ returns-clause-fails g c =
     (g.L.Link.view c.rounds.new.link) c.rounds.result c.turns.invariant.made c.rounds.ensures.fails
 
 pub returns-in-Ok-None-clause-limited : goal.returns-in-Ok-None-clause-limited
-returns-in-Ok-None-clause-limited g c = (c.in-Ok-None.ensures.limited.0, c.in-Ok-None.ensures.limited.1 ∙ c.turns.invariant.limited)
+returns-in-Ok-None-clause-limited g c = (c.in-Ok-None.ensures.leaves.limited.0, c.in-Ok-None.ensures.leaves.limited.1 ∙ c.turns.invariant.limited)
 
 pub returns-clause-limited : goal.returns-clause-limited
 returns-clause-limited g c = limited_then c.args.self.now c.turns.self c.rounds.new.self c.rounds.result c.turns.invariant.limited c.rounds.ensures.limited
 
-pub returns-in-Err-clause-link : goal.returns-in-Err-clause-link
-returns-in-Err-clause-link g c =
-    continues_then (g.L.Link.view c.args.link.now) (g.L.Link.view c.turns.link) (g.L.Link.view c.turn.new.link) c.turns.invariant.link c.turn.ensures.link
+pub returns-in-Ok-None-clause-crosses : goal.returns-in-Ok-None-clause-crosses
+returns-in-Ok-None-clause-crosses g c =
+    let l = g.L.Link.view c.args.link.now in
+    let k = g.L.Link.view c.turns.link in
+    let m = g.L.Link.view c.turn.new.link in
+    record {
+      link = continues_then l k m c.turns.invariant.link c.turn.ensures.crosses.link;
+      error = tt;
+      calm = calm_then l k m c.turns.invariant.calm c.in-Ok-None.ensures.crosses.calm;
+    }
 
-pub returns-in-Ok-None-clause-calm : goal.returns-in-Ok-None-clause-calm
-returns-in-Ok-None-clause-calm g c =
-    calm_then (g.L.Link.view c.args.link.now) (g.L.Link.view c.turns.link) (g.L.Link.view c.turn.new.link) c.turns.invariant.calm c.turn.ensures.calm
+pub returns-in-Err-clause-crosses : goal.returns-in-Err-clause-crosses
+returns-in-Err-clause-crosses g c = record {
+  link = continues_then (g.L.Link.view c.args.link.now) (g.L.Link.view c.turns.link) (g.L.Link.view c.turn.new.link) c.turns.invariant.link c.turn.ensures.crosses.link;
+  error = c.in-Err.ensures.crosses.error;
+  calm = tt;
+}
 
-pub returns-clause-calm : goal.returns-clause-calm
-returns-clause-calm g c =
-    calm_map c.rounds.result (g.L.Link.view c.args.link.now) (g.L.Link.view c.turns.link) (g.L.Link.view c.rounds.new.link) c.turns.invariant.calm c.rounds.ensures.calm
+pub returns-clause-crosses : goal.returns-clause-crosses
+returns-clause-crosses g c =
+    let l = g.L.Link.view c.args.link.now in
+    let k = g.L.Link.view c.turns.link in
+    let m = g.L.Link.view c.rounds.new.link in
+    record {
+      link = continues_then l k m c.turns.invariant.link c.rounds.ensures.crosses.link;
+      error = c.rounds.ensures.crosses.error;
+      calm = calm_map c.rounds.result l k m c.turns.invariant.calm c.rounds.ensures.crosses.calm;
+    }
