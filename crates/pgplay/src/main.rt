@@ -1,7 +1,7 @@
 //! Plays session texts.
 #![tactic(auto)]
 
-use pg_tool::{Outcome, run};
+use pg_tool::run;
 use pg_wire::{MemoryLink, ReadSource, WriteSink};
 use std::process::ExitCode;
 use std::{env, io};
@@ -19,10 +19,15 @@ fn words(rt: &HostRuntime) -> io::Result<Vec<String>> {
 }
 
 fn main(rt: HostRuntime) -> ExitCode {
-    let Ok(words) = words(&rt) else {
-        return ExitCode::from(OUT_OF_MEMORY);
-    };
     let alloc = rt.alloc();
+    let words = match words(&rt) {
+        Ok(words) => words,
+        Err(error) if matches!(error.kind(), io::ErrorKind::OutOfMemory) => {
+            return ExitCode::from(OUT_OF_MEMORY);
+        }
+        // A word isn't UTF-8, so it isn't one that is known: without words the usage line is due.
+        Err(_) => Vec::new(alloc),
+    };
     let mut source = ReadSource::new(rt.reader());
     let mut sink = WriteSink::new(io::writer(&rt));
     let mut link = MemoryLink::new(alloc, Vec::new(alloc), 1, 1, false);
