@@ -9,7 +9,6 @@ use pg_connect::{Connection, Parameters, Startup, Streams};
 use pg_errors::{AsyncMessage, DbError};
 use pg_hub::{Desk, Hub, Stamp, Take};
 use pg_query::{Polled, SimpleMessage};
-use pg_types::List;
 use pg_wire::MemoryLink;
 use std::alloc::{AllocError, Global};
 use std::test::Fail;
@@ -84,6 +83,9 @@ fn a_startup_sends_its_frame(rt: HostRuntime) -> Result<(), Fail> {
 fn connected(alloc: Global, entries: &[&[u8]]) -> Result<Connection<MemoryLink>, Fail> {
     let mut link = link_of(alloc, entries)?;
     let (_, streams) = started(alloc, &mut link)?;
+    if !is_within(&streams) {
+        return Err(Fail::from("past the limit"));
+    }
     Ok(Connection { link, streams })
 }
 
@@ -95,17 +97,26 @@ fn is_within(streams: &Streams) -> bool
     streams.max_bytes <= LIMIT && streams.given <= streams.max_bytes
 }
 
+/// The notice that the first poll of a connection hands out.
+fn poll_notice(
+    alloc: Global,
+    connection: &mut Connection<MemoryLink>,
+    hub: &mut Hub,
+) -> Result<DbError, Fail> {
+    if !is_within(&connection.streams) {
+        return Err(Fail::from("past the limit"));
+    }
+    match connection.poll_message(alloc, hub) {
+        Poll::Ready(Some(Ok(AsyncMessage::Notice(notice)))) => Ok(notice),
+        _ => Err(Fail::from("no notice")),
+    }
+}
+
 /// What a connection hands out first, where it is a notice.
 fn first_notice(alloc: Global, entries: &[&[u8]]) -> Result<DbError, Fail> {
     let mut connection = connected(alloc, entries)?;
     let mut hub = Hub::new(alloc, 0, 0);
-    if !is_within(&connection.streams) {
-        return Err(Fail::from("past the limit"));
-    }
-    match connection.poll_message(alloc, &mut hub) {
-        Poll::Ready(Some(Ok(AsyncMessage::Notice(notice)))) => Ok(notice),
-        _ => Err(Fail::from("no notice")),
-    }
+    poll_notice(alloc, &mut connection, &mut hub)
 }
 
 #[test]
@@ -142,25 +153,39 @@ fn pass(
     }
 }
 
-/// The answer to the empty query over a link that answers it.
-fn answered(alloc: Global) -> Result<List<SimpleMessage>, Fail> {
+/// A query waits, its frame goes out, its reply comes in, and it answers one part, of no rows.
+fn exchange(
+    alloc: Global,
+    streams: &mut Streams,
+    link: &mut MemoryLink,
+    hub: &mut Hub,
+    state: &mut SimpleQueryState,
+) -> Result<bool, Fail>
+    requires { IsLiveQuery state.old }
+{
+    pass(alloc, streams, link, hub)?;
+    pass(alloc, streams, link, hub)?;
+    match state.poll(alloc, hub, STAMP) {
+        Poll::Ready(Ok(parts)) => {
+            let complete = matches!(parts.as_slice(), [SimpleMessage::Complete(0)]);
+            Ok(complete)
+        }
+        _ => Ok(false),
+    }
+}
+
+/// The empty query over a link that answers it.
+fn is_answered(alloc: Global) -> Result<bool, Fail> {
     let mut link = link_of(alloc, &[OK, EMPTY])?;
     let (_, mut streams) = started(alloc, &mut link)?;
     let mut hub = Hub::new(alloc, 0, 0);
     let mut state = booked(alloc, &mut hub)?;
-    pass(alloc, &mut streams, &mut link, &mut hub)?;
-    pass(alloc, &mut streams, &mut link, &mut hub)?;
-    match state.poll(alloc, &mut hub, STAMP) {
-        Poll::Ready(Ok(parts)) => Ok(parts),
-        _ => Err(Fail::from("no answer")),
-    }
+    exchange(alloc, &mut streams, &mut link, &mut hub, &mut state)
 }
 
 #[test]
 fn a_query_goes_out_and_is_answered(rt: HostRuntime) -> Result<(), Fail> {
-    let parts = answered(rt.alloc())?;
-    let complete = matches!(parts.as_slice(), [SimpleMessage::Complete(0)]);
-    assert!(rt; complete);
+    assert!(rt; is_answered(rt.alloc())?);
     Ok(())
 }
 

@@ -1,12 +1,16 @@
-//! Whole sessions as tests: each text is played by the program's own call over memory. And the calls below
-//! it that take memory, as far as their own crates don't test them.
+//! What no line of a case can say: calls in an order, polls, a link by hand, and a source and a sink that
+//! fail in mid-stream. Each test calls functions that own nothing, and so are quick to prove.
 #![tactic(auto)]
 
 #[cfg(test)]
 mod calls;
 #[cfg(test)]
+mod getters;
+#[cfg(test)]
+mod hub;
+#[cfg(test)]
 mod links;
 #[cfg(test)]
-mod sessions;
+mod streams;
 #[cfg(test)]
 mod tests;

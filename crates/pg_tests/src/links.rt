@@ -1,78 +1,72 @@
-//! Plays sessions over a link that is looked at afterwards.
+//! A link in memory by hand.
 
-use crate::sessions::{ROWS, Row};
-use crate::tests::text_of;
-use pg_errors::Error;
-use pg_tool::{Report, Session, run_session, session_text};
-use std::alloc::Global;
-use std::process::Abort;
+use pg_wire::{Link, LinkRead, MemoryLink};
+use std::alloc::{AllocError, Global};
 use std::test::Fail;
 
-/// The largest limit that a link may have.
-const MOST: u64 = 9_223_372_036_854_775_807;
+/// A startup frame of no setting, and a Query of the empty text.
+const STARTUP: [u8; 9] = [0, 0, 0, 9, 0, 3, 0, 0, 0];
 
-/// What the session of a text answers, and what its link took.
-fn played(alloc: Global, text: &str) -> Result<(Result<Report, Error>, Vec<u8>), Fail> {
-    let Ok(session) = session_text(alloc, text.as_bytes()) else {
-        return Err(Fail::from("refused"));
-    };
-    let Session {
-        config,
-        scripts,
-        turns,
-        nonce,
-        max_bytes,
-        mut link,
-    } = session;
-    if max_bytes > MOST {
-        return Err(Fail::from("no limit"));
+const QUERY: [u8; 6] = [b'Q', 0, 0, 0, 5, 0];
+
+/// Three entries, of which the second is empty.
+fn plan(alloc: Global) -> Result<Vec<Vec<u8>>, AllocError> {
+    let mut plan = Vec::new(alloc);
+    for entry in [b"abc".as_slice(), b"", b"d"] {
+        plan.push(Vec::from_slice(alloc, entry)?)?;
     }
-    let answer = run_session(
-        alloc,
-        config.as_str(),
-        &scripts,
-        turns.as_slice(),
-        nonce.as_slice(),
-        max_bytes,
-        &mut link,
-    );
-    let taken = Vec::from_slice(alloc, link.taken())?;
-    Ok((answer, taken))
+    Ok(plan)
 }
 
-/// Two queries, and a server that answers the startup alone.
-const UNANSWERED: &str =
-    "config \"user=a\"\nhandle\nsimple \"x\"\nhandle\nsimple \"y\"\nstep 5200000008000000005a0000000549\n";
+/// Reads once, through a reference.
+fn read<L: Link + Drop>(mut link: L, out: &mut String) -> Result<(), AllocError> {
+    let mut piece = [0; 4];
+    match link.read(&mut piece) {
+        LinkRead::Got(n) => write!(out, " {n}:{}", char::from(piece[0])),
+        other => write!(out, " {other:?}"),
+    }
+}
 
-/// The startup frame, and the frames of the two queries.
-const ASKED: &[u8] =
-    b"\0\0\0\x25\0\x03\0\0client_encoding\0UTF8\0user\0a\0\0Q\0\0\0\x06x\0Q\0\0\0\x06y\0";
-
-#[test]
-fn two_queries_without_replies_are_sent_and_stall(rt: HostRuntime) -> Result<(), Fail> {
-    let (answer, taken) = played(rt.alloc(), UNANSWERED)?;
-    let stalled = matches!(answer, Err(Error::Stalled { .. }));
-    assert!(rt; stalled && taken.as_slice() == ASKED);
+/// The startup frame, which is taken in two pieces, and reads up to the end of its entry.
+fn start(link: &mut MemoryLink, out: &mut String) -> Result<(), AllocError> {
+    read(&mut *link, out)?;
+    write!(out, " {:?}", link.wait())?;
+    write!(out, " {:?}", link.write(&STARTUP))?;
+    write!(out, " {:?}", link.wait())?;
+    write!(out, " {:?}", link.write(&STARTUP[7..]))?;
+    write!(out, " {:?}", link.wait())?;
+    for _ in 0..3 {
+        read(&mut *link, out)?;
+    }
     Ok(())
 }
 
-/// Plays a row that ends well, and compares what it reports as sent with what the link took.
-fn check_sent(rt: &impl Abort, alloc: Global, row: &Row) -> Result<(), Fail> {
-    let name = row.name;
-    let text = text_of(alloc, row)?;
-    let (answer, taken) = played(alloc, text.as_str())?;
-    let same = match answer {
-        Ok(report) => report.sent.as_slice() == taken.as_slice(),
-        Err(_) => row.status == 1,
-    };
-    assert!(rt; same, "{name}");
-    Ok(())
+/// Two queries, of which the first is answered by nothing.
+fn ask(link: &mut MemoryLink, out: &mut String) -> Result<(), AllocError> {
+    for _ in 0..2 {
+        write!(out, " {:?}", link.write(&QUERY))?;
+    }
+    read(&mut *link, out)?;
+    read(&mut *link, out)
 }
 
+fn end(link: &mut MemoryLink, out: &mut String) -> Result<(), AllocError> {
+    write!(out, " {:?}", link.flush())?;
+    write!(out, " {:?}", link.shutdown())?;
+    write!(out, " {} {}", link.quiet(), link.taken().len())
+}
+
+/// Two bytes are given at a read and seven taken at a write. What isn't ready is counted.
+const CALLS: &str =
+    " NotReady Idle Took(7) Idle Took(2) Ready 2:a 1:c NotReady Took(6) Took(6) 1:d End Done Done 4 21";
+
 #[test]
-fn a_report_says_what_the_link_took(rt: HostRuntime) -> Result<(), Fail> {
-    for row in &ROWS {
-        check_sent(&rt, rt.alloc(), row)?;
-    }
+fn a_plan_is_given_turn_by_turn(rt: HostRuntime) -> Result<(), Fail> {
+    let mut link = MemoryLink::new(rt.alloc(), plan(rt.alloc())?, 2, 7, true);
+    let mut out = String::new(rt.alloc());
+    start(&mut link, &mut out)?;
+    ask(&mut link, &mut out)?;
+    end(&mut link, &mut out)?;
+    assert!(rt; out.as_str() == CALLS, "{out}");
     Ok(())
 }
