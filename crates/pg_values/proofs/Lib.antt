@@ -1,0 +1,10 @@
+pub mod KindCases
+pub mod ByteLaws
+pub mod ReadLaws
+pub mod NumberLaws
+pub mod DigitLaws
+pub mod ArrayValues
+pub mod SingleValue
+pub mod ItemLaws
+pub mod PartLaws
+pub mod ArrayLaws

@@ -1,0 +1,27 @@
+//! Lists that grow.
+
+ghost use Rattle.std.specs.Prelude.{◌≡◌, ◌++◌, ◌∷◌, [], MatchResult};
+ghost use Rattle.pg_types.specs.declared.fault.ValueFault.TheVariants as fault;
+
+use pg_types::{List, ValueFault};
+use std::alloc::Global;
+
+/// Adds an item behind the others.
+pub(crate) fn push<T: Drop>(items: &mut List<T>, item: T) -> Result<(), ValueFault>
+    ensures { MatchResult result (λ _. items.new ≡ items.old ++ item ∷ []) (λ f. f ≡ fault.OutOfMemory) }
+{
+    match items.push(item) {
+        Ok(()) => Ok(()),
+        Err(_) => Err(ValueFault::OutOfMemory),
+    }
+}
+
+/// The empty list, with room for so many items.
+pub(crate) fn with_room<T>(alloc: Global, room: usize) -> Result<List<T>, ValueFault>
+    ensures { MatchResult result (λ items. items ≡ []) (λ f. f ≡ fault.OutOfMemory) }
+{
+    match Vec::with_capacity(alloc, room) {
+        Ok(items) => Ok(List::new(items)),
+        Err(_) => Err(ValueFault::OutOfMemory),
+    }
+}
