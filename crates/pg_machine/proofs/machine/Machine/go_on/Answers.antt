@@ -1,0 +1,9 @@
+use Rattle.std.proofs.Common.{subst, take, Option}
+use Rattle.pg_machine.specs.declared.feeding.Fed.{Fed}
+use Rattle.pg_machine.specs.Feeding.{Feeds}
+use Rattle.pg_machine.proofs.machine.Machine.go_on.Goals as goal
+
+pub returns-in-None : goal.returns-in-None
+returns-in-None c =
+    c.begin.ensures (take c.args.len c.args.taken.now)
+    (subst (λ (fed : Option Fed). Feeds c.args.self.now (take c.args.len c.args.taken.now) fed) c.in-None.is c.requires.fed)

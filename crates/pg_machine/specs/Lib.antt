@@ -1,0 +1,9 @@
+pub mod Machines
+pub mod MachineFields
+pub mod Making
+pub mod Steps
+pub mod Opening
+pub mod Feeding
+pub mod Alone
+pub mod MachineLinks
+pub mod Examples
