@@ -5,4 +5,3 @@ pub mod Numerics
 pub mod Parts
 pub mod Spelling
 pub mod Reading
-pub mod Writing

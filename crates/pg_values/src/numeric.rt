@@ -21,6 +21,9 @@ struct Form {
     digits: List<u16>,
 }
 
+/// What a digit is below.
+const BASE: u16 = 10_000;
+
 /// The digits that bytes spell.
 fn read_digits(alloc: Global, bytes: &[u8]) -> Result<List<u16>, ValueFault>
     ensures { ReadsAs (λ digits. AreDigits digits bytes.now) result }
@@ -28,7 +31,7 @@ fn read_digits(alloc: Global, bytes: &[u8]) -> Result<List<u16>, ValueFault>
     let mut digits = List::empty(alloc);
     let mut rest = bytes;
     while let Some((digit, behind)) = half(rest) {
-        if digit >= 10_000 {
+        if digit >= BASE {
             return Err(ValueFault::BadValue);
         }
         push(&mut digits, digit)?;

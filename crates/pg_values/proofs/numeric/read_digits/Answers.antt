@@ -17,11 +17,11 @@ loop-digit-preserved c =
           (front.digits, front.are);
     }
 
-pub returns-then-digit-ge10000 : goal.returns-then-digit-ge10000
-returns-then-digit-ge10000 c = λ ds are.
+pub returns-then-digit-ge-BASE : goal.returns-then-digit-ge-BASE
+returns-then-digit-ge-BASE c = λ ds are.
     let es = c.loop-digit.invariant.others ds are in
     let front = digits_front es.0 c.in-Some.digit c.loop-digit.rest.now c.in-Some.behind.now c.in-Some.ensures.0 c.in-Some.ensures.1 es.1 in
-    omega (arith, front.below, c.if-digit-ge10000.true)
+    omega (arith, front.below, c.if-digit-ge-BASE.true)
 
 some_left : (xs : List ℕ) (b : Bool) → b ≡ (length xs == 0) → b ≡ false → xs ≡ [] → ⊥
 some_left xs b is left none = let e : (length xs == 0) ≡ true = ap (λ (l : List ℕ). length l == 0) none in absurd (cc (is, left, e))
