@@ -3,7 +3,7 @@ use Rattle.std.proofs.Common.{◌≡◌, inl, inr, ℕ, List, [], Bool, true, fa
 use Rattle.pg_spec.specs.Faults as spec
 use Rattle.pg_spec.specs.Frames.{query_frame}
 use Rattle.pg_spec.specs.SimpleQuery.{SimpleState, has_enough}
-use Rattle.pg_errors.specs.declared.error.Error.{Error}
+use Rattle.pg_faults.specs.declared.error.Error.{Error}
 use Rattle.pg_query.specs.Dialogue.{Dialogue, Answer, Ask, HangUp}
 use Rattle.pg_query.specs.Scripts.{cleanup_of}
 use Rattle.pg_query.specs.Reading.{reads}

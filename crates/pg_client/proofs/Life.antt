@@ -9,7 +9,7 @@ use Rattle.pg_spec.specs.Messages.{Message, ReadyForQuery, RowDescription, DataR
 use Rattle.pg_spec.specs.RawMessages.{RawMessage}
 use Rattle.pg_spec.specs.Readings.{GoesOn, Answers, Decision, decision, decided_by, stands_or, one_later}
 use Rattle.pg_spec.specs.SimpleQuery.{Item, Columns, Row, Complete, SimpleAnswer, SimpleState, SimpleNext, affected, unreadable, adds, reads_columns, reads_row, has_enough, simple_next, simple_message, simple_reading}
-use Rattle.pg_errors.specs.declared.error.Error.{Error}
+use Rattle.pg_faults.specs.declared.error.Error.{Error}
 use Rattle.pg_errors.specs.Meanings.{error_of, cause_from}
 use Rattle.pg_errors.specs.Views.{failure_of, cause_of}
 use Rattle.pg_errors.proofs.MeaningLemmas.{db-error-there}

@@ -6,14 +6,14 @@ use Rattle.pg_spec.specs.Faults.{WireFault, UnexpectedMessage}
 use Rattle.pg_spec.specs.Messages.{Message, message_of}
 use Rattle.pg_spec.specs.RawMessages.{RawMessage, messages, bytes_left, has_bad_header, is_aside, is_ready}
 use Rattle.pg_spec.specs.Startup.{Done, Refused}
-use Rattle.pg_errors.specs.declared.cause.Cause.TheVariants as cause
-use Rattle.pg_errors.specs.declared.error.Error.{Error}
-use Rattle.pg_errors.specs.declared.error.Error.TheVariants as error
+use Rattle.pg_faults.specs.declared.cause.Cause.TheVariants as cause
+use Rattle.pg_faults.specs.declared.error.Error.{Error}
+use Rattle.pg_faults.specs.declared.error.Error.TheVariants as error
 use Rattle.pg_connect.specs.declared.startup.Phase.{Phase}
 use Rattle.pg_connect.specs.declared.startup.Heard.{Heard}
 use Rattle.pg_connect.specs.declared.startup.Heard.TheVariants as heard
-use Rattle.pg_wire.specs.declared.fault.WireFault as wire_faults
-use Rattle.pg_wire.specs.declared.fault.WireFault.TheVariants as wire
+use Rattle.pg_faults.specs.declared.fault.WireFault as wire_faults
+use Rattle.pg_faults.specs.declared.fault.WireFault.TheVariants as wire
 use Rattle.pg_wire.specs.Faults.{wire_fault}
 use Rattle.pg_wire.specs.Backend.{RefusedBy}
 use Rattle.pg_wire.specs.Decode.{Decodes}

@@ -4,10 +4,10 @@ use Rattle.pg_spec.specs.Links.{LinkView, Grew}
 use Rattle.pg_spec.specs.RawMessages.{RawMessage, messages, bytes_left, has_bad_header}
 use Rattle.pg_spec.proofs.MessageLaws.{messages-append, bytes_left-append}
 use Rattle.pg_wire.specs.LinkCalls.{Keeps}
-use Rattle.pg_wire.specs.declared.fault.WireFault.TheVariants as wire
-use Rattle.pg_errors.specs.declared.cause.Cause.TheVariants as cause
-use Rattle.pg_errors.specs.declared.error.Error.{Error}
-use Rattle.pg_errors.specs.declared.error.Error.TheVariants as error
+use Rattle.pg_faults.specs.declared.fault.WireFault.TheVariants as wire
+use Rattle.pg_faults.specs.declared.cause.Cause.TheVariants as cause
+use Rattle.pg_faults.specs.declared.error.Error.{Error}
+use Rattle.pg_faults.specs.declared.error.Error.TheVariants as error
 use Rattle.pg_connect.specs.declared.startup.Startup.{Startup}
 use Rattle.pg_connect.specs.declared.startup.Heard.TheVariants as heard
 use Rattle.pg_connect.specs.Startups.{phase_of, Leads, MeetsMore, MeetsRefused, HeardAll, HearsAll, Came, IsWithinStart, Opening, Opened, Failed, FailsBy}

@@ -9,9 +9,9 @@ use Rattle.pg_connect.specs.Ends.{WasBlocked}
 use Rattle.pg_connect.specs.Passes.{Untouched}
 use Rattle.pg_connect.specs.Reads.{WasDry, piece_size}
 use Rattle.pg_connect.specs.Startups.{IsFlushed, Opening, Opened, Failed}
-use Rattle.pg_errors.specs.declared.cause.Cause.TheVariants as cause
-use Rattle.pg_errors.specs.declared.error.Error.{Error}
-use Rattle.pg_errors.specs.declared.error.Error.TheVariants as error
+use Rattle.pg_faults.specs.declared.cause.Cause.TheVariants as cause
+use Rattle.pg_faults.specs.declared.error.Error.{Error}
+use Rattle.pg_faults.specs.declared.error.Error.TheVariants as error
 use Rattle.pg_connect.specs.declared.startup.Startup.{Startup}
 use Rattle.pg_connect.specs.declared.streams.Streams.{Streams}
 

@@ -11,11 +11,11 @@ use Rattle.pg_spec.specs.Settings.{startup_parameters}
 use Rattle.pg_spec.specs.Startup as startups
 use Rattle.pg_wire.specs.Faults.{frame_fault}
 use Rattle.pg_wire.specs.LinkCalls.{Keeps}
-use Rattle.pg_wire.specs.declared.fault.WireFault.{WireFault}
-use Rattle.pg_wire.specs.declared.fault.WireFault.TheVariants as wire
-use Rattle.pg_errors.specs.declared.cause.Cause.TheVariants as cause
-use Rattle.pg_errors.specs.declared.error.Error.{Error}
-use Rattle.pg_errors.specs.declared.error.Error.TheVariants as error
+use Rattle.pg_faults.specs.declared.fault.WireFault.{WireFault}
+use Rattle.pg_faults.specs.declared.fault.WireFault.TheVariants as wire
+use Rattle.pg_faults.specs.declared.cause.Cause.TheVariants as cause
+use Rattle.pg_faults.specs.declared.error.Error.{Error}
+use Rattle.pg_faults.specs.declared.error.Error.TheVariants as error
 use Rattle.pg_connect.specs.Reads.{piece_size}
 use Rattle.pg_connect.specs.declared.startup.Phase.{Phase}
 use Rattle.pg_connect.specs.declared.startup.Phase.TheVariants as phase

@@ -7,7 +7,7 @@ ghost use Rattle.pg_connect.specs.Passes.{PassesOn};
 ghost use Rattle.pg_connect.specs.Reads.{IsUnreadable, Sorts, TakesAside, MeansUnasked, IsUnasked, unreadable_as, ReadsFirst, HandedLate, LateEnds};
 
 use crate::{ConnectionFault, Off, Streams};
-use pg_errors::{AsyncMessage, Cause, DbError, Error};
+use pg_errors::{AsyncMessage, Cause, DbError, Error, ParseFields};
 use pg_wire::{BackendMessages, Message, ParameterStatusBody, WireFault};
 use std::alloc::Global;
 

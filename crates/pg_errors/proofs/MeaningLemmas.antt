@@ -4,15 +4,15 @@ use Rattle.pg_spec.specs.DbErrors as db
 use Rattle.pg_spec.specs.Faults as spec
 use Rattle.pg_spec.specs.ValueFaults as values
 use Rattle.pg_wire.specs.Faults.{wire_fault, frame_fault}
-use Rattle.pg_wire.specs.declared.fault.WireFault.{WireFault}
-use Rattle.pg_wire.specs.declared.fault.WireFault.TheVariants as wire
-use Rattle.pg_wire.specs.declared.fault.FrameFault.{FrameFault}
-use Rattle.pg_wire.specs.declared.fault.FrameFault.TheVariants as frame
-use Rattle.pg_errors.specs.declared.db_error.ErrorPosition.{ErrorPosition}
-use Rattle.pg_errors.specs.declared.db_error.ErrorPosition.TheVariants as place
-use Rattle.pg_errors.specs.declared.db_error.DbError.{DbError}
-use Rattle.pg_errors.specs.declared.severity.Severity.{Severity}
-use Rattle.pg_errors.specs.declared.severity.Severity.TheVariants as severity
+use Rattle.pg_faults.specs.declared.fault.WireFault.{WireFault}
+use Rattle.pg_faults.specs.declared.fault.WireFault.TheVariants as wire
+use Rattle.pg_faults.specs.declared.fault.FrameFault.{FrameFault}
+use Rattle.pg_faults.specs.declared.fault.FrameFault.TheVariants as frame
+use Rattle.pg_faults.specs.declared.db_error.ErrorPosition.{ErrorPosition}
+use Rattle.pg_faults.specs.declared.db_error.ErrorPosition.TheVariants as place
+use Rattle.pg_faults.specs.declared.db_error.DbError.{DbError}
+use Rattle.pg_faults.specs.declared.severity.Severity.{Severity}
+use Rattle.pg_faults.specs.declared.severity.Severity.TheVariants as severity
 use Rattle.pg_errors.specs.Views.{rust_type, severity_of, position_of, db_error, cause_of}
 use Rattle.pg_errors.specs.Meanings.{wire_of, frame_of, rust_type_of, severity_from, position_from, db_error_from, cause_from}
 

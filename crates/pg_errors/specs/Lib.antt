@@ -3,7 +3,7 @@ pub mod Faults
 pub mod Parsing
 pub mod Meanings
 pub mod Fields
-pub mod Getters
 pub mod Parts
-pub mod Sources
 pub mod Notices
+pub use Rattle.pg_faults.specs.Getters
+pub use Rattle.pg_faults.specs.Sources

@@ -7,21 +7,21 @@ use Rattle.pg_types.specs.declared.fault.RustType.{RustType}
 use Rattle.pg_types.specs.declared.fault.RustType.TheVariants as rust
 use Rattle.pg_types.specs.declared.fault.ValueFault.{ValueFault}
 use Rattle.pg_types.specs.declared.fault.ValueFault.TheVariants as value
-use Rattle.pg_wire.specs.declared.fault.WireFault.{WireFault}
-use Rattle.pg_wire.specs.declared.fault.WireFault.TheVariants as wire
-use Rattle.pg_wire.specs.declared.fault.FrameFault.{FrameFault}
-use Rattle.pg_wire.specs.declared.fault.FrameFault.TheVariants as frame
-use Rattle.pg_errors.specs.declared.cause.ScramFault.{ScramFault}
-use Rattle.pg_errors.specs.declared.cause.ScramFault.TheVariants as scram
-use Rattle.pg_errors.specs.declared.cause.Cause.{Cause}
-use Rattle.pg_errors.specs.declared.cause.Cause.TheVariants as cause
-use Rattle.pg_errors.specs.declared.db_error.ErrorPosition.{ErrorPosition}
-use Rattle.pg_errors.specs.declared.db_error.ErrorPosition.TheVariants as place
-use Rattle.pg_errors.specs.declared.db_error.DbError.{DbError}
-use Rattle.pg_errors.specs.declared.severity.Severity.{Severity}
-use Rattle.pg_errors.specs.declared.severity.Severity.TheVariants as severity
-use Rattle.pg_errors.specs.declared.error.Error.{Error}
-use Rattle.pg_errors.specs.declared.error.Error.TheVariants as error
+use Rattle.pg_faults.specs.declared.fault.WireFault.{WireFault}
+use Rattle.pg_faults.specs.declared.fault.WireFault.TheVariants as wire
+use Rattle.pg_faults.specs.declared.fault.FrameFault.{FrameFault}
+use Rattle.pg_faults.specs.declared.fault.FrameFault.TheVariants as frame
+use Rattle.pg_faults.specs.declared.cause.ScramFault.{ScramFault}
+use Rattle.pg_faults.specs.declared.cause.ScramFault.TheVariants as scram
+use Rattle.pg_faults.specs.declared.cause.Cause.{Cause}
+use Rattle.pg_faults.specs.declared.cause.Cause.TheVariants as cause
+use Rattle.pg_faults.specs.declared.db_error.ErrorPosition.{ErrorPosition}
+use Rattle.pg_faults.specs.declared.db_error.ErrorPosition.TheVariants as place
+use Rattle.pg_faults.specs.declared.db_error.DbError.{DbError}
+use Rattle.pg_faults.specs.declared.severity.Severity.{Severity}
+use Rattle.pg_faults.specs.declared.severity.Severity.TheVariants as severity
+use Rattle.pg_faults.specs.declared.error.Error.{Error}
+use Rattle.pg_faults.specs.declared.error.Error.TheVariants as error
 
 -- what is wrong with received bytes
 abbrev pub wire_of : spec.WireFault → WireFault

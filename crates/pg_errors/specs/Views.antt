@@ -9,17 +9,17 @@ use Rattle.pg_types.specs.declared.fault.RustType.TheVariants as rust
 use Rattle.pg_types.specs.declared.fault.ValueFault.{ValueFault}
 use Rattle.pg_types.specs.declared.fault.ValueFault.TheVariants as value
 use Rattle.pg_wire.specs.Faults.{wire_fault, frame_fault}
-use Rattle.pg_errors.specs.declared.cause.ScramFault.{ScramFault}
-use Rattle.pg_errors.specs.declared.cause.ScramFault.TheVariants as scram
-use Rattle.pg_errors.specs.declared.cause.Cause.{Cause}
-use Rattle.pg_errors.specs.declared.cause.Cause.TheVariants as cause
-use Rattle.pg_errors.specs.declared.db_error.ErrorPosition.{ErrorPosition}
-use Rattle.pg_errors.specs.declared.db_error.ErrorPosition.TheVariants as place
-use Rattle.pg_errors.specs.declared.db_error.DbError.{DbError}
-use Rattle.pg_errors.specs.declared.severity.Severity.{Severity}
-use Rattle.pg_errors.specs.declared.severity.Severity.TheVariants as severity
-use Rattle.pg_errors.specs.declared.error.Error.{Error}
-use Rattle.pg_errors.specs.declared.error.Error.TheVariants as error
+use Rattle.pg_faults.specs.declared.cause.ScramFault.{ScramFault}
+use Rattle.pg_faults.specs.declared.cause.ScramFault.TheVariants as scram
+use Rattle.pg_faults.specs.declared.cause.Cause.{Cause}
+use Rattle.pg_faults.specs.declared.cause.Cause.TheVariants as cause
+use Rattle.pg_faults.specs.declared.db_error.ErrorPosition.{ErrorPosition}
+use Rattle.pg_faults.specs.declared.db_error.ErrorPosition.TheVariants as place
+use Rattle.pg_faults.specs.declared.db_error.DbError.{DbError}
+use Rattle.pg_faults.specs.declared.severity.Severity.{Severity}
+use Rattle.pg_faults.specs.declared.severity.Severity.TheVariants as severity
+use Rattle.pg_faults.specs.declared.error.Error.{Error}
+use Rattle.pg_faults.specs.declared.error.Error.TheVariants as error
 use Rattle.pg_errors.specs.declared.async_message.AsyncMessage.{AsyncMessage}
 use Rattle.pg_errors.specs.declared.async_message.AsyncMessage.TheVariants as aside
 

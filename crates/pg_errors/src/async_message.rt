@@ -4,9 +4,8 @@ ghost use Rattle.std.specs.Prelude.{◌≡◌, IfOk};
 ghost use Rattle.pg_errors.specs.Parsing.{ReadsAside};
 ghost use Rattle.pg_errors.specs.Notices.{ReadsNotification};
 
-use crate::cause::Cause;
-use crate::db_error::DbError;
-use crate::error::Error;
+use crate::db_error::ParseFields;
+use pg_faults::{Cause, DbError, Error};
 use pg_types::{OutOfMemory, Text};
 use pg_wire::{Message, NotificationResponseBody};
 use std::alloc::Global;

@@ -10,11 +10,10 @@ ghost use Rattle.pg_spec.specs.Numerals as numerals;
 ghost use Rattle.pg_errors.specs.Fields.{fields_in, value_of};
 ghost use Rattle.pg_errors.specs.Views.{position_of, severity_of};
 ghost use Rattle.pg_errors.specs.Parts.{AreNames, IsOrigin};
-ghost use Rattle.pg_errors.specs.declared.error.Error.TheVariants.{OutOfMemory};
+ghost use Rattle.pg_faults.specs.declared.error.Error.TheVariants.{OutOfMemory};
 
-use crate::db_error::ErrorPosition;
-use crate::error::Error;
-use crate::severity::Severity;
+use crate::severity::named_severity;
+use pg_faults::{Error, ErrorPosition, Severity};
 use pg_types::Text;
 use pg_wire::ErrorResponseBody;
 use std::alloc::Global;
@@ -96,7 +95,7 @@ fn is_number(alloc: Global, value: &[u8]) -> Result<bool, Error>
 fn is_severity(alloc: Global, value: &[u8]) -> Result<bool, Error>
     ensures { MatchResult result (λ b. b ≡ is_some (spec.severity_named (utf8_lossy value.now))) (λ e. e ≡ OutOfMemory) }
 {
-    Ok(Severity::named(text_of(alloc, value)?.as_str()).is_some())
+    Ok(named_severity(text_of(alloc, value)?.as_str()).is_some())
 }
 
 /// Each field of a kind is a number.
@@ -164,7 +163,7 @@ pub(crate) fn parsed_severity(
         (λ e. e ≡ OutOfMemory) }
 {
     match text(alloc, body, b'V')? {
-        Some(name) => Ok(Severity::named(name.as_str())),
+        Some(name) => Ok(named_severity(name.as_str())),
         None => Ok(None),
     }
 }

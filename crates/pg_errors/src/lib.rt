@@ -2,18 +2,12 @@
 #![tactic(auto)]
 
 mod async_message;
-mod cause;
 mod db_error;
-mod error;
 mod error_fields;
-mod error_kind;
 mod severity;
-mod sql_state;
 
 pub use async_message::{AsyncMessage, Notification};
-pub use cause::{Cause, ScramFault};
-pub use db_error::{DbError, ErrorPosition};
-pub use error::{Error, Source};
-pub use error_kind::ErrorKind;
-pub use severity::Severity;
-pub use sql_state::SqlState;
+pub use db_error::ParseFields;
+pub use pg_faults::{
+    Cause, DbError, Error, ErrorKind, ErrorPosition, ScramFault, Severity, Source, SqlState,
+};

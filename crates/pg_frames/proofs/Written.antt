@@ -7,8 +7,8 @@ use Rattle.std.proofs.lemmas.Bool.{lt-ltb, le-ltb}
 use Rattle.pg_spec.specs.Bytes.{text0}
 use Rattle.pg_spec.specs.Faults as spec
 use Rattle.pg_spec.specs.Frames.{has_zero, unless_fault, tagged, tagged_frame, value_bytes, parse_frame, bind_frame}
-use Rattle.pg_wire.specs.declared.fault.FrameFault.{FrameFault}
-use Rattle.pg_wire.specs.declared.fault.FrameFault.TheVariants as frame
+use Rattle.pg_faults.specs.declared.fault.FrameFault.{FrameFault}
+use Rattle.pg_faults.specs.declared.fault.FrameFault.TheVariants as frame
 use Rattle.pg_wire.specs.Faults as faults
 use Rattle.pg_wire.specs.Writes.{IsRefusal}
 use Rattle.pg_wire.specs.Begins.{Begins, RefusedFor, RefusesLength}

@@ -7,7 +7,7 @@ ghost use Rattle.pg_machine.specs.Making.{IsRead, IsUnread, error_of};
 
 use crate::machine::{Machine, MachineFault, MachineRow, first_bad};
 use bytes::Bytes;
-use pg_errors::{DbError, Error};
+use pg_errors::{DbError, Error, ParseFields};
 use pg_serving::{Found, front_message};
 use pg_types::{Blob, List, OutOfMemory};
 use pg_wire::{ErrorResponseBody, Message};

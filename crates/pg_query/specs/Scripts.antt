@@ -1,6 +1,6 @@
 -- What a script owes at each step.
 use Rattle.std.specs.Prelude.{◌≡◌, ◌<◌, ℕ, suc, List, [], Result, Ok, Err}
-use Rattle.pg_wire.specs.declared.fault.WireFault.{WireFault}
+use Rattle.pg_faults.specs.declared.fault.WireFault.{WireFault}
 use Rattle.pg_wire.specs.declared.message.Message.{Message}
 use Rattle.pg_query.specs.declared.script.Want.{Want}
 use Rattle.pg_query.specs.declared.script.Want.TheVariants as want

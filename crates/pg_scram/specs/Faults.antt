@@ -1,7 +1,7 @@
 -- What a fault says of the answer that a definition gives.
 use Rattle.std.specs.Prelude.{◌≡◌, ⊤, Option, Some, None, Result, Err}
 use Rattle.pg_spec.specs.Faults as spec
-use Rattle.pg_errors.specs.declared.cause.ScramFault.{ScramFault}
+use Rattle.pg_faults.specs.declared.cause.ScramFault.{ScramFault}
 use Rattle.pg_errors.specs.Views.{scram_fault}
 
 -- it is the fault that the definition names; want of memory may stand in its place

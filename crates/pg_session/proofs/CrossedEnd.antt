@@ -14,7 +14,7 @@ use Rattle.pg_spec.specs.Startup.{startup}
 use Rattle.pg_spec.specs.Settings.{Mode, Prefer, Require}
 use Rattle.pg_spec.specs.Turns.{delivered_after}
 use Rattle.pg_errors.specs.declared.async_message.AsyncMessage.{AsyncMessage}
-use Rattle.pg_errors.specs.declared.error.Error.{Error}
+use Rattle.pg_faults.specs.declared.error.Error.{Error}
 use Rattle.pg_desk.specs.declared.event.Booking.{Booking}
 use Rattle.pg_desk.specs.History.{start, after_all, wire, joined, IsFrontOf}
 use Rattle.pg_desk.proofs.Soundness.{legal-sound}

@@ -4,8 +4,8 @@ use Rattle.futures.specs.declared.task.Poll.TheVariants.{Ready}
 use Rattle.pg_spec.specs.Causes.{Call}
 use Rattle.pg_spec.specs.Links.{LinkView, Grew, OfBytes}
 use Rattle.pg_spec.specs.RawMessages.{RawMessage}
-use Rattle.pg_errors.specs.declared.error.Error.{Error}
-use Rattle.pg_errors.specs.declared.error.Error.TheVariants as error
+use Rattle.pg_faults.specs.declared.error.Error.{Error}
+use Rattle.pg_faults.specs.declared.error.Error.TheVariants as error
 use Rattle.pg_connect.specs.Answers.{IsWithinPoll}
 use Rattle.pg_connect.specs.Startups.{Failed, IsWithinStart}
 use Rattle.pg_connect.specs.declared.startup.Startup.{Startup}

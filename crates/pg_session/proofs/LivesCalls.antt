@@ -7,7 +7,7 @@ use Rattle.pg_connect.specs.Answers.{PollAnswers}
 use Rattle.pg_connect.specs.declared.streams.Streams.{Streams}
 use Rattle.pg_desk.specs.declared.event.Event.{Event}
 use Rattle.pg_errors.specs.declared.async_message.AsyncMessage.{AsyncMessage}
-use Rattle.pg_errors.specs.declared.error.Error.{Error}
+use Rattle.pg_faults.specs.declared.error.Error.{Error}
 use Rattle.pg_hub.specs.Fits.{HubBecomes}
 use Rattle.pg_hub.specs.Standing.{Standing}
 use Rattle.pg_text.specs.declared.command.Command.{Command}

@@ -12,7 +12,7 @@ use Rattle.pg_desk.specs.declared.event.Event.{Event}
 use Rattle.pg_desk.specs.declared.event.Event.TheVariants as call
 use Rattle.pg_desk.specs.declared.event.Stamp.{Stamp}
 use Rattle.pg_desk.specs.declared.event.Take.TheVariants as taking
-use Rattle.pg_errors.specs.declared.error.Error.{Error}
+use Rattle.pg_faults.specs.declared.error.Error.{Error}
 use Rattle.pg_hub.specs.Becomes.{after-joined, exact-joined}
 use Rattle.pg_query.specs.Dialogue.{Dialogue, Steps, Walks}
 use Rattle.pg_query.specs.Lives.{Deed, IsOf, AllOf, messages_taken, taken_by}

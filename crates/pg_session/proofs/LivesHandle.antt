@@ -10,8 +10,8 @@ use Rattle.pg_spec.specs.Report as told
 use Rattle.pg_spec.specs.Turns.{Times}
 use Rattle.pg_desk.specs.History.{State, after_all, received}
 use Rattle.pg_desk.specs.declared.event.Stamp.{Stamp}
-use Rattle.pg_errors.specs.declared.error.Error.{Error}
-use Rattle.pg_errors.specs.declared.error.Error.TheVariants.{OutOfMemory}
+use Rattle.pg_faults.specs.declared.error.Error.{Error}
+use Rattle.pg_faults.specs.declared.error.Error.TheVariants.{OutOfMemory}
 use Rattle.pg_hub.specs.Fits.{HubBecomes}
 use Rattle.pg_hub.specs.Standing.{Standing}
 use Rattle.pg_client.specs.Simple.{simple_query}

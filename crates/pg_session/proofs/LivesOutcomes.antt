@@ -13,7 +13,7 @@ use Rattle.pg_desk.specs.declared.event.Event.{Event}
 use Rattle.pg_desk.specs.declared.event.Event.TheVariants as call
 use Rattle.pg_desk.specs.declared.event.Stamp.{Stamp}
 use Rattle.pg_desk.specs.declared.event.Take.TheVariants as taking
-use Rattle.pg_errors.specs.declared.error.Error.{Error}
+use Rattle.pg_faults.specs.declared.error.Error.{Error}
 use Rattle.pg_query.specs.Dialogue.{Dialogue, Read, Steps, Walks}
 use Rattle.pg_query.specs.Lives.{Turn, Lives, Deed, deeds, AllOf, messages_taken}
 use Rattle.pg_query.specs.Meaning.{Place}

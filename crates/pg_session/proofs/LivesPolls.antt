@@ -9,7 +9,7 @@ use Rattle.pg_desk.specs.declared.event.DeskFault.{DeskFault}
 use Rattle.pg_desk.specs.declared.event.Event.{Event}
 use Rattle.pg_desk.specs.declared.event.Event.TheVariants as call
 use Rattle.pg_desk.specs.declared.event.Stamp.{Stamp}
-use Rattle.pg_errors.specs.declared.error.Error.{Error}
+use Rattle.pg_faults.specs.declared.error.Error.{Error}
 use Rattle.pg_desk.specs.History.{IsFrontOf}
 use Rattle.pg_errors.specs.Meanings.{error_of}
 use Rattle.pg_query.specs.Dialogue.{Answer, Walks}

@@ -9,8 +9,8 @@ use Rattle.pg_desk.specs.declared.event.Event.{Event}
 use Rattle.pg_desk.specs.declared.event.Event.TheVariants.{Book, CloseRequests}
 use Rattle.pg_desk.specs.declared.event.Stamp.{Stamp}
 use Rattle.pg_desk.specs.History.{State, start, after, after_all, ended, Allows, IsExact}
-use Rattle.pg_errors.specs.declared.error.Error.{Error}
-use Rattle.pg_errors.specs.declared.error.Error.TheVariants.{OutOfMemory}
+use Rattle.pg_faults.specs.declared.error.Error.{Error}
+use Rattle.pg_faults.specs.declared.error.Error.TheVariants.{OutOfMemory}
 use Rattle.pg_hub.specs.Becomes.{after-joined, exact-joined, fits-touched}
 use Rattle.pg_hub.specs.Fits.{Fits, HubBecomes}
 use Rattle.pg_hub.specs.Standing.{Standing}

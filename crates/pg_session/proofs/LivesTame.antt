@@ -10,8 +10,8 @@ use Rattle.pg_desk.specs.declared.event.Stamp.{Stamp}
 use Rattle.pg_desk.specs.declared.event.DeskFault.{DeskFault}
 use Rattle.pg_desk.specs.declared.event.Take.{Take}
 use Rattle.pg_desk.specs.declared.event.Take.TheVariants as taking
-use Rattle.pg_errors.specs.declared.error.Error.{Error}
-use Rattle.pg_errors.specs.declared.error.Error.TheVariants.{Closed}
+use Rattle.pg_faults.specs.declared.error.Error.{Error}
+use Rattle.pg_faults.specs.declared.error.Error.TheVariants.{Closed}
 use Rattle.pg_query.specs.Dialogue.{Dialogue, Answer, Ask, Send, Leave, Read, HangUp, Call, Hear, feed, feed_one, Steps, Walks}
 use Rattle.pg_query.specs.Faults.{of_fault}
 use Rattle.pg_query.specs.Lives.{Turn, Lives}

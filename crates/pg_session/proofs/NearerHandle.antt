@@ -4,7 +4,7 @@ use Rattle.pg_spec.specs.Faults as faults
 use Rattle.pg_spec.specs.Frames.{query_frame}
 use Rattle.pg_spec.specs.RawMessages.{RawMessage}
 use Rattle.pg_client.specs.Simple.{asks_by, told}
-use Rattle.pg_errors.specs.declared.error.Error.{Error}
+use Rattle.pg_faults.specs.declared.error.Error.{Error}
 use Rattle.pg_desk.specs.declared.event.Event.{Event}
 use Rattle.pg_desk.specs.declared.event.Event.TheVariants.{Book, Take as TakeEvent, HangUp as HangUpEvent}
 use Rattle.pg_desk.specs.declared.event.Stamp.{Stamp}

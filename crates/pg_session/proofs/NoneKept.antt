@@ -20,8 +20,8 @@ use Rattle.pg_spec.specs.Report.{Simple}
 use Rattle.pg_spec.specs.Sent.{whole_units}
 use Rattle.pg_spec.specs.Startup.{Outcome, Done, More}
 use Rattle.pg_errors.specs.Views.{failure_of}
-use Rattle.pg_errors.specs.declared.error.Error.{Error}
-use Rattle.pg_errors.specs.declared.error.Error.TheVariants as error
+use Rattle.pg_faults.specs.declared.error.Error.{Error}
+use Rattle.pg_faults.specs.declared.error.Error.TheVariants as error
 use Rattle.pg_desk.proofs.Soundness.{wire-counted}
 use Rattle.pg_desk.specs.History.{State, wire}
 use Rattle.pg_desk.specs.declared.event.Event.{Event}

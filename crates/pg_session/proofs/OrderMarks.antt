@@ -8,7 +8,7 @@ use Rattle.pg_spec.specs.Report as said
 use Rattle.pg_spec.specs.Turns.{turn_of, delivered_after, delivered_before}
 use Rattle.pg_desk.specs.declared.event.Event.{Event}
 use Rattle.pg_errors.specs.declared.async_message.AsyncMessage.{AsyncMessage}
-use Rattle.pg_errors.specs.declared.error.Error.{Error}
+use Rattle.pg_faults.specs.declared.error.Error.{Error}
 use Rattle.pg_connect.specs.Answers.{PollAnswers}
 use Rattle.pg_connect.specs.Passes.{risen}
 use Rattle.pg_connect.specs.declared.streams.Streams.{Streams}

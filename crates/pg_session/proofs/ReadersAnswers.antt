@@ -12,7 +12,7 @@ use Rattle.pg_spec.specs.Readings.{GoesOn, Answers, Decision, decision, decided_
 use Rattle.pg_spec.specs.SimpleQuery.{Item, Complete, Row, SimpleAnswer, SimpleNext, SimpleState, adds, affected, reads_columns, reads_row, has_enough, simple_message, simple_next, simple_reading}
 use Rattle.pg_client.specs.Simple.{AsksQuery, answer_from, asks_by, told}
 use Rattle.pg_connect.proofs.Tags.{is_ready_message}
-use Rattle.pg_errors.specs.declared.error.Error.{Error}
+use Rattle.pg_faults.specs.declared.error.Error.{Error}
 use Rattle.pg_query.specs.Dialogue.{Dialogue, Answer, Ask, Send, Leave, Read, HangUp, Call, Hear, feed, feed_one}
 use Rattle.pg_query.specs.Reading.{ends}
 use Rattle.pg_query.specs.Requests.{reads_unless}

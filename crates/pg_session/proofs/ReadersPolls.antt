@@ -6,8 +6,8 @@ use Rattle.pg_desk.specs.declared.event.Booking.{Booking}
 use Rattle.pg_desk.specs.declared.event.Event.{Event}
 use Rattle.pg_desk.specs.declared.event.Stamp.{Stamp}
 use Rattle.pg_desk.specs.History.{State, after_all, IsExact}
-use Rattle.pg_errors.specs.declared.error.Error.{Error}
-use Rattle.pg_errors.specs.declared.error.Error.TheVariants.{OutOfMemory}
+use Rattle.pg_faults.specs.declared.error.Error.{Error}
+use Rattle.pg_faults.specs.declared.error.Error.TheVariants.{OutOfMemory}
 use Rattle.pg_hub.specs.Becomes.{stays}
 use Rattle.pg_hub.specs.Fits.{Fits, HubBecomes, moves}
 use Rattle.pg_hub.specs.Standing.{Standing}

@@ -18,7 +18,7 @@ use Rattle.pg_desk.proofs.Owners.{ended-counted, open-less}
 use Rattle.pg_desk.proofs.Soundness.{wire-counted}
 use Rattle.pg_desk.specs.History.{State, start, after, after_all, finished, has_open, joined, out_of_rest, received, wire, Allows, IsExact, IsFrontOf}
 use Rattle.pg_desk.proofs.Soundness.{legal-sound}
-use Rattle.pg_errors.specs.declared.error.Error.TheVariants as error
+use Rattle.pg_faults.specs.declared.error.Error.TheVariants as error
 use Rattle.pg_connect.specs.Answers.{fresh, left_open}
 use Rattle.pg_connect.specs.Ends.{WasBlocked, last_is, has_none, has_no_more}
 use Rattle.pg_connect.specs.Passed.{AllEngineCalls, bytes_out_by, delivered_by, moves_in}

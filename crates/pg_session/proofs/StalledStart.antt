@@ -8,7 +8,7 @@ use Rattle.pg_spec.specs.Faults.{FrameFault}
 use Rattle.pg_spec.specs.Links.{LinkView, Rose}
 use Rattle.pg_spec.specs.RawMessages.{RawMessage, messages}
 use Rattle.pg_spec.specs.Startup.{Startup as Dialogue, More, Phase, begun_by, dialogue, startup}
-use Rattle.pg_errors.specs.declared.error.Error.TheVariants as error
+use Rattle.pg_faults.specs.declared.error.Error.TheVariants as error
 use Rattle.pg_connect.specs.StartupPolls.{IsIdle}
 use Rattle.pg_connect.specs.declared.startup.Startup.{Startup}
 use Rattle.pg_connect.specs.Startups.{behind, dialogue_of, frame_of, phase_of, Leads, Opening}

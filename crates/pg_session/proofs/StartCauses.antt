@@ -9,12 +9,12 @@ use Rattle.pg_spec.specs.Links.{LinkView, Grew, added, OfBytes}
 use Rattle.pg_spec.specs.RawMessages.{RawMessage, messages}
 use Rattle.pg_spec.specs.Settings.{Settings}
 use Rattle.pg_spec.specs.Startup.{Startup as Dialogue, Outcome, More, Phase, after_one, begun_by, dialogue, startup}
-use Rattle.pg_wire.specs.declared.fault.FrameFault.TheVariants as frame
-use Rattle.pg_wire.specs.declared.fault.WireFault.TheVariants as wire
+use Rattle.pg_faults.specs.declared.fault.FrameFault.TheVariants as frame
+use Rattle.pg_faults.specs.declared.fault.WireFault.TheVariants as wire
 use Rattle.pg_errors.specs.Views.{failure_of}
-use Rattle.pg_errors.specs.declared.cause.Cause.TheVariants as cause
-use Rattle.pg_errors.specs.declared.error.Error.{Error}
-use Rattle.pg_errors.specs.declared.error.Error.TheVariants as error
+use Rattle.pg_faults.specs.declared.cause.Cause.TheVariants as cause
+use Rattle.pg_faults.specs.declared.error.Error.{Error}
+use Rattle.pg_faults.specs.declared.error.Error.TheVariants as error
 use Rattle.pg_connect.specs.declared.startup.Startup.{Startup}
 use Rattle.pg_connect.specs.Startups.{behind, dialogue_of, frame_of, Leads, Made, MeetsMore, MeetsRefused, Failed}
 use Rattle.pg_session.proofs.CrossedEnd.{of-bytes}

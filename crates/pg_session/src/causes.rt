@@ -6,7 +6,7 @@ ghost use Rattle.pg_spec.specs.ConnectionStrings.{only_user, Means};
 ghost use Rattle.pg_connect.specs.Startups.{Failed};
 ghost use Rattle.pg_connect.specs.declared.startup.Startup.{Startup};
 ghost use Rattle.pg_errors.specs.Views.{failure_of};
-ghost use Rattle.pg_errors.specs.declared.error.Error.{Error};
+ghost use Rattle.pg_faults.specs.declared.error.Error.{Error};
 ghost use Rattle.pg_text.specs.declared.command.Command.{Command};
 ghost use Rattle.pg_session.specs.Failures.{HasBroken, StopsOpening};
 

@@ -7,7 +7,7 @@ ghost use Rattle.pg_spec.specs.Faults as faults;
 ghost use Rattle.pg_spec.specs.Promises.{NoneKeptBack, SentInOrder};
 ghost use Rattle.pg_connect.specs.Startups.{Failed};
 ghost use Rattle.pg_connect.specs.declared.startup.Startup.{Startup};
-ghost use Rattle.pg_errors.specs.declared.error.Error.{Error};
+ghost use Rattle.pg_faults.specs.declared.error.Error.{Error};
 ghost use Rattle.pg_text.specs.Views.{scripts_of};
 ghost use Rattle.pg_text.specs.declared.command.Command.{Command};
 ghost use Rattle.pg_session.specs.Failures.{HasBroken, StopsOpening};

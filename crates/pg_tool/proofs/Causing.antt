@@ -5,8 +5,8 @@ use Rattle.pg_spec.specs.ConnectionStrings.{Means, only_user}
 use Rattle.pg_spec.specs.Links.{LinkView}
 use Rattle.pg_connect.specs.declared.startup.Startup.{Startup}
 use Rattle.pg_errors.specs.Views.{failure_of}
-use Rattle.pg_errors.specs.declared.error.Error.{Error}
-use Rattle.pg_errors.specs.declared.error.Error.TheVariants as error
+use Rattle.pg_faults.specs.declared.error.Error.{Error}
+use Rattle.pg_faults.specs.declared.error.Error.TheVariants as error
 use Rattle.pg_session.proofs.Caused.{broken-cause}
 use Rattle.pg_session.proofs.StalledStart.{stalled-start}
 use Rattle.pg_session.proofs.StartCauses.{made_cause, start_cause}

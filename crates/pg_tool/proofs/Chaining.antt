@@ -2,7 +2,7 @@
 use Rattle.std.proofs.Common.{◌≡◌, ℕ, suc, ◌+◌, ◌<◌, ◌≤◌, ◌||◌, Bool, false, true, Some, refl, List, [], ◌∷◌, ◌++◌, length, take, drop, sym, ◌∙◌, ap, subst, append-nil, append_assoc, take-append-drop, take_all, Result, Ok, Err, OnOk, arith, inl, inr}
 use Rattle.std.proofs.Math.ListN.{get_or}
 use Rattle.std.proofs.Math.Seq.{take-suc}
-use Rattle.pg_errors.specs.declared.error.Error.{Error}
+use Rattle.pg_faults.specs.declared.error.Error.{Error}
 use Rattle.pg_spec.specs.Links.{LinkView}
 use Rattle.pg_session.specs.Sessions.{EndsWith, MakesAll, Plays, Rests, StaysAll, numbers, rounds}
 use Rattle.pg_session.specs.States.{SessionState}

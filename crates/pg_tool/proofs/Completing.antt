@@ -12,7 +12,7 @@ use Rattle.pg_spec.specs.Settings.{Settings}
 use Rattle.pg_wire.specs.LinkCalls.{Continues, Tells}
 use Rattle.pg_wire.specs.Streams.{SinkView}
 use Rattle.pg_errors.specs.Views.{failure_of}
-use Rattle.pg_errors.specs.declared.error.Error.{Error}
+use Rattle.pg_faults.specs.declared.error.Error.{Error}
 use Rattle.pg_text.specs.declared.report.Report.{Report}
 use Rattle.pg_text.proofs.ReadLaws.{one_session, refused_is_none}
 use Rattle.pg_session.proofs.CompleteCourse.{must-end-well, of-some}

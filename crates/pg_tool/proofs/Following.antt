@@ -7,7 +7,7 @@ use Rattle.pg_spec.specs.Links.{LinkView, Grew}
 use Rattle.pg_wire.specs.LinkCalls.{Keeps, SameBytes, SameWriting, Extends, Continues}
 use Rattle.pg_desk.specs.declared.event.Event.{Event}
 use Rattle.pg_errors.specs.declared.async_message.AsyncMessage.{AsyncMessage}
-use Rattle.pg_errors.specs.declared.error.Error.{Error}
+use Rattle.pg_faults.specs.declared.error.Error.{Error}
 use Rattle.pg_connect.specs.declared.fault.ConnectionFault.{ConnectionFault}
 use Rattle.pg_connect.specs.declared.ends.TurnEnd.{TurnEnd}
 use Rattle.pg_connect.specs.declared.startup.Startup.{Startup}

@@ -7,8 +7,8 @@ use Rattle.pg_spec.specs.Faults.{LimitReached}
 use Rattle.pg_spec.specs.Links.{LinkView, OfBytes, added}
 use Rattle.pg_spec.specs.Report as told
 use Rattle.pg_errors.specs.Views.{failure_of}
-use Rattle.pg_errors.specs.declared.error.Error.{Error}
-use Rattle.pg_errors.specs.declared.error.Error.TheVariants as error
+use Rattle.pg_faults.specs.declared.error.Error.{Error}
+use Rattle.pg_faults.specs.declared.error.Error.TheVariants as error
 use Rattle.pg_connect.specs.declared.startup.Startup.{Startup}
 use Rattle.pg_session.proofs.Caused.{broken-limit}
 use Rattle.pg_session.proofs.LimitsKept.{HoldsLimit, holds-ended, holds-failed, holds-stopped, holds-untouched}

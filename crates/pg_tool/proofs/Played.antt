@@ -4,8 +4,8 @@ use Rattle.pg_connect.specs.Startups.{Opened}
 use Rattle.pg_connect.specs.StartupPolls.{IsFresh}
 use Rattle.pg_connect.specs.declared.startup.Startup.{Startup}
 use Rattle.pg_connect.specs.declared.streams.Streams.{Streams}
-use Rattle.pg_errors.specs.declared.error.Error.{Error}
-use Rattle.pg_errors.specs.declared.error.Error.TheVariants as error
+use Rattle.pg_faults.specs.declared.error.Error.{Error}
+use Rattle.pg_faults.specs.declared.error.Error.TheVariants as error
 use Rattle.pg_session.specs.Failures.{HasFailed}
 use Rattle.pg_session.specs.Reports.{Reports}
 use Rattle.pg_session.specs.Sessions.{HasPlayed, IsNewSession, Plays}

@@ -11,9 +11,9 @@ use Rattle.pg_spec.specs.Report as said
 use Rattle.pg_wire.specs.LinkCalls.{Continues, Tells}
 use Rattle.pg_connect.specs.Calm.{StaysCalm}
 use Rattle.pg_errors.specs.Views.{failure_of}
-use Rattle.pg_errors.specs.declared.cause.Cause.TheVariants as cause
-use Rattle.pg_errors.specs.declared.error.Error.{Error}
-use Rattle.pg_errors.specs.declared.error.Error.TheVariants as error
+use Rattle.pg_faults.specs.declared.cause.Cause.TheVariants as cause
+use Rattle.pg_faults.specs.declared.error.Error.{Error}
+use Rattle.pg_faults.specs.declared.error.Error.TheVariants as error
 use Rattle.pg_text.specs.Views.{report_of}
 use Rattle.pg_text.specs.declared.command.Command.{Command}
 use Rattle.pg_text.specs.declared.report.Report.{Report}

@@ -8,8 +8,8 @@ use Rattle.pg_spec.specs.Promises.{NoneKeptBack, SentInOrder}
 use Rattle.pg_connect.specs.Calm.{StaysCalm}
 use Rattle.pg_connect.specs.declared.startup.Startup.{Startup}
 use Rattle.pg_errors.specs.Views.{failure_of}
-use Rattle.pg_errors.specs.declared.error.Error.{Error}
-use Rattle.pg_errors.specs.declared.error.Error.TheVariants as error
+use Rattle.pg_faults.specs.declared.error.Error.{Error}
+use Rattle.pg_faults.specs.declared.error.Error.TheVariants as error
 use Rattle.pg_session.proofs.Caused.{broken-kept, broken-sent}
 use Rattle.pg_session.proofs.NoneKept.{stopped-kept}
 use Rattle.pg_session.proofs.SentSoFar.{sent-failed, sent-opened, sent-over, sent-stopped, sent-untouched}

@@ -7,8 +7,8 @@ use Rattle.pg_spec.specs.ReportText.{report_text, error_text}
 use Rattle.pg_spec.specs.Report.{Report}
 use Rattle.pg_spec.specs.SessionText.{SessionText, IsRefusedAt, IsSessionText}
 use Rattle.pg_wire.specs.Streams.{SinkView}
-use Rattle.pg_errors.specs.declared.error.Error.{Error}
-use Rattle.pg_errors.specs.declared.error.Error.TheVariants as error
+use Rattle.pg_faults.specs.declared.error.Error.{Error}
+use Rattle.pg_faults.specs.declared.error.Error.TheVariants as error
 use Rattle.pg_errors.specs.Views.{failure_of}
 use Rattle.pg_tool.specs.Reading.{longest_text, ReadWhole}
 use Rattle.pg_tool.proofs.Completing.{must_text}

@@ -3,7 +3,7 @@ use Rattle.std.proofs.Common.{◌≡◌, ℕ, List, length, map, Some, IfOk, Res
 use Rattle.std.proofs.lemmas.List.{map-set}
 use Rattle.std.proofs.lemmas.Option.{slice_get-map}
 use Rattle.pg_desk.specs.declared.event.Event.{Event}
-use Rattle.pg_errors.specs.declared.error.Error.{Error}
+use Rattle.pg_faults.specs.declared.error.Error.{Error}
 use Rattle.pg_session.specs.HandleTurns.{HandleTurns}
 use Rattle.pg_session.specs.declared.handle_turn.Polling.{Polling}
 use Rattle.pg_text.specs.declared.command.Command.{Command}

@@ -4,9 +4,9 @@ use Rattle.std.specs.Prelude.{IsTrue}
 use Rattle.pg_spec.specs.Links.{LinkView}
 use Rattle.pg_wire.specs.LinkCalls.{Keeps, SameBytes, SameWriting, Continues}
 use Rattle.pg_connect.specs.Calm.{MissesOne}
-use Rattle.pg_errors.specs.declared.cause.Cause.TheVariants as cause
-use Rattle.pg_errors.specs.declared.error.Error.{Error}
-use Rattle.pg_errors.specs.declared.error.Error.TheVariants as error
+use Rattle.pg_faults.specs.declared.cause.Cause.TheVariants as cause
+use Rattle.pg_faults.specs.declared.error.Error.{Error}
+use Rattle.pg_faults.specs.declared.error.Error.TheVariants as error
 use Rattle.pg_connect.specs.declared.startup.Startup.{Startup}
 use Rattle.pg_connect.specs.StartupPolls.{GoesOn}
 use Rattle.pg_connect.specs.Startups.{Opening, Opened, Failed}

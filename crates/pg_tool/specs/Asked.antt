@@ -4,9 +4,9 @@ use Rattle.pg_spec.specs.Causes.{Call}
 use Rattle.pg_spec.specs.ConnectionStrings.{Means, only_user}
 use Rattle.pg_spec.specs.Links.{LinkView}
 use Rattle.pg_spec.specs.Settings.{Settings}
-use Rattle.pg_errors.specs.declared.cause.Cause.TheVariants as cause
-use Rattle.pg_errors.specs.declared.error.Error.{Error}
-use Rattle.pg_errors.specs.declared.error.Error.TheVariants as error
+use Rattle.pg_faults.specs.declared.cause.Cause.TheVariants as cause
+use Rattle.pg_faults.specs.declared.error.Error.{Error}
+use Rattle.pg_faults.specs.declared.error.Error.TheVariants as error
 use Rattle.pg_text.specs.Views.{scripts_of}
 use Rattle.pg_text.specs.declared.command.Command.{Command}
 

@@ -3,8 +3,8 @@ use Rattle.std.specs.Prelude.{◌≡◌, ◌≢◌, ◌⊎◌, ℕ, List, [], �
 use Rattle.pg_client.specs.Queries.{IsLiveQuery, place_of_query}
 use Rattle.pg_desk.specs.declared.event.Event.{Event}
 use Rattle.pg_desk.specs.declared.event.Stamp.{Stamp}
-use Rattle.pg_errors.specs.declared.error.Error.{Error}
-use Rattle.pg_errors.specs.declared.error.Error.TheVariants.{OutOfMemory}
+use Rattle.pg_faults.specs.declared.error.Error.{Error}
+use Rattle.pg_faults.specs.declared.error.Error.TheVariants.{OutOfMemory}
 use Rattle.pg_query.specs.Meaning.{Place, Pauses, GoesToAnswer}
 use Rattle.pg_query.specs.declared.simple_message.SimpleMessage.{SimpleMessage}
 use Rattle.pg_session.specs.HandleTurns.{HandleTurns, kept_answer}

@@ -6,8 +6,8 @@ use Rattle.pg_connect.specs.declared.startup.Startup.{Startup}
 use Rattle.pg_connect.specs.StartupPolls as startups
 use Rattle.pg_session.specs.Failures.{PauseFails, StopsOpening}
 use Rattle.pg_connect.specs.Startups.{Opening, Opened, Failed}
-use Rattle.pg_errors.specs.declared.error.Error.{Error}
-use Rattle.pg_errors.specs.declared.error.Error.TheVariants as error
+use Rattle.pg_faults.specs.declared.error.Error.{Error}
+use Rattle.pg_faults.specs.declared.error.Error.TheVariants as error
 
 -- where one poll of the startup left it
 abbrev pub Steps : (name nonce : List ℕ) (begin now : LinkView) → Startup → Result (Option Bool) Error → Type 0

@@ -1,8 +1,8 @@
 -- What stands between two turns of a session, and what its steps do.
 use Rattle.std.specs.Prelude.{◌≡◌, ◌⊎◌, ℕ, ◌^◌, ◌<◌, ◌≤◌, Bool, true, false, List, ◌++◌, ◌+◌, ◌*◌, if◌then◌else◌, length, map, Option, Some, None, IfErr, IfSome, OnOk, Result}
 use Rattle.std.specs.List.{All}
-use Rattle.pg_errors.specs.declared.error.Error.{Error}
-use Rattle.pg_errors.specs.declared.error.Error.TheVariants as error
+use Rattle.pg_faults.specs.declared.error.Error.{Error}
+use Rattle.pg_faults.specs.declared.error.Error.TheVariants as error
 use Rattle.pg_spec.specs.Links.{LinkView}
 use Rattle.pg_wire.specs.LinkCalls.{Continues}
 use Rattle.pg_connect.specs.Calm.{MissesFew, StaysCalm}

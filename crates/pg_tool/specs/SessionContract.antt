@@ -3,7 +3,7 @@ use Rattle.std.specs.Prelude.{◌≡◌, ◌<◌, ℕ, List, length, Result, Ok,
 use Rattle.pg_spec.specs.Causes.{Call, HasCause, IsNotBuilt, OfDialogue, Unless, WithSettings}
 use Rattle.pg_spec.specs.Links.{OfBytes}
 use Rattle.pg_errors.specs.Views.{failure_of}
-use Rattle.pg_errors.specs.declared.error.Error.{Error}
+use Rattle.pg_faults.specs.declared.error.Error.{Error}
 use Rattle.pg_text.specs.Views.{report_of}
 use Rattle.pg_text.specs.declared.report.Report as told
 use Rattle.pg_spec.specs.EndedWell.{Session, HasRun, EndedWell}

@@ -1,10 +1,10 @@
 -- What the faults stand for. Want of memory is no fault of the bytes or the arguments.
 use Rattle.std.specs.Prelude.{Option, Some, None}
 use Rattle.pg_spec.specs.Faults as spec
-use Rattle.pg_wire.specs.declared.fault.WireFault.{WireFault}
-use Rattle.pg_wire.specs.declared.fault.WireFault.TheVariants as wire
-use Rattle.pg_wire.specs.declared.fault.FrameFault.{FrameFault}
-use Rattle.pg_wire.specs.declared.fault.FrameFault.TheVariants as frame
+use Rattle.pg_faults.specs.declared.fault.WireFault.{WireFault}
+use Rattle.pg_faults.specs.declared.fault.WireFault.TheVariants as wire
+use Rattle.pg_faults.specs.declared.fault.FrameFault.{FrameFault}
+use Rattle.pg_faults.specs.declared.fault.FrameFault.TheVariants as frame
 
 -- what is wrong with the bytes, None for want of memory
 abbrev pub wire_fault : WireFault → Option spec.WireFault

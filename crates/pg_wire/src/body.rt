@@ -3,7 +3,7 @@
 ghost use Rattle.std.specs.Prelude.{◌≡◌, true, false, MatchResult, IfOk, IfErr, is_ok};
 ghost use Rattle.std.specs.Str.{is_utf8};
 
-use crate::fault::WireFault;
+use pg_faults::WireFault;
 use crate::texts::{TextPair, utf8};
 use bytes::Bytes;
 use std::marker::Model;

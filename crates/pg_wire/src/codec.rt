@@ -7,7 +7,7 @@ ghost use Rattle.pg_wire.specs.Writes.{Writes};
 ghost use Rattle.pg_wire.specs.Fronts.{IsWhole, is_aside_tag};
 
 use crate::backend::BackendMessages;
-use crate::fault::{FrameFault, WireFault};
+use pg_faults::{FrameFault, WireFault};
 use crate::front::{Found, batch_end, front, is_aside};
 use crate::frontend::copy_data;
 use crate::layout::{is_laid_out, message_of};

@@ -4,7 +4,7 @@ ghost use Rattle.std.specs.Prelude.{◌≡◌, ◌<◌, length, IfOk, IfSome};
 ghost use Rattle.pg_wire.specs.Steps.{Steps, error_step};
 
 use crate::body::ErrorResponseBody;
-use crate::fault::WireFault;
+use pg_faults::WireFault;
 use crate::texts::text_end;
 use std::marker::Model;
 

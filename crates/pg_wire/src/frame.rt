@@ -5,7 +5,7 @@ ghost use Rattle.pg_spec.specs.Bytes.{text0};
 ghost use Rattle.pg_spec.specs.Frames.{has_zero as spec_has_zero};
 ghost use Rattle.pg_wire.specs.Begins.{Begins, RefusesLength};
 
-use crate::fault::FrameFault;
+use pg_faults::FrameFault;
 use bytes::BytesMut;
 
 /// The largest number that a length field holds, in bytes.

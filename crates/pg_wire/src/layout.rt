@@ -13,7 +13,7 @@ use crate::body::{
     ErrorResponseBody, NotificationResponseBody, ParameterDescriptionBody, ParameterStatusBody,
     ReadyForQueryBody, RowDescriptionBody,
 };
-use crate::fault::WireFault;
+use pg_faults::WireFault;
 use crate::message::Message;
 use crate::texts::{TextPair, pair_end, text_end};
 use bytes::{Buf, Bytes};

@@ -5,7 +5,7 @@ ghost use Rattle.std.specs.Prelude.{◌≡◌, ◌<◌, length, Ok, Some, None, 
 ghost use Rattle.pg_wire.specs.Steps.{Refuses, mechanism_step};
 
 use crate::body::AuthenticationSaslBody;
-use crate::fault::WireFault;
+use pg_faults::WireFault;
 use crate::texts::{text_end, utf8};
 use std::marker::Model;
 

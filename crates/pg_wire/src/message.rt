@@ -9,7 +9,7 @@ use crate::body::{
     ErrorResponseBody, NotificationResponseBody, ParameterDescriptionBody, ParameterStatusBody,
     ReadyForQueryBody, RowDescriptionBody,
 };
-use crate::fault::WireFault;
+use pg_faults::WireFault;
 use crate::front::{Found, front};
 use crate::layout::message_of;
 use bytes::Bytes;

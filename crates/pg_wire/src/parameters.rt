@@ -5,7 +5,7 @@ ghost use Rattle.std.specs.Prelude.{◌≡◌, ◌<◌, Ok, IfOk, IfSome, MatchR
 ghost use Rattle.pg_wire.specs.Steps.{Steps, Refuses, oid_at, parameter_step};
 
 use crate::body::ParameterDescriptionBody;
-use crate::fault::WireFault;
+use pg_faults::WireFault;
 use bytes::Buf;
 use std::marker::Model;
 

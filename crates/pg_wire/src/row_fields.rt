@@ -5,7 +5,7 @@ ghost use Rattle.pg_spec.specs.Bodies.{utf8_at, field_at};
 ghost use Rattle.pg_wire.specs.Steps.{Steps, Refuses, field_step};
 
 use crate::body::RowDescriptionBody;
-use crate::fault::WireFault;
+use pg_faults::WireFault;
 use crate::texts::{text_end, utf8};
 use bytes::Buf;
 use std::marker::Model;

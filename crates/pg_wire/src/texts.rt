@@ -4,7 +4,7 @@ ghost use Rattle.std.specs.Prelude.{◌≡◌, true, false, MatchResult};
 ghost use Rattle.std.specs.Str.{is_utf8};
 ghost use Rattle.pg_wire.specs.Bodies.{TextEnds, PairEnds, text_pair};
 
-use crate::fault::WireFault;
+use pg_faults::WireFault;
 use bytes::Bytes;
 use std::marker::Model;
 

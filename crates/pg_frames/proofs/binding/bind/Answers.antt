@@ -1,7 +1,7 @@
 use Rattle.std.proofs.Common.{Result, ap, sym, subst, ◌∙◌}
 use Rattle.pg_spec.specs.Frames.{bind_frame}
 use Rattle.pg_wire.specs.Writes.{Writes}
-use Rattle.pg_wire.specs.declared.fault.FrameFault.{FrameFault}
+use Rattle.pg_faults.specs.declared.fault.FrameFault.{FrameFault}
 use Rattle.pg_wire.proofs.HandedOn.{handed-on}
 use Rattle.std.specs.Int.{w16}
 use Rattle.std.proofs.lemmas.Int.{to_z-of_z}

@@ -1,7 +1,7 @@
 use Rattle.std.proofs.Common.{Result, sym, subst}
 use Rattle.pg_spec.specs.Frames.{parse_frame}
 use Rattle.pg_wire.specs.Writes.{Writes}
-use Rattle.pg_wire.specs.declared.fault.FrameFault.{FrameFault}
+use Rattle.pg_faults.specs.declared.fault.FrameFault.{FrameFault}
 use Rattle.pg_wire.proofs.HandedOn.{handed-on}
 use Rattle.pg_frames.proofs.Written.{parse_refused, parse_written}
 use Rattle.pg_frames.proofs.parsing.parse.Goals as goal

@@ -1,6 +1,6 @@
 use Rattle.std.proofs.Common.{[], ◌∷◌, ◌++◌, List, Err, ap, sym, subst, ◌∙◌, append-nil, rules}
 use Rattle.pg_spec.specs.RawMessages.{RawMessage, bytes_left, messages, has_bad_header}
-use Rattle.pg_errors.specs.declared.error.Error.{Error}
+use Rattle.pg_faults.specs.declared.error.Error.{Error}
 use Rattle.pg_connect.specs.declared.startup.Startup.{Startup}
 use Rattle.pg_connect.specs.Startups.{HearsAll}
 use Rattle.pg_connect.proofs.Hearing.{all-fails, ends-later, fails-later, refused-all, walked-all, walked-on}

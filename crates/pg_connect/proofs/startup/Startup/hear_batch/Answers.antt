@@ -2,7 +2,7 @@ use Rattle.std.proofs.Common.{◌∷◌, [], ◌++◌, refl, sym, subst, Ok, Err
 use Rattle.pg_spec.specs.RawMessages.{RawMessage}
 use Rattle.pg_spec.specs.Messages.{message_of, ReadyForQuery}
 use Rattle.pg_connect.proofs.Tags.{is_ready_message}
-use Rattle.pg_errors.specs.declared.error.Error.{Error}
+use Rattle.pg_faults.specs.declared.error.Error.{Error}
 use Rattle.pg_connect.specs.Startups.{Hears}
 use Rattle.pg_connect.proofs.Hearing.{IsRest, rest-of-batch, last-of-batch, walked-on, walked-all, done-later, fails-later, malformed-later}
 use Rattle.pg_connect.proofs.startup.Startup.hear_batch.Goals as goal

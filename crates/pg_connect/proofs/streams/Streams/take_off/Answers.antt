@@ -1,7 +1,7 @@
 use Rattle.std.proofs.Common.{ℕ, List, [], refl, sym, ap, subst, ◌∙◌, map, Option, Some, Ok, Err}
 use Rattle.pg_wire.specs.Decode.{Decodes}
 use Rattle.pg_wire.specs.declared.codec.BackendMessage.{BackendMessage}
-use Rattle.pg_wire.specs.declared.fault.WireFault.{WireFault}
+use Rattle.pg_faults.specs.declared.fault.WireFault.{WireFault}
 use Rattle.pg_connect.specs.declared.streams.Streams.{Streams}
 use Rattle.pg_connect.specs.Passes.{Passes, waiting, notice_of}
 use Rattle.pg_connect.proofs.Joining.{keeps_same, untouched_same}

@@ -1,5 +1,5 @@
 use Rattle.std.proofs.Common.{Bool, Option, Some, Result, Ok, IfErr, IfOk, refl, subst, sym, inl, inr}
-use Rattle.pg_errors.specs.declared.error.Error.{Error}
+use Rattle.pg_faults.specs.declared.error.Error.{Error}
 use Rattle.futures.specs.declared.task.Poll.TheVariants.{Ready}
 use Rattle.pg_hub.specs.Fits.{HubBecomes}
 use Rattle.pg_session.specs.Failures.{TurnFails}

@@ -2,19 +2,19 @@
 use Rattle.std.specs.Prelude.{ℕ, ◌==◌, List, Option, Some, None, option_map, if◌then◌else◌, codes}
 use Rattle.std.specs.Option.{option_and_then}
 use Rattle.std.specs.Str.{byte}
-use Rattle.pg_errors.specs.declared.cause.Cause.{Cause}
-use Rattle.pg_errors.specs.declared.cause.Cause.TheVariants as cause
-use Rattle.pg_errors.specs.declared.cause.ScramFault.TheVariants as scram
-use Rattle.pg_errors.specs.declared.db_error.DbError.{DbError}
-use Rattle.pg_errors.specs.declared.db_error.ErrorPosition.{ErrorPosition}
-use Rattle.pg_errors.specs.declared.db_error.ErrorPosition.TheVariants as place
-use Rattle.pg_errors.specs.declared.error.Error.{Error}
-use Rattle.pg_errors.specs.declared.error.Error.TheVariants as error
-use Rattle.pg_errors.specs.declared.error_kind.ErrorKind.{ErrorKind}
-use Rattle.pg_errors.specs.declared.error_kind.ErrorKind.TheVariants as kind
-use Rattle.pg_errors.specs.declared.severity.Severity.{Severity}
-use Rattle.pg_errors.specs.declared.severity.Severity.TheVariants as severity
-use Rattle.pg_errors.specs.Sources.{db_error_in}
+use Rattle.pg_faults.specs.declared.cause.Cause.{Cause}
+use Rattle.pg_faults.specs.declared.cause.Cause.TheVariants as cause
+use Rattle.pg_faults.specs.declared.cause.ScramFault.TheVariants as scram
+use Rattle.pg_faults.specs.declared.db_error.DbError.{DbError}
+use Rattle.pg_faults.specs.declared.db_error.ErrorPosition.{ErrorPosition}
+use Rattle.pg_faults.specs.declared.db_error.ErrorPosition.TheVariants as place
+use Rattle.pg_faults.specs.declared.error.Error.{Error}
+use Rattle.pg_faults.specs.declared.error.Error.TheVariants as error
+use Rattle.pg_faults.specs.declared.error_kind.ErrorKind.{ErrorKind}
+use Rattle.pg_faults.specs.declared.error_kind.ErrorKind.TheVariants as kind
+use Rattle.pg_faults.specs.declared.severity.Severity.{Severity}
+use Rattle.pg_faults.specs.declared.severity.Severity.TheVariants as severity
+use Rattle.pg_faults.specs.Sources.{db_error_in}
 
 -- the kind of an error, by its variant
 abbrev pub kind_of : Error → ErrorKind

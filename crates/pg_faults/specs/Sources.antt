@@ -1,10 +1,10 @@
 -- What an error holds.
 use Rattle.std.specs.Prelude.{Option, Some, None, Bool, true, false}
-use Rattle.pg_errors.specs.declared.db_error.DbError.{DbError}
-use Rattle.pg_errors.specs.declared.error.Error.{Error}
-use Rattle.pg_errors.specs.declared.error.Error.TheVariants as error
-use Rattle.pg_errors.specs.declared.error.Source.{Source}
-use Rattle.pg_errors.specs.declared.error.Source.TheVariants as source
+use Rattle.pg_faults.specs.declared.db_error.DbError.{DbError}
+use Rattle.pg_faults.specs.declared.error.Error.{Error}
+use Rattle.pg_faults.specs.declared.error.Error.TheVariants as error
+use Rattle.pg_faults.specs.declared.error.Source.{Source}
+use Rattle.pg_faults.specs.declared.error.Source.TheVariants as source
 
 -- the error of the server
 abbrev pub db_error_in : Error → Option DbError

@@ -1,10 +1,10 @@
 //! What an error comes from.
 
 ghost use Rattle.std.specs.Prelude.{◌≡◌, option_map};
-ghost use Rattle.pg_errors.specs.Getters.{text_of_cause};
+ghost use Rattle.pg_faults.specs.Getters.{text_of_cause};
 
+use crate::fault::{FrameFault, WireFault};
 use pg_types::{OutOfMemory, Text, ValueFault};
-use pg_wire::{FrameFault, WireFault};
 use std::alloc::AllocError;
 
 /// What is wrong with a message of the SCRAM dialogue (RFC 5802).
@@ -27,7 +27,7 @@ pub enum ScramFault {
 
 impl From<OutOfMemory> for ScramFault {
     ghost use Rattle.std.specs.Prelude.{◌≡◌};
-    ghost use Rattle.pg_errors.specs.declared.cause.ScramFault.TheVariants.{OutOfMemory};
+    ghost use Rattle.pg_faults.specs.declared.cause.ScramFault.TheVariants.{OutOfMemory};
 
     ghost from_gives = { λ _ fault. fault ≡ OutOfMemory };
 
@@ -38,7 +38,7 @@ impl From<OutOfMemory> for ScramFault {
 
 impl From<AllocError> for ScramFault {
     ghost use Rattle.std.specs.Prelude.{◌≡◌};
-    ghost use Rattle.pg_errors.specs.declared.cause.ScramFault.TheVariants.{OutOfMemory};
+    ghost use Rattle.pg_faults.specs.declared.cause.ScramFault.TheVariants.{OutOfMemory};
 
     ghost from_gives = { λ _ fault. fault ≡ OutOfMemory };
 

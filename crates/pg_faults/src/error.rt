@@ -2,8 +2,8 @@
 
 ghost use Rattle.std.specs.Prelude.{◌≡◌, option_map};
 ghost use Rattle.std.specs.Option.{option_copied};
-ghost use Rattle.pg_errors.specs.Getters.{cause_in, kind_of, numbers_in, place_in, sql_state_in};
-ghost use Rattle.pg_errors.specs.Sources.{db_error_in, is_closed_error, source_in};
+ghost use Rattle.pg_faults.specs.Getters.{cause_in, kind_of, numbers_in, place_in, sql_state_in};
+ghost use Rattle.pg_faults.specs.Sources.{db_error_in, is_closed_error, source_in};
 
 use crate::cause::Cause;
 use crate::db_error::DbError;
@@ -202,7 +202,7 @@ impl Error {
 
 impl From<OutOfMemory> for Error {
     ghost use Rattle.std.specs.Prelude.{◌≡◌};
-    ghost use Rattle.pg_errors.specs.declared.error.Error.TheVariants.{OutOfMemory};
+    ghost use Rattle.pg_faults.specs.declared.error.Error.TheVariants.{OutOfMemory};
 
     ghost from_gives = { λ _ e. e ≡ OutOfMemory };
 
@@ -213,7 +213,7 @@ impl From<OutOfMemory> for Error {
 
 impl From<AllocError> for Error {
     ghost use Rattle.std.specs.Prelude.{◌≡◌};
-    ghost use Rattle.pg_errors.specs.declared.error.Error.TheVariants.{OutOfMemory};
+    ghost use Rattle.pg_faults.specs.declared.error.Error.TheVariants.{OutOfMemory};
 
     ghost from_gives = { λ _ e. e ≡ OutOfMemory };
 
@@ -225,7 +225,7 @@ impl From<AllocError> for Error {
 /// So that `?` takes a refused `push`. What wasn't stored is dropped.
 impl<T: Drop> From<AllocFailed<T>> for Error {
     ghost use Rattle.std.specs.Prelude.{◌≡◌};
-    ghost use Rattle.pg_errors.specs.declared.error.Error.TheVariants.{OutOfMemory};
+    ghost use Rattle.pg_faults.specs.declared.error.Error.TheVariants.{OutOfMemory};
 
     ghost from_gives = { λ _ e. e ≡ OutOfMemory };
 

@@ -40,7 +40,7 @@ pub enum FrameFault {
 
 impl From<AllocError> for WireFault {
     ghost use Rattle.std.specs.Prelude.{◌≡◌};
-    ghost use Rattle.pg_wire.specs.declared.fault.WireFault.TheVariants.{OutOfMemory};
+    ghost use Rattle.pg_faults.specs.declared.fault.WireFault.TheVariants.{OutOfMemory};
 
     ghost from_gives = { λ _ e. e ≡ OutOfMemory };
 
@@ -51,7 +51,7 @@ impl From<AllocError> for WireFault {
 
 impl From<AllocError> for FrameFault {
     ghost use Rattle.std.specs.Prelude.{◌≡◌};
-    ghost use Rattle.pg_wire.specs.declared.fault.FrameFault.TheVariants.{OutOfMemory};
+    ghost use Rattle.pg_faults.specs.declared.fault.FrameFault.TheVariants.{OutOfMemory};
 
     ghost from_gives = { λ _ e. e ≡ OutOfMemory };
 

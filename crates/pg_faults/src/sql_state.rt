@@ -18,7 +18,8 @@ impl SqlState {
     /// `undefined_column`.
     pub const UNDEFINED_COLUMN: &'static str = "42703";
 
-    pub(crate) fn new(code: Text) -> SqlState
+    /// The state of a code that is owned.
+    pub fn new(code: Text) -> SqlState
         ensures { result.code ≡ code }
     {
         SqlState { code }
