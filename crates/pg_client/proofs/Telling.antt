@@ -17,7 +17,6 @@ use Rattle.pg_wire.specs.declared.message.Message.{Message}
 use Rattle.pg_wire.specs.declared.message.Message.TheVariants as wire
 use Rattle.pg_faults.specs.declared.error.Error.{Error}
 use Rattle.pg_faults.specs.declared.error.Error.TheVariants.{UnexpectedMessage}
-use Rattle.pg_errors.specs.Meanings.{error_of}
 use Rattle.pg_query.specs.Messages.{IsMalformed}
 use Rattle.pg_query.specs.Replies.{malformed_error}
 use Rattle.pg_query.specs.declared.simple_message.SimpleMessage.{SimpleMessage}
@@ -95,7 +94,7 @@ told-enough take state ms parts h is =
 malformed-is : (o : Option spec.WireFault) (raw : RawMessage) (state : SimpleState) (e : Error) → IsMalformed raw o → Some e ≡ malformed_error o → FailsBy (simple_next state raw) e
 malformed-is None raw state e m h = absurd m
 malformed-is (Some c) raw state e m h =
-    let same : e ≡ error_of (spec.Parse (spec.Wire c)) = cc in
+    let same : e ≡ spec.Parse (spec.Wire c) = cc in
     let next : simple_next state raw ≡ Answers (Err (spec.Parse (spec.Wire c))) =
     ap (λ (r : Result _ _). elim r as (λ _. SimpleNext) [ Ok message ↦ simple_message state message | Err fault ↦ Answers (Err (spec.Parse (spec.Wire fault))) ]) m in
     subst (λ (n : SimpleNext). FailsBy n e) (sym next) same

@@ -8,8 +8,6 @@ use Rattle.pg_spec.specs.SimpleQuery.{Item, Columns, Row, Complete, SimpleAnswer
 use Rattle.pg_spec.specs.Messages.{CommandComplete, DataRow}
 use Rattle.pg_faults.specs.declared.error.Error.{Error}
 use Rattle.pg_faults.specs.declared.error.Error.TheVariants.{OutOfMemory}
-use Rattle.pg_errors.specs.Meanings.{error_of}
-use Rattle.pg_errors.specs.Views.{failure_of}
 use Rattle.pg_query.specs.Dialogue.{Dialogue, Answer}
 use Rattle.pg_query.specs.Requests.{asks}
 use Rattle.pg_query.specs.declared.simple_message.SimpleMessage.{SimpleMessage}
@@ -33,12 +31,12 @@ message_from (Complete n) = simple.Complete n
 -- what an answer stands for
 abbrev pub answer_view : Result (List SimpleMessage) Error → SimpleAnswer
 answer_view (Ok parts) = Ok (map item_of parts)
-answer_view (Err e) = Err (failure_of e)
+answer_view (Err e) = Err e
 
 -- the answer that stands for it
 abbrev pub answer_from : SimpleAnswer → Result (List SimpleMessage) Error
 answer_from (Ok items) = Ok (map message_from items)
-answer_from (Err failure) = Err (error_of failure)
+answer_from (Err failure) = Err failure
 
 -- what the messages tell, from this state on
 abbrev pub told_from : (take : Option ℕ) → SimpleState → List RawMessage → Option (Result (List SimpleMessage) Error)
@@ -58,7 +56,7 @@ reading_of r = told_from r.take (state_of r)
 
 -- it is the answer, by this error
 abbrev pub FailsBy : SimpleNext → Error → Type 0
-FailsBy (Answers (Err failure)) e = e ≡ error_of failure
+FailsBy (Answers (Err failure)) e = e ≡ failure
 FailsBy _ e = ⊥
 
 -- what was seen of a message, by what it does to the reading
@@ -77,7 +75,7 @@ next_of_row state count cells = simple_message state (DataRow count cells)
 
 -- a frame that can't be written is the answer
 abbrev pub asks_by : (take : Option ℕ) → Result (List ℕ) spec.FrameFault → Dialogue (List SimpleMessage)
-asks_by take (Err fault) = Answer (Err (error_of (spec.Encode (spec.Frame fault))))
+asks_by take (Err fault) = Answer (Err (spec.Encode (spec.Frame fault)))
 asks_by take (Ok frame) = asks (is_some take) frame (told take)
 
 -- Books one request, of the text, and reads its reply to the answer. Where only so many parts are wanted,
@@ -88,7 +86,7 @@ simple_query text take = asks_by take (query_frame text)
 -- the frame of a text, or the error of one that can't be sent; want of memory may come anywhere
 abbrev pub FramesQuery : List ℕ → Result (List ℕ) Error → Type 0
 FramesQuery text (Ok frame) = query_frame text ≡ Ok frame
-FramesQuery text (Err e) = (e ≡ OutOfMemory) ⊎ ((fault : spec.FrameFault) × (query_frame text ≡ Err fault) × (e ≡ error_of (spec.Encode (spec.Frame fault))))
+FramesQuery text (Err e) = (e ≡ OutOfMemory) ⊎ ((fault : spec.FrameFault) × (query_frame text ≡ Err fault) × (e ≡ spec.Encode (spec.Frame fault)))
 
 -- it asks as a simple query does, unless memory lacked for the frame
 abbrev pub AsksQuery : (text : List ℕ) → (take : Option ℕ) → Dialogue (List SimpleMessage) → Type 0

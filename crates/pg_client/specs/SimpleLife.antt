@@ -5,7 +5,6 @@ use Rattle.pg_spec.specs.RawMessages.{RawMessage}
 use Rattle.pg_spec.specs.SimpleQuery.{simple_reading}
 use Rattle.pg_desk.specs.History.{IsFrontOf}
 use Rattle.pg_faults.specs.declared.error.Error.{Error}
-use Rattle.pg_errors.specs.Meanings.{error_of}
 use Rattle.pg_query.specs.Lives.{Deed, messages_taken}
 use Rattle.pg_query.specs.Requests.{BooksOne, BooksNone, IsRefused}
 use Rattle.pg_query.specs.declared.simple_message.SimpleMessage.{SimpleMessage}
@@ -24,7 +23,7 @@ pub record AnswersQuery (take : Option ℕ) (frame : List ℕ) (done : List Deed
 
 -- what was done up to an answer, by the frame of the text
 abbrev pub AnswersBy : (take : Option ℕ) → Result (List ℕ) spec.FrameFault → List Deed → Result (List SimpleMessage) Error → Type 0
-AnswersBy take (Err fault) done r = (done ≡ []) × (r ≡ Err (error_of (spec.Encode (spec.Frame fault))))
+AnswersBy take (Err fault) done r = (done ≡ []) × (r ≡ Err (spec.Encode (spec.Frame fault)))
 AnswersBy take (Ok frame) done r = AnswersQuery take frame done r ⊎ BooksNone frame done r
 
 -- One request was booked, and no front of the messages taken of it decides an answer.

@@ -5,7 +5,6 @@ use Rattle.pg_spec.specs.Faults as spec
 use Rattle.pg_faults.specs.declared.error.Error.{Error}
 use Rattle.pg_faults.specs.declared.error.Error.TheVariants as error
 use Rattle.pg_faults.specs.declared.cause.Cause.TheVariants as cause
-use Rattle.pg_errors.specs.Views.{cause_of}
 use Rattle.pg_config.specs.declared.config.Config.{Config}
 use Rattle.pg_config.specs.declared.fault.Fault.{Fault}
 use Rattle.pg_config.specs.declared.fault.Fault.TheVariants as fault
@@ -34,13 +33,13 @@ error_from fault.OutOfMemory = error.OutOfMemory
 -- what is answered is said; ConfigParse holds the fault, and want of memory may come at any time
 abbrev pub AnswersSaid : (Result Config spec.Cause → Type 0) → Result Config Error → Type 0
 AnswersSaid Says (Ok config) = Says (Ok config)
-AnswersSaid Says (Err (error.ConfigParse c)) = Says (Err (cause_of c))
+AnswersSaid Says (Err (error.ConfigParse c)) = Says (Err c)
 AnswersSaid Says (Err error.OutOfMemory) = Unit {0}
 AnswersSaid Says (Err other) = other ≡ error.OutOfMemory
 
 -- what is said is answered
 abbrev pub IsAnswered : Result Config spec.Cause → Result Config Error → Type 0
 IsAnswered said (Ok config) = said ≡ Ok config
-IsAnswered said (Err (error.ConfigParse c)) = said ≡ Err (cause_of c)
+IsAnswered said (Err (error.ConfigParse c)) = said ≡ Err c
 IsAnswered said (Err error.OutOfMemory) = Unit {0}
 IsAnswered said (Err other) = other ≡ error.OutOfMemory

@@ -20,7 +20,7 @@ use Rattle.pg_faults.specs.declared.db_error.DbError.{DbError}
 use Rattle.pg_faults.specs.declared.error.Error.{Error}
 use Rattle.pg_faults.specs.declared.error.Error.TheVariants as error
 use Rattle.pg_errors.specs.Parsing.{IsHandedOut}
-use Rattle.pg_errors.specs.Views.{async_of, cause_of, db_error, failure_of}
+use Rattle.pg_errors.specs.Views.{async_of}
 use Rattle.pg_connect.specs.declared.fault.ConnectionFault.{ConnectionFault}
 use Rattle.pg_connect.specs.declared.fault.ConnectionFault.TheVariants as fault
 use Rattle.pg_connect.specs.declared.ends.Off.{Off}
@@ -39,7 +39,7 @@ use Rattle.pg_connect.specs.Passes.{Goes, Hands, waiting, delayed_in}
 
 -- why such a message can't be read
 abbrev pub IsUnreadable : Message → ConnectionFault → Type 0
-IsUnreadable message (fault.Unreadable c) = aside_fault (message_view message) ≡ Some (cause_of c)
+IsUnreadable message (fault.Unreadable c) = aside_fault (message_view message) ≡ Some c
 IsUnreadable message fault.OutOfMemory = Unit {0}
 IsUnreadable message _ = ⊥
 
@@ -72,7 +72,7 @@ pub record LeavesDelayed (s : Streams) (c : Cause) : Type 0 where
   pub notice : ErrorResponseBody
   pub others : List ErrorResponseBody
   pub first : s.delayed.items ≡ notice ∷ others
-  pub means : aside_fault (NoticeResponse notice.fields) ≡ Some (cause_of c)
+  pub means : aside_fault (NoticeResponse notice.fields) ≡ Some c
 
 -- an error of reading a message, as the fault of the connection
 abbrev pub unreadable_as : Error → ConnectionFault
@@ -90,7 +90,7 @@ pub record FirstReads (s : Streams) (e : DbError) : Type 0 where
   pub notice : ErrorResponseBody
   pub others : List ErrorResponseBody
   pub first : s.delayed.items ≡ notice ∷ others
-  pub means : db_error_of notice.fields ≡ Some (db_error e)
+  pub means : db_error_of notice.fields ≡ Some e
 
 -- how the first notice that is delayed reads
 abbrev pub ReadsFirst : Streams → Option (Result DbError ConnectionFault) → Type 0
@@ -120,13 +120,13 @@ has_no_request _ = false
 
 -- what a message means that comes where no request is open
 abbrev pub MeansUnasked : Message → ConnectionFault → Type 0
-MeansUnasked message (fault.Unasked e) = failure_of e ≡ unasked (message_view message)
+MeansUnasked message (fault.Unasked e) = e ≡ unasked (message_view message)
 MeansUnasked message fault.OutOfMemory = Unit {0}
 MeansUnasked message _ = ⊥
 
 -- what a batch means that comes where no request is open: what its first message means
 abbrev pub IsUnasked : List RawMessage → ConnectionFault → Type 0
-IsUnasked (first ∷ batch) (fault.Unasked e) = failure_of e ≡ out_of_turn first
+IsUnasked (first ∷ batch) (fault.Unasked e) = e ≡ out_of_turn first
 IsUnasked batch fault.OutOfMemory = Unit {0}
 IsUnasked batch _ = ⊥
 
@@ -186,7 +186,7 @@ pub record BreaksLayout (s : Streams) : Type 0 where
 pub record LeavesUnread (s : Streams) (c : Cause) : Type 0 where
   pub message : Message
   pub unread : s.unread ≡ Some message
-  pub means : aside_fault (message_view message) ≡ Some (cause_of c)
+  pub means : aside_fault (message_view message) ≡ Some c
 
 -- ---- the steps
 

@@ -1,3 +1,2 @@
-pub mod MeaningLemmas
 pub mod Numbers
 pub mod FieldLemmas

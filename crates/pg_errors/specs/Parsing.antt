@@ -11,11 +11,11 @@ use Rattle.pg_faults.specs.declared.db_error.DbError.{DbError}
 use Rattle.pg_faults.specs.declared.error.Error.{Error}
 use Rattle.pg_faults.specs.declared.error.Error.TheVariants as error
 use Rattle.pg_errors.specs.declared.async_message.AsyncMessage.{AsyncMessage}
-use Rattle.pg_errors.specs.Views.{db_error, cause_of, async_of}
+use Rattle.pg_errors.specs.Views.{async_of}
 
 -- the error of the fields, or that they are none
 abbrev pub ParsesError : List ℕ → Result DbError Error → Type 0
-ParsesError fields (Ok e) = db_error_of fields ≡ Some (db_error e)
+ParsesError fields (Ok e) = db_error_of fields ≡ Some e
 ParsesError fields (Err (error.Parse cause.Fields)) = db_error_of fields ≡ None
 ParsesError fields (Err error.OutOfMemory) = Unit {0}
 ParsesError fields (Err _) = ⊥
@@ -30,6 +30,6 @@ IsHandedOut _ = ⊥
 abbrev pub ReadsAside : Message → Result (Option AsyncMessage) Error → Type 0
 ReadsAside m (Ok None) = IsHandedOut m → ⊥
 ReadsAside m (Ok (Some a)) = async_message (message_view m) ≡ Some (async_of a)
-ReadsAside m (Err (error.Parse c)) = IsHandedOut m × (aside_fault (message_view m) ≡ Some (cause_of c))
+ReadsAside m (Err (error.Parse c)) = IsHandedOut m × (aside_fault (message_view m) ≡ Some c)
 ReadsAside m (Err error.OutOfMemory) = Unit {0}
 ReadsAside m (Err _) = ⊥

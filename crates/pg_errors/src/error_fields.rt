@@ -8,7 +8,6 @@ ghost use Rattle.std.specs.Str.Lossy.{utf8_lossy};
 ghost use Rattle.pg_spec.specs.DbErrors as spec;
 ghost use Rattle.pg_spec.specs.Numerals as numerals;
 ghost use Rattle.pg_errors.specs.Fields.{fields_in, value_of};
-ghost use Rattle.pg_errors.specs.Views.{position_of, severity_of};
 ghost use Rattle.pg_errors.specs.Parts.{AreNames, IsOrigin};
 ghost use Rattle.pg_faults.specs.declared.error.Error.TheVariants.{OutOfMemory};
 
@@ -139,7 +138,7 @@ pub(crate) fn position(
     alloc: Global,
     body: &ErrorResponseBody,
 ) -> Result<Option<ErrorPosition>, Error>
-    ensures { MatchResult result (λ p. option_map position_of p ≡ spec.position_of (fields_in body.now.fields)) (λ e. e ≡ OutOfMemory) }
+    ensures { MatchResult result (λ p. p ≡ spec.position_of (fields_in body.now.fields)) (λ e. e ≡ OutOfMemory) }
 {
     if let Some(place) = number(alloc, body, b'P')? {
         return Ok(Some(ErrorPosition::Original(place)));
@@ -159,7 +158,7 @@ pub(crate) fn parsed_severity(
     body: &ErrorResponseBody,
 ) -> Result<Option<Severity>, Error>
     ensures { MatchResult result
-        (λ s. option_map severity_of s ≡ option_and_then spec.severity_named (spec.field_of (byte "V") (fields_in body.now.fields)))
+        (λ s. s ≡ option_and_then spec.severity_named (spec.field_of (byte "V") (fields_in body.now.fields)))
         (λ e. e ≡ OutOfMemory) }
 {
     match text(alloc, body, b'V')? {

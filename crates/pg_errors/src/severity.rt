@@ -1,14 +1,13 @@
 //! Severities that aren't translated, by their names.
 
-ghost use Rattle.std.specs.Prelude.{◌≡◌, option_map};
+ghost use Rattle.std.specs.Prelude.{◌≡◌};
 ghost use Rattle.pg_spec.specs.DbErrors.{severity_named};
-ghost use Rattle.pg_errors.specs.Views.{severity_of};
 
 use pg_faults::Severity;
 
 /// The severity of this name, in capitals.
 pub(crate) fn named_severity(name: &str) -> Option<Severity>
-    ensures { option_map severity_of result ≡ severity_named name.now }
+    ensures { result ≡ severity_named name.now }
 {
     if name == "PANIC" {
         return Some(Severity::Panic);

@@ -1,13 +1,14 @@
 -- What a fault says of the answer that a definition gives.
-use Rattle.std.specs.Prelude.{◌≡◌, ⊤, Option, Some, None, Result, Err}
-use Rattle.pg_spec.specs.Faults as spec
+use Rattle.std.specs.Prelude.{◌≡◌, ⊤, Option, Some, Result, Err}
 use Rattle.pg_faults.specs.declared.cause.ScramFault.{ScramFault}
-use Rattle.pg_errors.specs.Views.{scram_fault}
+use Rattle.pg_faults.specs.declared.cause.ScramFault.TheVariants.{OutOfMemory}
 
 -- it is the fault that the definition names; want of memory may stand in its place
-abbrev pub Refuses : {A : Type 0} → ScramFault → Result A spec.ScramFault → Type 0
-Refuses fault answer = elim (scram_fault fault) [ None ↦ ⊤ | Some named ↦ answer ≡ Err named ]
+abbrev pub Refuses : {A : Type 0} → ScramFault → Result A ScramFault → Type 0
+Refuses OutOfMemory answer = ⊤
+Refuses fault answer = answer ≡ Err fault
 
 -- the same of a check that only has faults
-abbrev pub Rejects : ScramFault → Option spec.ScramFault → Type 0
-Rejects fault answer = elim (scram_fault fault) [ None ↦ ⊤ | Some named ↦ answer ≡ Some named ]
+abbrev pub Rejects : ScramFault → Option ScramFault → Type 0
+Rejects OutOfMemory answer = ⊤
+Rejects fault answer = answer ≡ Some fault

@@ -10,7 +10,6 @@ use Rattle.pg_wire.specs.declared.message.Message.{Message}
 use Rattle.futures.specs.declared.task.Poll.{Poll}
 use Rattle.futures.specs.declared.task.Poll.TheVariants.{Ready, Pending}
 use Rattle.pg_errors.specs.declared.async_message.AsyncMessage.{AsyncMessage}
-use Rattle.pg_errors.specs.Views.{failure_of}
 use Rattle.pg_faults.specs.declared.cause.Cause.TheVariants as cause
 use Rattle.pg_faults.specs.declared.error.Error.{Error}
 use Rattle.pg_faults.specs.declared.error.Error.TheVariants as error
@@ -82,7 +81,7 @@ module _ (call : Call) (user : List ℕ) (scripts : List (List Command)) (e : Er
     all-made : MakesAll scripts (out.turns ++ numbers (length scripts + 1)) b.new b.link out.last out.passed
     all-made = makes_all_then scripts out.turns (numbers (length scripts + 1)) b.new b.link out.state out.link out.last out.passed out.before round-made
 
-    pause-cause : (x : Error) → PauseFails out.link.quiet out.passed.quiet out.waited out.passed call.after x → HasCause call (failure_of x)
+    pause-cause : (x : Error) → PauseFails out.link.quiet out.passed.quiet out.waited out.passed call.after x → HasCause call x
     pause-cause (error.Io cause.Link) fails =
         rose_later call.before.faults out.passed.faults call.after.faults
         (open-last (out.turns ++ numbers (length scripts + 1)) out.last out.passed all-made).keeps.counts.faults fails
@@ -98,7 +97,7 @@ module _ (call : Call) (user : List ℕ) (scripts : List (List Command)) (e : Er
   -- ---- a turn that fails
 
   turn-cause : (turns : List ℕ) (state : SessionState) (link : LinkView) (hub : Standing) (streams : Streams) → MakesAll scripts turns b.new b.link state link →
-      (h : Failed HubBecomes state.hub hub state.streams streams link call.after e) → HasCause call (failure_of e)
+      (h : Failed HubBecomes state.hub hub state.streams streams link call.after e) → HasCause call e
   turn-cause turns state link hub streams made h =
       let was = open-last turns state link made in
       let goes = h.turns.goes in
@@ -118,22 +117,22 @@ module _ (call : Call) (user : List ℕ) (scripts : List (List Command)) (e : Er
         more = was.more ++ goes.passes.sent;
         took = takes-on b.opening was.more goes.passes.sent call.before.taken link.taken call.after.taken was.took goes.passes.taken;
       } in
-      subst (λ (x : Error). HasCause call (failure_of x)) (sym h.means)
+      subst (λ (x : Error). HasCause call x) (sym h.means)
       (cause-of user call stood.events goes.events state.streams streams link fails h.fault goes.ended.1)
 
   poll-cause : (turns : List ℕ) (state : SessionState) (link : LinkView) (hub : Standing) (streams : Streams) → MakesAll scripts turns b.new b.link state link →
       (h : StaysClosed state.hub hub state.streams streams link call.after e ⊎ Failed HubBecomes state.hub hub state.streams streams link call.after e) →
-      HasCause call (failure_of e)
+      HasCause call e
   poll-cause turns state link hub streams made (inl h) =
       absurd (let no : true ≡ false = sym h.was_over ∙ (open-last turns state link made).goes_on in cc)
   poll-cause turns state link hub streams made (inr h) = turn-cause turns state link hub streams made h
 
-  by_case : HasFailed scripts b.new b.link call.after e → HasCause call (failure_of e)
-  by_case (inl short) = subst (λ (x : Error). HasCause call (failure_of x)) (sym short.lacks.memory) tt
+  by_case : HasFailed scripts b.new b.link call.after e → HasCause call e
+  by_case (inl short) = subst (λ (x : Error). HasCause call x) (sym short.lacks.memory) tt
   by_case (inr (inl off)) = poll-cause off.turns off.state off.link off.fails.hub off.fails.streams off.before off.fails.polled.1
   by_case (inr (inr out)) = pause-cause out e out.fails
 
-  pub broken-cause : HasCause call (failure_of e)
+  pub broken-cause : HasCause call e
   broken-cause = by_case b.fails
 
   -- ---- the limit

@@ -1,7 +1,7 @@
 -- The causes of failures, by the bytes that crossed the link.
 use Rattle.std.proofs.Common.{◌≡◌, ◌≢◌, inl, inr, ◌⊎◌, ◌≤◌, ℕ, List, [], ◌∷◌, ◌++◌, length, map, Bool, true, false, ◌&&◌, if◌then◌else◌, Option, Some, None, Result, Ok, Err, refl, sym, ap, subst, ◌∙◌, append_assoc, append-nil, drop, arith}
 use Rattle.std.proofs.Math.Seq.{drop-append_seam}
-use Rattle.std.specs.Prelude.{Contains, is_some}
+use Rattle.std.specs.Prelude.{Contains, is_some, find, ◌==◌}
 use Rattle.std.specs.Str.{is_utf8}
 use Rattle.std.proofs.lemmas.List.Elements.{Contains-append_left, Contains-append_right}
 use Rattle.std.proofs.lemmas.Option.{same_Some}
@@ -10,7 +10,7 @@ use Rattle.pg_spec.specs.ConnectionStrings.{only_user, Means}
 use Rattle.pg_spec.specs.DbErrors.{DbError, db_error_of}
 use Rattle.pg_spec.specs.Faults as faults
 use Rattle.pg_spec.specs.Links.{LinkView, OfBytes, Grew}
-use Rattle.pg_spec.specs.Messages.{Message, message_of}
+use Rattle.pg_spec.specs.Messages.{Message, message_of, layouts}
 use Rattle.pg_spec.specs.Messages as spec
 use Rattle.pg_spec.specs.RawMessages.{RawMessage, messages, bytes_left, has_bad_header, async_of, is_ready, cut_after}
 use Rattle.pg_spec.specs.Sent.{tagged_frames}
@@ -20,7 +20,6 @@ use Rattle.pg_wire.specs.LinkCalls.{Keeps}
 use Rattle.pg_wire.specs.Messages.{message_view}
 use Rattle.pg_wire.specs.declared.body.ErrorResponseBody.{ErrorResponseBody}
 use Rattle.pg_wire.specs.declared.message.Message.{Message as WireMessage}
-use Rattle.pg_errors.specs.Views.{failure_of, cause_of}
 use Rattle.pg_faults.specs.declared.cause.Cause.{Cause}
 use Rattle.pg_faults.specs.declared.error.Error.{Error}
 use Rattle.pg_desk.specs.declared.event.Event.{Event}
@@ -85,7 +84,8 @@ of-body _ c is = absurd cc
 abbrev pub IsOfAnswer : faults.Failure → Type 0
 IsOfAnswer (faults.Db error) = Unit {0}
 IsOfAnswer faults.UnexpectedMessage = Unit {0}
-IsOfAnswer (faults.Parse (faults.Wire fault)) = Unit {0}
+IsOfAnswer (faults.Parse (faults.Wire faults.UnknownTag)) = Unit {0}
+IsOfAnswer (faults.Parse (faults.Wire faults.Layout)) = Unit {0}
 IsOfAnswer (faults.Parse faults.Fields) = Unit {0}
 IsOfAnswer _ = ⊥
 
@@ -97,13 +97,25 @@ of-message : (m : Message) → IsOfAnswer (unasked m)
 of-message (spec.ErrorResponse fields) = of-error (db_error_of fields)
 of-message _ = tt
 
-of-raw : (r : Result Message faults.WireFault) → IsOfAnswer (elim r [ Err fault ↦ faults.Parse (faults.Wire fault) | Ok message ↦ unasked message ])
-of-raw (Err fault) = tt
-of-raw (Ok message) = of-message message
+-- a malformed message has a tag that none has, or is out of its layout
+of-read : (read : Option Message) → IsOfAnswer (elim (elim read as (λ _. Result Message faults.WireFault) [ None ↦ Err faults.Layout | Some message ↦ Ok message ])
+    as (λ _. faults.Failure) [ Err fault ↦ faults.Parse (faults.Wire fault) | Ok message ↦ unasked message ])
+of-read None = tt
+of-read (Some message) = of-message message
 
-pub of-batch : (batch : List RawMessage) (e : Error) → IsUnasked batch (fault.Unasked e) → IsOfAnswer (failure_of e)
+of-row : (body : List ℕ) (row : Option (ℕ × (List ℕ → Option Message))) → IsOfAnswer (elim (elim row as (λ _. Result Message faults.WireFault) [
+    | None ↦ Err faults.UnknownTag
+    | Some row ↦ elim (row.1 body) [ None ↦ Err faults.Layout | Some message ↦ Ok message ]
+    ]) as (λ _. faults.Failure) [ Err fault ↦ faults.Parse (faults.Wire fault) | Ok message ↦ unasked message ])
+of-row body None = tt
+of-row body (Some row) = of-read (row.1 body)
+
+of-raw : (raw : RawMessage) → IsOfAnswer (out_of_turn raw)
+of-raw raw = of-row raw.body (find (λ row. row.0 == raw.tag) layouts)
+
+pub of-batch : (batch : List RawMessage) (e : Error) → IsUnasked batch (fault.Unasked e) → IsOfAnswer e
 of-batch [] e h = absurd h
-of-batch (first ∷ batch) e h = subst IsOfAnswer (sym h) (of-raw (message_of first))
+of-batch (first ∷ batch) e h = subst IsOfAnswer (sym h) (of-raw first)
 
 module _ (user : List ℕ) (call : Call) (former now : List Event) (t : Streams) (l : LinkView) (f : Fails user call former now t l) where
   -- the messages behind the startup
@@ -158,7 +170,7 @@ module _ (user : List ℕ) (call : Call) (former now : List Event) (t : Streams)
   came-off : (message : WireMessage) → t.unread ≡ Some message → CameOff message f.broke.lost
   came-off message is = subst (λ (o : Option WireMessage). IsUnread o f.broke.lost) is f.broke.unread
 
-  unread-stands : (c : Cause) → LeavesUnread t c → AsideUnreadable (cause_of c) (messages f.broke.given)
+  unread-stands : (c : Cause) → LeavesUnread t c → AsideUnreadable c (messages f.broke.given)
   unread-stands c h =
       let off = came-off h.message h.unread in (
         off.raw,
@@ -170,7 +182,7 @@ module _ (user : List ℕ) (call : Call) (former now : List Event) (t : Streams)
         h.means,
       )
 
-  delayed-stands : (c : Cause) → LeavesDelayed t c → AsideUnreadable (cause_of c) (messages f.broke.given)
+  delayed-stands : (c : Cause) → LeavesDelayed t c → AsideUnreadable c (messages f.broke.given)
   delayed-stands c h =
       let raw = notice_of h.notice in
       let late : delayed_in t ≡ raw ∷ map notice_of h.others = ap (λ (x : List ErrorResponseBody). map notice_of x) h.first in
@@ -185,7 +197,7 @@ module _ (user : List ℕ) (call : Call) (former now : List Event) (t : Streams)
         h.means,
       )
 
-  aside-stands : (c : Cause) → LeavesUnread t c ⊎ LeavesDelayed t c → AsideUnreadable (cause_of c) (messages f.broke.given)
+  aside-stands : (c : Cause) → LeavesUnread t c ⊎ LeavesDelayed t c → AsideUnreadable c (messages f.broke.given)
   aside-stands c (inl h) = unread-stands c h
   aside-stands c (inr h) = delayed-stands c h
 
@@ -232,8 +244,10 @@ module _ (user : List ℕ) (call : Call) (former now : List Event) (t : Streams)
       ((taken : List ℕ) → taken ≡ f.broke.taken → taken ≡ f.opening ++ f.more → OutOfTurn failure taken later) → HasCause call failure
   answer-cause (faults.Db error) is h = of-taken _ (λ taken same front. inr (behind (OutOfTurn (faults.Db error) taken) (h taken same front)))
   answer-cause faults.UnexpectedMessage is h = of-taken _ (λ taken same front. inr (behind (OutOfTurn faults.UnexpectedMessage taken) (h taken same front)))
-  answer-cause (faults.Parse (faults.Wire fault)) is h =
-      (tt, of-taken _ (λ taken same front. inr (inr (behind (OutOfTurn (faults.Parse (faults.Wire fault)) taken) (h taken same front)))))
+  answer-cause (faults.Parse (faults.Wire faults.UnknownTag)) is h =
+      (tt, of-taken _ (λ taken same front. inr (inr (behind (OutOfTurn (faults.Parse (faults.Wire faults.UnknownTag)) taken) (h taken same front)))))
+  answer-cause (faults.Parse (faults.Wire faults.Layout)) is h =
+      (tt, of-taken _ (λ taken same front. inr (inr (behind (OutOfTurn (faults.Parse (faults.Wire faults.Layout)) taken) (h taken same front)))))
   answer-cause (faults.Parse faults.Fields) is h = (tt, of-taken _ (λ taken same front. inr (inr (behind (OutOfTurn (faults.Parse faults.Fields) taken) (h taken same front)))))
   answer-cause _ is h = absurd is
 
@@ -265,18 +279,18 @@ module _ (user : List ℕ) (call : Call) (former now : List Event) (t : Streams)
       }
 
   unasked-by : (held : List RawMessage) (e : Error) → waiting t.held ≡ held → IsUnasked held (fault.Unasked e) → last_is has_no_request now ≡ true → t.closing ≡ false →
-      HasCause call (failure_of e)
+      HasCause call e
   unasked-by [] e is h none open_ = absurd h
   unasked-by (first ∷ batch) e is h none open_ = subst (λ (x : faults.Failure). HasCause call x) (sym h)
-      (answer-cause (out_of_turn first) (of-raw (message_of first)) (came-unasked first batch is none open_))
+      (answer-cause (out_of_turn first) (of-raw first) (came-unasked first batch is none open_))
 
-  pub unasked-cause : (e : Error) → IsUnasked (waiting t.held) (fault.Unasked e) → last_is has_no_request now ≡ true → t.closing ≡ false → HasCause call (failure_of e)
+  pub unasked-cause : (e : Error) → IsUnasked (waiting t.held) (fault.Unasked e) → last_is has_no_request now ≡ true → t.closing ≡ false → HasCause call e
   unasked-cause e h none open_ = unasked-by (waiting t.held) e refl h none open_
 
 -- ---- why a turn fails
 
 pub cause-of : (user : List ℕ) (call : Call) (former now : List Event) (s t : Streams) (l : LinkView) → Fails user call former now t l → (e : ConnectionFault) →
-    TurnFails (fresh s) (left_open t) l call.after e now → HasCause call (failure_of (error_of e))
+    TurnFails (fresh s) (left_open t) l call.after e now → HasCause call (error_of e)
 cause-of user call former now s t l f fault.Link ends = rose_later call.before.faults l.faults call.after.faults f.keeps.counts.faults ends
 cause-of user call former now s t l f (fault.LimitReached given limit) ends = record {
   asked = ends.1 ∙ f.limit;
@@ -303,9 +317,9 @@ cause-of user call former now s t l f (fault.Unreadable c) ends = (
     aside-in c (inl h) = inl (record { message = h.message; unread = h.unread; means = h.means })
     aside-in c (inr h) = inr (record { notice = h.notice; others = h.others; first = h.first; means = h.means })
 
-    aside-body : (c : Cause) → LeavesUnread (left_open t) c ⊎ LeavesDelayed (left_open t) c → IsOfBody (cause_of c)
-    aside-body c (inl h) = of-body (message_view h.message) (cause_of c) h.means
-    aside-body c (inr h) = of-body (spec.NoticeResponse h.notice.fields) (cause_of c) h.means
+    aside-body : (c : Cause) → LeavesUnread (left_open t) c ⊎ LeavesDelayed (left_open t) c → IsOfBody c
+    aside-body c (inl h) = of-body (message_view h.message) c h.means
+    aside-body c (inr h) = of-body (spec.NoticeResponse h.notice.fields) c h.means
 cause-of user call former now s t l f fault.OutOfMemory ends = tt
 cause-of user call former now s t l f fault.Closed ends = closed-cause user call former now t l f s ends
 cause-of user call former now s t l f (fault.Unasked e) ends = unasked-cause user call former now t l f e ends.1 ends.0 ends.2

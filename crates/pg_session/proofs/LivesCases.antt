@@ -15,7 +15,6 @@ use Rattle.pg_desk.specs.declared.event.Event.TheVariants as call
 use Rattle.pg_desk.specs.declared.event.Stamp.{Stamp}
 use Rattle.pg_desk.specs.declared.event.Take.TheVariants as taking
 use Rattle.pg_faults.specs.declared.error.Error.{Error}
-use Rattle.pg_errors.specs.Meanings.{error_of}
 use Rattle.pg_hub.specs.Fits.{Fits, HubBecomes}
 use Rattle.pg_hub.specs.Standing.{Standing}
 use Rattle.pg_query.specs.Dialogue.{Dialogue, Answer, Walks}
@@ -57,7 +56,7 @@ pub decided-said : (take : Option ℕ) (ms : List RawMessage) (r : Result (List 
 decided-said take ms r (front, f, e) = (front, f, ap (option_map simple_answer) e ∙ ap (λ (a : told.Answer). Some a) (said-answer r))
 
 pub refused-said : (f : spec.FrameFault) →
-    answer_of (kept_answer (Err (error_of (spec.Encode (spec.Frame f))))) ≡ told.Failed (spec.Encode (spec.Frame f))
+    answer_of (kept_answer (Err (spec.Encode (spec.Frame f)))) ≡ told.Failed (spec.Encode (spec.Frame f))
 refused-said spec.ZeroByte = refl
 refused-said spec.TooMany = refl
 refused-said spec.TooLong = refl

@@ -11,7 +11,6 @@ use Rattle.pg_desk.specs.declared.event.Event.TheVariants as call
 use Rattle.pg_desk.specs.declared.event.Stamp.{Stamp}
 use Rattle.pg_faults.specs.declared.error.Error.{Error}
 use Rattle.pg_desk.specs.History.{IsFrontOf}
-use Rattle.pg_errors.specs.Meanings.{error_of}
 use Rattle.pg_query.specs.Dialogue.{Answer, Walks}
 use Rattle.pg_query.specs.Faults.{of_fault}
 use Rattle.pg_query.specs.Scripts.{IsRead}
@@ -146,7 +145,7 @@ pub record BeginsBooked (text : List ℕ) (take : Option ℕ) (stamp : Stamp) (e
 -- a command that begins and answers books its frame, or its text is refused, or the desk refuses
 pub data BeganSo (text : List ℕ) (take : Option ℕ) (stamp : Stamp) (es : List Event) (r : Result (List SimpleMessage) Error) : Type 0 where
   Booked : BeginsBooked text take stamp es r → BeganSo text take stamp es r
-  Unwritten : (fault : spec.FrameFault) → query_frame text ≡ Err fault → es ≡ [] → r ≡ Err (error_of (spec.Encode (spec.Frame fault))) →
+  Unwritten : (fault : spec.FrameFault) → query_frame text ≡ Err fault → es ≡ [] → r ≡ Err (spec.Encode (spec.Frame fault)) →
       BeganSo text take stamp es r
   Refused : (frame : List ℕ) (why : DeskFault) → es ≡ call.Book stamp frame false (Err why) ∷ [] → r ≡ Err (of_fault why) →
       BeganSo text take stamp es r

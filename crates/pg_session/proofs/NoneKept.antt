@@ -19,7 +19,6 @@ use Rattle.pg_spec.specs.Report as told
 use Rattle.pg_spec.specs.Report.{Simple}
 use Rattle.pg_spec.specs.Sent.{whole_units}
 use Rattle.pg_spec.specs.Startup.{Outcome, Done, More}
-use Rattle.pg_errors.specs.Views.{failure_of}
 use Rattle.pg_faults.specs.declared.error.Error.{Error}
 use Rattle.pg_faults.specs.declared.error.Error.TheVariants as error
 use Rattle.pg_desk.proofs.Soundness.{wire-counted}
@@ -224,7 +223,7 @@ is_stalled _ = false
 
 pub never-stalled : (s t : Streams) (l m : LinkView) (f : ConnectionFault) (events : List Event) (before after : ℕ) → TurnFails s t l m f events → error.Stalled before after ≡ error_of f → ⊥
 never-stalled s t l m (fault.Unasked e) events before after fails is =
-    subst (λ (x : Error). IsOfAnswer (failure_of x)) (sym is) (of-batch (waiting t.held) e fails.1)
+    subst (λ (x : Error). IsOfAnswer x) (sym is) (of-batch (waiting t.held) e fails.1)
 never-stalled s t l m fault.Link events before after fails is = absurd (let no : true ≡ false = ap is_stalled is in cc)
 never-stalled s t l m fault.Closed events before after fails is = absurd (let no : true ≡ false = ap is_stalled is in cc)
 never-stalled s t l m fault.Ended events before after fails is = absurd (let no : true ≡ false = ap is_stalled is in cc)

@@ -11,7 +11,6 @@ use Rattle.pg_spec.specs.Settings.{Settings}
 use Rattle.pg_spec.specs.Startup.{Startup as Dialogue, Outcome, More, Phase, after_one, begun_by, dialogue, startup}
 use Rattle.pg_faults.specs.declared.fault.FrameFault.TheVariants as frame
 use Rattle.pg_faults.specs.declared.fault.WireFault.TheVariants as wire
-use Rattle.pg_errors.specs.Views.{failure_of}
 use Rattle.pg_faults.specs.declared.cause.Cause.TheVariants as cause
 use Rattle.pg_faults.specs.declared.error.Error.{Error}
 use Rattle.pg_faults.specs.declared.error.Error.TheVariants as error
@@ -114,7 +113,8 @@ failed-not_built call user s means f =
 
 -- ---- the frame that its writer refuses
 
-refused_frame : (call : Call) (user : List ℕ) (fault : FrameFault) → Means call.config (only_user user) → frame_of user ≡ Err fault → HasCause call (Encode (Frame fault))
+refused_frame : (call : Call) (user : List ℕ) (fault : FrameFault) → Means call.config (only_user user) → frame_of user ≡ Err fault →
+    OfDialogue call (λ s g t. InStartup (Encode (Frame fault)) call s g)
 refused_frame call user fault means is = (
   only_user user,
   means,
@@ -123,7 +123,7 @@ refused_frame call user fault means is = (
 )
 
 -- where the startup's frame can't be made, it has its cause
-pub made_cause : (call : Call) (user : List ℕ) (e : Error) → Means call.config (only_user user) → Made user (Err e) → HasCause call (failure_of e)
+pub made_cause : (call : Call) (user : List ℕ) (e : Error) → Means call.config (only_user user) → Made user (Err e) → HasCause call e
 made_cause call user (error.Encode (cause.Frame frame.ZeroByte)) means m = refused_frame call user ZeroByte means m
 made_cause call user (error.Encode (cause.Frame frame.TooLong)) means m = refused_frame call user TooLong means m
 made_cause call user (error.Encode (cause.Frame frame.TooMany)) means m = refused_frame call user TooMany means m
@@ -134,7 +134,7 @@ made_cause call user _ means m = absurd m
 
 -- A startup that failed has its cause; it doesn't answer Stalled.
 pub start_cause : (call : Call) (user : List ℕ) (s : Startup) (e : Error) → Means call.config (only_user user) → s.max_bytes ≡ call.limit →
-    Failed user call.nonce call.before call.after s e → HasCause call (failure_of e)
+    Failed user call.nonce call.before call.after s e → HasCause call e
 start_cause call user s (error.Io cause.Link) means is f = f.fails
 start_cause call user s (error.Io cause.Ended) means is f = failed-ended call user s means f
 start_cause call user s (error.Io (cause.Wire wire.BadLength)) means is f = failed-header call user s means f

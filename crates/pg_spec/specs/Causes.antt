@@ -6,6 +6,9 @@ use Rattle.pg_spec.specs.ConnectionStrings.{Means}
 use Rattle.pg_spec.specs.DbErrors.{db_error_of}
 use Rattle.pg_spec.specs.Faults.{WireFault, BadLength, Cause, Link, Ended, Wire, Fields, NotText, Frame, NoUser, Nonce, NoPassword, NotBuilt, Handshake, Method, Mechanism, BindingRequired, NotAscii, Scram, Syntax, UnknownOption, InvalidValue, Failure, Io, UnexpectedMessage, Tls, Closed, Db, Parse, Encode, Authentication, ConfigParse, Config, Stalled, LimitReached, OutOfMemory}
 use Rattle.pg_spec.specs.Faults as faults
+use Rattle.pg_faults.specs.declared.fault.WireFault.TheVariants as wire
+use Rattle.pg_faults.specs.declared.fault.FrameFault.TheVariants as frame
+use Rattle.pg_faults.specs.declared.cause.ScramFault.TheVariants as scram
 use Rattle.pg_spec.specs.Frames.{ssl_request}
 use Rattle.pg_spec.specs.Links.{LinkView, Rose, OfBytes}
 use Rattle.pg_spec.specs.Messages.{Message, AuthenticationOk, ReadyForQuery, ErrorResponse, NoticeResponse, NotificationResponse, ParameterStatus, message_of}
@@ -139,8 +142,9 @@ IsOfTls faults.Refused = ⊤
 IsOfTls Handshake = ⊤
 IsOfTls other = ⊥
 
--- of a body
+-- of a body; want of memory is never a cause
 abbrev pub IsOfBody : Cause → Type 0
+IsOfBody (Wire wire.OutOfMemory) = ⊥
 IsOfBody (Wire fault) = ⊤
 IsOfBody Fields = ⊤
 IsOfBody NotText = ⊤
@@ -152,6 +156,7 @@ IsOfLogin Method = ⊤
 IsOfLogin Mechanism = ⊤
 IsOfLogin BindingRequired = ⊤
 IsOfLogin NotAscii = ⊤
+IsOfLogin (Scram scram.OutOfMemory) = ⊥
 IsOfLogin (Scram fault) = ⊤
 IsOfLogin other = ⊥
 
@@ -185,6 +190,7 @@ HasCause call (Config NoUser) = WithSettings call (λ s. s.user ≡ None)
 HasCause call (Config Nonce) = WithSettings call (λ s. IsSome s.user) × IsFalse (is_nonce call.nonce)
 HasCause call (Config NoPassword) = OfDialogue call (λ s g t. InStartup (Config NoPassword) call s g)
 HasCause call (Tls cause) = IsOfTls cause × OfDialogue call (λ s g t. (s.ssl_mode ≡ Require) × NoTlsFor cause s.ssl_negotiation g)
+HasCause call (Encode (Frame frame.OutOfMemory)) = ⊥
 HasCause call (Encode (Frame fault)) = OfDialogue call (λ s g t. InStartup (Encode (Frame fault)) call s g)
 HasCause call (Authentication cause) = IsOfLogin cause × OfDialogue call (λ s g t. InStartup (Authentication cause) call s g)
 HasCause call (Db error) = OfDialogue call (λ s g t. InStartup (Db error) call s g ⊎ Behind call s g (OutOfTurn (Db error) t))
@@ -193,6 +199,7 @@ HasCause call (Parse cause) = IsOfBody cause × OfDialogue call (λ s g t.
     InStartup (Parse cause) call s g ⊎ AsideUnreadable cause (messages g) ⊎ Behind call s g (OutOfTurn (Parse cause) t))
 HasCause call (Io Link) = Rose call.before.faults call.after.faults
 HasCause call (Io Ended) = Rose call.before.ends call.after.ends × OfDialogue call (λ s g t. EndsInside g ⊎ ((s.ssl_mode ≡ Require) × (g ≡ [])))
+HasCause call (Io (Wire wire.OutOfMemory)) = ⊥
 HasCause call (Io (Wire fault)) = OfDialogue call (λ s g t.
     ((fault ≡ BadLength) × IsTrue (has_bad_header (bytes_left g)))
     ⊎ InStartup (Io (Wire fault)) call s g ⊎ Behind call s g (AsideBreaks fault))

@@ -3,6 +3,11 @@ use Rattle.std.specs.Prelude.{ℕ, Bool, ◌&&◌, ◌||◌, List, [], ◌∷◌
 use Rattle.std.specs.List.{list_all, last_or}
 use Rattle.std.specs.Str.{byte, bytes_eq}
 use Rattle.std.specs.Str.Lossy.{utf8_lossy}
+pub use Rattle.pg_faults.specs.declared.db_error.DbError.{DbError}
+pub use Rattle.pg_faults.specs.declared.db_error.ErrorPosition.{ErrorPosition as Position}
+pub use Rattle.pg_faults.specs.declared.db_error.ErrorPosition.TheVariants.{Original, Internal}
+pub use Rattle.pg_faults.specs.declared.severity.Severity.{Severity}
+pub use Rattle.pg_faults.specs.declared.severity.Severity.TheVariants.{Panic, Fatal, Error, Warning, Notice, Debug, Info, Log}
 use Rattle.pg_spec.specs.Bytes.{◌>>=◌, byte_at, text0_at, items_of}
 use Rattle.pg_spec.specs.Numerals.{number_in}
 
@@ -31,41 +36,6 @@ texts_of kind fields = map (λ f. utf8_lossy f.text) (filter (λ f. f.kind == ki
 -- the last of them counts
 abbrev pub field_of : ℕ → List ErrorField → Option (List ℕ)
 field_of kind fields = last_or None (texts_of kind fields)
-
--- where in a query the error lies: in the one sent, or in one that the server made
-pub data Position : Type 0 where
-  Original : (place : ℕ) → Position
-  Internal : (place : ℕ) (query : List ℕ) → Position
-
--- a severity that isn't translated (field V)
-pub data Severity : Type 0 where
-  Panic : Severity
-  Fatal : Severity
-  Error : Severity
-  Warning : Severity
-  Notice : Severity
-  Debug : Severity
-  Info : Severity
-  Log : Severity
-
--- what an ErrorResponse or a NoticeResponse says
-pub record DbError : Type 0 where
-  pub severity : List ℕ
-  pub parsed_severity : Option Severity
-  pub code : List ℕ
-  pub message : List ℕ
-  pub detail : Option (List ℕ)
-  pub hint : Option (List ℕ)
-  pub position : Option Position
-  pub where_ : Option (List ℕ)
-  pub schema : Option (List ℕ)
-  pub table : Option (List ℕ)
-  pub column : Option (List ℕ)
-  pub datatype : Option (List ℕ)
-  pub constraint : Option (List ℕ)
-  pub file : Option (List ℕ)
-  pub line : Option ℕ
-  pub routine : Option (List ℕ)
 
 -- each severity by its word
 abbrev pub severities : List (List ℕ × Severity)
@@ -115,7 +85,7 @@ db_error_of body = do
   if are_in_form fields then Some (record {
     severity = severity;
     parsed_severity = field_of (byte "V") fields >>= severity_named;
-    code = code;
+    code = record { code = code };
     message = message;
     detail = field_of (byte "D") fields;
     hint = field_of (byte "H") fields;

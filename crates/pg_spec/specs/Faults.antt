@@ -1,98 +1,16 @@
--- Why bytes or arguments are refused, and what an operation answers in place of its value.
-use Rattle.std.specs.Prelude.{ℕ, List, Result, Ok, Err}
-use Rattle.pg_spec.specs.DbErrors.{DbError}
-use Rattle.pg_spec.specs.ValueFaults.{ValueFault}
-
--- what is wrong with received bytes
-pub data WireFault : Type 0 where
-  -- a length below 4
-  BadLength : WireFault
-  UnknownTag : WireFault
-  -- a body that breaks its message's layout
-  Layout : WireFault
-  NotUtf8 : WireFault
-
--- what is wrong with the arguments of a frame
-pub data FrameFault : Type 0 where
-  ZeroByte : FrameFault
-  TooMany : FrameFault
-  TooLong : FrameFault
-
--- what is wrong with a message of the SCRAM dialogue
-pub data ScramFault : Type 0 where
-  BadMessage : ScramFault
-  BadNonce : ScramFault
-  BadSalt : ScramFault
-  BadIterations : ScramFault
-  BadSignature : ScramFault
-  ServerError : (text : List ℕ) → ScramFault
-
--- what a failure comes from
-pub data Cause : Type 0 where
-  Link : Cause
-  Ended : Cause
-  Wire : WireFault → Cause
-  Fields : Cause
-  FieldCount : Cause
-  -- the header, a row or the trailer of a binary copy out of its form
-  BinaryCopy : Cause
-  NotText : Cause
-  Frame : FrameFault → Cause
-  -- a counter of statements or portals is at its last value
-  Counter : Cause
-  Value : ValueFault → Cause
-  NoUser : Cause
-  Nonce : Cause
-  NoPassword : Cause
-  -- hosts, addresses and ports don't fit together
-  Hosts : Cause
-  Scripts : Cause
-  -- this version can't do it yet
-  NotBuilt : Cause
-  PreferDirect : Cause
-  Refused : Cause
-  NoHostname : Cause
-  Handshake : Cause
-  Method : Cause
-  Mechanism : Cause
-  BindingRequired : Cause
-  NotAscii : Cause
-  Scram : ScramFault → Cause
-  Syntax : Cause
-  UnknownOption : (key : List ℕ) → Cause
-  InvalidValue : (key : List ℕ) → Cause
-  -- what the server answered where a session was to be writable, or read only
-  ReadOnly : (answer : List ℕ) → Cause
-  NotReadOnly : (answer : List ℕ) → Cause
-  -- want of memory inside a fault, which is never a cause: it stands in no failure
-  NoCause : Cause
-
--- what a call answers in place of its value
-pub data Failure : Type 0 where
-  Io : Cause → Failure
-  UnexpectedMessage : Failure
-  Tls : Cause → Failure
-  -- the place of a parameter or a column, from 0
-  ToSql : (place : ℕ) → Cause → Failure
-  FromSql : (place : ℕ) → Cause → Failure
-  -- a row has no column of this name or place
-  Column : (column : List ℕ) → Failure
-  ColumnCount : Failure
-  Parameters : (given expected : ℕ) → Failure
-  Closed : Failure
-  Db : DbError → Failure
-  Parse : Cause → Failure
-  Encode : Cause → Failure
-  Authentication : Cause → Failure
-  ConfigParse : Cause → Failure
-  Config : Cause → Failure
-  RowCount : Failure
-  Connect : Cause → Failure
-  Stalled : (before after : ℕ) → Failure
-  LimitReached : (given limit : ℕ) → Failure
-  -- nothing is open there
-  Missing : Failure
-  OutOfMemory : Failure
+-- Why bytes or arguments are refused, and what an operation answers in place of its value: the declared types, by the
+-- names that definitions use.
+use Rattle.std.specs.Prelude.{Result, Ok, Err}
+pub use Rattle.pg_faults.specs.declared.fault.WireFault.{WireFault}
+pub use Rattle.pg_faults.specs.declared.fault.WireFault.TheVariants.{BadLength, UnknownTag, Layout, NotUtf8}
+pub use Rattle.pg_faults.specs.declared.fault.FrameFault.{FrameFault}
+pub use Rattle.pg_faults.specs.declared.fault.FrameFault.TheVariants.{ZeroByte, TooMany, TooLong}
+pub use Rattle.pg_faults.specs.declared.cause.ScramFault.{ScramFault}
+pub use Rattle.pg_faults.specs.declared.cause.ScramFault.TheVariants.{BadMessage, BadNonce, BadSalt, BadIterations, BadSignature, ServerError}
+pub use Rattle.pg_faults.specs.declared.cause.Cause.{Cause}
+pub use Rattle.pg_faults.specs.declared.cause.Cause.TheVariants.{Link, Ended, Wire, Fields, FieldCount, BinaryCopy, NotUtf8 as NotText, Frame, Counter, Value, NoUser, Nonce, NoPassword, Hosts, Scripts, NotBuilt, PreferDirect, Refused, NoHostname, Handshake, Method, Mechanism, BindingRequired, NotAscii, Scram, Syntax, UnknownOption, InvalidValue, ReadOnly, NotReadOnly}
+pub use Rattle.pg_faults.specs.declared.error.Error.{Error as Failure}
+pub use Rattle.pg_faults.specs.declared.error.Error.TheVariants.{Io, UnexpectedMessage, Tls, ToSql, FromSql, Column, ColumnCount, Parameters, Closed, Db, Parse, Encode, Authentication, ConfigParse, Config, RowCount, Connect, Stalled, LimitReached, Missing, OutOfMemory}
 
 infixl 10 ◌>>=◌
 -- one step behind another; the first fault decides

@@ -3,7 +3,6 @@ pub mod RawMessages
 pub mod Batches
 pub mod Numerals
 pub mod DbErrors
-pub mod ValueFaults
 pub mod Faults
 pub mod Messages
 pub mod Bodies

@@ -3,7 +3,7 @@ use Rattle.std.specs.Prelude.{List, map}
 use Rattle.pg_spec.specs.Book as book
 use Rattle.pg_spec.specs.Report as said
 use Rattle.pg_spec.specs.SimpleQuery as simple
-use Rattle.pg_errors.specs.Views.{failure_of, async_of}
+use Rattle.pg_errors.specs.Views.{async_of}
 use Rattle.pg_desk.specs.declared.event.Booking.{Booking}
 use Rattle.pg_query.specs.declared.simple_message.SimpleMessage.{SimpleMessage}
 use Rattle.pg_query.specs.declared.simple_message.SimpleMessage.TheVariants as message
@@ -31,7 +31,7 @@ item_of (message.Complete affected) = simple.Complete affected
 -- an answer
 abbrev pub answer_of : Answer → said.Answer
 answer_of (answer.Messages messages) = said.Items (map item_of messages)
-answer_of (answer.Failed e) = said.Failed (failure_of e)
+answer_of (answer.Failed e) = said.Failed e
 
 -- a request with its stamp
 abbrev pub booking_of : Booking → book.Booking

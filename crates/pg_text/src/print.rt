@@ -6,7 +6,7 @@ ghost use Rattle.hex.specs.Hex.{encode_lower};
 ghost use Rattle.pg_spec.specs.Report as said;
 ghost use Rattle.pg_spec.specs.ReportText as spec;
 ghost use Rattle.pg_spec.specs.SimpleQuery as simple;
-ghost use Rattle.pg_errors.specs.Views.{db_error, failure_of, async_of};
+ghost use Rattle.pg_errors.specs.Views.{async_of};
 ghost use Rattle.pg_text.specs.Views.{answer_of, booking_of, item_of, mark_of, report_of};
 ghost use Rattle.pg_text.specs.Written as written;
 
@@ -33,7 +33,7 @@ pub fn report_text(alloc: Global, report: &Report) -> Result<Blob, OutOfMemory>
 
 /// What is printed for a session that failed.
 pub fn error_text(alloc: Global, error: &Error) -> Result<Blob, OutOfMemory>
-    ensures { IfOk result (λ b. b ≡ spec.error_text (failure_of error.now)) }
+    ensures { IfOk result (λ b. b ≡ spec.error_text error.now) }
 {
     let mut out = String::new(alloc);
     put(&mut out, "error ")?;
@@ -121,7 +121,7 @@ fn put_async(alloc: Global, out: &mut String, message: &AsyncMessage) -> Result<
 }
 
 fn put_notice(alloc: Global, out: &mut String, notice: &DbError) -> Result<(), OutOfMemory>
-    ensures { OnOk result (string_bytes out.new ≡ string_bytes out.old ++ written.notice_words (db_error notice.now)) }
+    ensures { OnOk result (string_bytes out.new ≡ string_bytes out.old ++ written.notice_words notice.now) }
 {
     put(out, "notice ")?;
     put_db_error(alloc, out, notice)?;
@@ -153,7 +153,7 @@ fn put_texts(alloc: Global, out: &mut String, first: &str, second: &str) -> Resu
 
 /// Severity, code and message.
 fn put_db_error(alloc: Global, out: &mut String, error: &DbError) -> Result<(), OutOfMemory>
-    ensures { OnOk result (string_bytes out.new ≡ string_bytes out.old ++ written.error_fields (db_error error.now)) }
+    ensures { OnOk result (string_bytes out.new ≡ string_bytes out.old ++ written.error_fields error.now) }
 {
     put_quoted(alloc, out, error.severity().as_bytes())?;
     put(out, " ")?;
@@ -215,7 +215,7 @@ fn put_items(alloc: Global, out: &mut String, messages: &[SimpleMessage]) -> Res
 }
 
 fn put_failed(alloc: Global, out: &mut String, error: &Error) -> Result<(), OutOfMemory>
-    ensures { OnOk result (string_bytes out.new ≡ string_bytes out.old ++ written.answered (said.Failed (failure_of error.now))) }
+    ensures { OnOk result (string_bytes out.new ≡ string_bytes out.old ++ written.answered (said.Failed error.now)) }
 {
     put(out, " failed ")?;
     put_error(alloc, out, error)?;
@@ -372,14 +372,14 @@ fn put_turn(alloc: Global, out: &mut String, mark: TurnMark) -> Result<(), OutOf
 
 /// The name of an error, and what it carries.
 fn put_error(alloc: Global, out: &mut String, error: &Error) -> Result<(), OutOfMemory>
-    ensures { OnOk result (string_bytes out.new ≡ string_bytes out.old ++ join_with_byte 32 (spec.failure_words (failure_of error.now))) }
+    ensures { OnOk result (string_bytes out.new ≡ string_bytes out.old ++ join_with_byte 32 (spec.failure_words error.now)) }
 {
     put(out, name_of(error))?;
     put_carried(alloc, out, error)
 }
 
 fn name_of(error: &Error) -> &'static str
-    ensures { result.now ≡ spec.failure_name (failure_of error.now) }
+    ensures { result.now ≡ spec.failure_name error.now }
 {
     match error {
         Error::Io(_) => "Io",
@@ -408,7 +408,7 @@ fn name_of(error: &Error) -> &'static str
 
 /// What an error carries, each word behind a space.
 fn put_carried(alloc: Global, out: &mut String, error: &Error) -> Result<(), OutOfMemory>
-    ensures { OnOk result (string_bytes out.new ≡ string_bytes out.old ++ written.words_behind (spec.failure_parts (failure_of error.now))) }
+    ensures { OnOk result (string_bytes out.new ≡ string_bytes out.old ++ written.words_behind (spec.failure_parts error.now)) }
 {
     match error {
         Error::ToSql(place, _) => put_next(alloc, out, *place as u64),

@@ -4,7 +4,6 @@ use Rattle.pg_spec.specs.Causes.{Call, HasCause}
 use Rattle.pg_spec.specs.ConnectionStrings.{Means, only_user}
 use Rattle.pg_spec.specs.Links.{LinkView}
 use Rattle.pg_connect.specs.declared.startup.Startup.{Startup}
-use Rattle.pg_errors.specs.Views.{failure_of}
 use Rattle.pg_faults.specs.declared.error.Error.{Error}
 use Rattle.pg_faults.specs.declared.error.Error.TheVariants as error
 use Rattle.pg_session.proofs.Caused.{broken-cause}
@@ -17,14 +16,14 @@ use Rattle.pg_tool.specs.Fails.{SessionFails}
 use Rattle.pg_tool.specs.Openings.{OpenEnds}
 
 start_ends : (call : Call) (user : List ℕ) (s : Startup) (e : Error) → Means call.config (only_user user) → s.max_bytes ≡ call.limit →
-    OpenEnds user call.nonce call.before call.after s (Err e) → HasCause call (failure_of e)
+    OpenEnds user call.nonce call.before call.after s (Err e) → HasCause call e
 start_ends call user s (error.Stalled a b) means limit ends = stalled-start call user s a b means ends
 start_ends call user s _ means limit ends = start_cause call user s _ means limit ends
 
 caused_by : (config user nonce : List ℕ) (scripts : List (List Command)) (turns : List ℕ) (limit : ℕ) (before after : LinkView) (e : Error) → Means config (only_user user) →
-    SessionFails user nonce scripts limit before after e → HasCause (call_of config nonce scripts turns limit before after) (failure_of e)
+    SessionFails user nonce scripts limit before after e → HasCause (call_of config nonce scripts turns limit before after) e
 caused_by config user nonce scripts turns limit before after e means (inl lacks) =
-    subst (λ (x : Error). HasCause (call_of config nonce scripts turns limit before after) (failure_of x)) (sym lacks.memory) tt
+    subst (λ (x : Error). HasCause (call_of config nonce scripts turns limit before after) x) (sym lacks.memory) tt
 caused_by config user nonce scripts turns limit before after e means (inr (inl made)) =
     made_cause (call_of config nonce scripts turns limit before after) user e means made.0
 caused_by config user nonce scripts turns limit before after e means (inr (inr (inl start))) =
@@ -34,6 +33,6 @@ caused_by config user nonce scripts turns limit before after e means (inr (inr (
 
 pub caused : (config user nonce : List ℕ) (scripts : List (List Command)) (turns : List ℕ) (limit : ℕ) (before after : LinkView) (r : Result Report Error) → Means config (only_user user) →
     IfErr r (SessionFails user nonce scripts limit before after) →
-    IfErr r (λ e. HasCause (call_of config nonce scripts turns limit before after) (failure_of e))
+    IfErr r (λ e. HasCause (call_of config nonce scripts turns limit before after) e)
 caused config user nonce scripts turns limit before after (Ok report) means fails = tt
 caused config user nonce scripts turns limit before after (Err e) means fails = caused_by config user nonce scripts turns limit before after e means fails

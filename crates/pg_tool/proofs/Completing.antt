@@ -11,7 +11,6 @@ use Rattle.pg_spec.specs.SessionText.{SessionText, IsSessionText}
 use Rattle.pg_spec.specs.Settings.{Settings}
 use Rattle.pg_wire.specs.LinkCalls.{Continues, Tells}
 use Rattle.pg_wire.specs.Streams.{SinkView}
-use Rattle.pg_errors.specs.Views.{failure_of}
 use Rattle.pg_faults.specs.declared.error.Error.{Error}
 use Rattle.pg_text.specs.declared.report.Report.{Report}
 use Rattle.pg_text.proofs.ReadLaws.{one_session, refused_is_none}
@@ -23,9 +22,9 @@ use Rattle.pg_tool.specs.SessionContract.{SendsInOrder, SessionResult, result_of
 
 -- by what a session answered
 pub must_all : (call : Call) (r : Result Report Error) → Tells call.before → Tells call.after → Continues call.before call.after → SendsInOrder call (result_of r) →
-    IfErr r (λ e. HasCause call (failure_of e)) → MustEndWell call (result_of r)
+    IfErr r (λ e. HasCause call e) → MustEndWell call (result_of r)
 must_all call (Ok report) before after goes sent causes = λ plan s taken none_given none_taken planned told means valid conforms. tt
-must_all call (Err e) before after goes sent causes = must-end-well call (failure_of e) before after goes sent causes
+must_all call (Err e) before after goes sent causes = must-end-well call e before after goes sent causes
 
 -- ---- the program
 

@@ -8,7 +8,6 @@ use Rattle.pg_spec.specs.Links.{LinkView}
 use Rattle.pg_spec.specs.Messages.{Message, ErrorResponse, message_of}
 use Rattle.pg_spec.specs.RawMessages.{RawMessage}
 use Rattle.pg_desk.specs.declared.event.Event.{Event}
-use Rattle.pg_errors.specs.Views.{failure_of}
 use Rattle.pg_faults.specs.declared.error.Error.{Error}
 use Rattle.pg_faults.specs.declared.error.Error.TheVariants as error
 use Rattle.pg_connect.specs.declared.fault.ConnectionFault.{ConnectionFault}
@@ -37,7 +36,7 @@ read_not_config : (r : Result Message WireFault) → NotConfig (elim r [ Err f �
 read_not_config (Err f) = tt
 read_not_config (Ok m) = unasked_not_config m
 
-by_failure : (e : Error) → NotConfig (failure_of e) → IsLater e
+by_failure : (e : Error) → NotConfig e → IsLater e
 by_failure (error.Config c) h = h
 by_failure _ h = tt
 

@@ -6,7 +6,6 @@ use Rattle.pg_spec.specs.ConnectionStrings.{Means, only_user}
 use Rattle.pg_spec.specs.Faults.{LimitReached}
 use Rattle.pg_spec.specs.Links.{LinkView, OfBytes, added}
 use Rattle.pg_spec.specs.Report as told
-use Rattle.pg_errors.specs.Views.{failure_of}
 use Rattle.pg_faults.specs.declared.error.Error.{Error}
 use Rattle.pg_faults.specs.declared.error.Error.TheVariants as error
 use Rattle.pg_connect.specs.declared.startup.Startup.{Startup}
@@ -46,17 +45,17 @@ within_so call r within =
     map_bytes call.before call.after (λ g t. length g ≤ call.limit) (λ g t. call.limit < length g → Unless {R = told.Report} (λ failure. failure ≡ LimitReached (length g) call.limit) r)
     (λ g t less more. absurd (omega (arith, less, more))) within
 
-failed_so : (call : Call) (e : Error) → HoldsLimit call e → HasCause call (failure_of e) → KeepsLimit call (Err (failure_of e))
+failed_so : (call : Call) (e : Error) → HoldsLimit call e → HasCause call e → KeepsLimit call (Err e)
 failed_so call (error.LimitReached given limit) holds cause =
     map_bytes call.before call.after (λ g t. length g ≡ given) (λ g t. call.limit < length g → Unless {R = told.Report} (λ failure. failure ≡ LimitReached (length g) call.limit) (Err (LimitReached given limit)))
     (λ g t count more. ap (λ (n : ℕ). LimitReached n limit) (sym count) ∙ ap (λ (n : ℕ). LimitReached (length g) n) cause.asked) cause.counted
 failed_so call error.OutOfMemory holds cause =
-    any_bytes call.before call.after (λ g t. call.limit < length g → Unless {R = told.Report} (λ failure. failure ≡ LimitReached (length g) call.limit) (Err (failure_of error.OutOfMemory))) (λ g t more. tt)
-failed_so call e holds cause = within_so call (Err (failure_of e)) holds
+    any_bytes call.before call.after (λ g t. call.limit < length g → Unless {R = told.Report} (λ failure. failure ≡ LimitReached (length g) call.limit) (Err error.OutOfMemory)) (λ g t more. tt)
+failed_so call e holds cause = within_so call (Err e) holds
 
 -- by what a session answered
 pub keeps_limit : (call : Call) (r : Result Report Error) → IfOk r (λ report. OfBytes call.before call.after (λ g t. length g ≤ call.limit)) → IfErr r (HoldsLimit call) →
-    IfErr r (λ e. HasCause call (failure_of e)) → KeepsLimit call (result_of r)
+    IfErr r (λ e. HasCause call e) → KeepsLimit call (result_of r)
 keeps_limit call (Ok report) ended holds causes = within_so call (result_of (Ok report)) ended
 keeps_limit call (Err e) ended holds causes = failed_so call e holds causes
 

@@ -10,7 +10,6 @@ use Rattle.pg_spec.specs.Links.{LinkView, added}
 use Rattle.pg_spec.specs.Report as said
 use Rattle.pg_wire.specs.LinkCalls.{Continues, Tells}
 use Rattle.pg_connect.specs.Calm.{StaysCalm}
-use Rattle.pg_errors.specs.Views.{failure_of}
 use Rattle.pg_faults.specs.declared.cause.Cause.TheVariants as cause
 use Rattle.pg_faults.specs.declared.error.Error.{Error}
 use Rattle.pg_faults.specs.declared.error.Error.TheVariants as error
@@ -66,7 +65,7 @@ of_answer (Ok report) P h = h
 of_answer (Err e) P h = tt
 
 -- and of an error
-of_error : (call : Call) (r : Result Report Error) → IfErr r (λ e. HasCause call (failure_of e)) → IfErr (result_of r) (HasCause call)
+of_error : (call : Call) (r : Result Report Error) → IfErr r (λ e. HasCause call e) → IfErr (result_of r) (HasCause call)
 of_error call (Ok report) h = tt
 of_error call (Err e) h = h
 
@@ -75,7 +74,7 @@ closed_so : (r : Result Report Error) (P : Report → Type 0) (Q : Type 0) → (
 closed_so (Ok report) P Q f h = f report h
 closed_so (Err e) P Q f h = tt
 
-no_other : (e : Error) → ConfigIsNotBuilt e → NoOtherConfig (failure_of e)
+no_other : (e : Error) → ConfigIsNotBuilt e → NoOtherConfig e
 no_other (error.Config cause.NotBuilt) is = tt
 no_other (error.Config _) is = absurd is
 no_other _ is = tt

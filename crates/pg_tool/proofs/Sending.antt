@@ -7,7 +7,6 @@ use Rattle.pg_spec.specs.Links.{LinkView}
 use Rattle.pg_spec.specs.Promises.{NoneKeptBack, SentInOrder}
 use Rattle.pg_connect.specs.Calm.{StaysCalm}
 use Rattle.pg_connect.specs.declared.startup.Startup.{Startup}
-use Rattle.pg_errors.specs.Views.{failure_of}
 use Rattle.pg_faults.specs.declared.error.Error.{Error}
 use Rattle.pg_faults.specs.declared.error.Error.TheVariants as error
 use Rattle.pg_session.proofs.Caused.{broken-kept, broken-sent}
@@ -24,7 +23,7 @@ use Rattle.pg_tool.specs.SessionContract.{SendsInOrder, result_of}
 abbrev IsInOrder : Call → Type 0
 IsInOrder call = OfDialogue call (λ s g t. SentInOrder call s g t)
 
-sent_then : (call : Call) (e : Error) → IsInOrder call → SendsInOrder call (Err (failure_of e))
+sent_then : (call : Call) (e : Error) → IsInOrder call → SendsInOrder call (Err e)
 sent_then call e sent = λ w. sent
 
 start_sent : (call : Call) (user : List ℕ) (s : Startup) (e : Error) → Means call.config (only_user user) → OpenEnds user call.nonce call.before call.after s (Err e) → IsInOrder call
@@ -53,7 +52,7 @@ sends_all config user nonce scripts turns limit before after (Err e) means fails
 -- ---- where it ended well or stalled
 
 asks_by : (config user nonce : List ℕ) (scripts : List (List Command)) (turns : List ℕ) (limit : ℕ) (before after : LinkView) (e : Error) → Means config (only_user user) →
-    SessionFails user nonce scripts limit before after e → NoneKeptBack (call_of config nonce scripts turns limit before after) (Err (failure_of e))
+    SessionFails user nonce scripts limit before after e → NoneKeptBack (call_of config nonce scripts turns limit before after) (Err e)
 asks_by config user nonce scripts turns limit before after (error.Stalled a b) means (inl lacks) = absurd (let no : error.Stalled a b ≡ error.OutOfMemory = lacks.memory in cc)
 asks_by config user nonce scripts turns limit before after (error.Stalled a b) means (inr (inl made)) = absurd made.0
 asks_by config user nonce scripts turns limit before after (error.Stalled a b) means (inr (inr (inl start))) =

@@ -9,7 +9,6 @@ use Rattle.pg_spec.specs.SessionText.{SessionText, IsRefusedAt, IsSessionText}
 use Rattle.pg_wire.specs.Streams.{SinkView}
 use Rattle.pg_faults.specs.declared.error.Error.{Error}
 use Rattle.pg_faults.specs.declared.error.Error.TheVariants as error
-use Rattle.pg_errors.specs.Views.{failure_of}
 use Rattle.pg_tool.specs.Reading.{longest_text, ReadWhole}
 use Rattle.pg_tool.proofs.Completing.{must_text}
 use Rattle.pg_tool.specs.SessionContract.{SessionResult}
@@ -20,11 +19,11 @@ use Rattle.pg_tool.specs.RunContract.{Answered, EndsWith, IsPlayed, IsRefused, I
 pub answered_ok : (old new : SinkView) (status : ℕ) (report : Report) → Written old new (report_text report) 0 status → Answered old new status (Ok report)
 answered_ok old new status report w = record { says = w.ends; sink_failed = w.sink_failed (λ e. cc e) }
 
-says_failed : (old new : SinkView) (status : ℕ) (e : Error) → e ≢ error.OutOfMemory → EndsWith old new (error_text (failure_of e)) 1 status → SaysResult old new status (Err (failure_of e))
+says_failed : (old new : SinkView) (status : ℕ) (e : Error) → e ≢ error.OutOfMemory → EndsWith old new (error_text e) 1 status → SaysResult old new status (Err e)
 says_failed old new status error.OutOfMemory other ends = absurd (other refl)
 says_failed old new status _ other ends = ends
 
-pub answered_failed : (old new : SinkView) (status : ℕ) (e : Error) → e ≢ error.OutOfMemory → Written old new (error_text (failure_of e)) 1 status → Answered old new status (Err (failure_of e))
+pub answered_failed : (old new : SinkView) (status : ℕ) (e : Error) → e ≢ error.OutOfMemory → Written old new (error_text e) 1 status → Answered old new status (Err e)
 answered_failed old new status e other w = record { says = says_failed old new status e other w.ends; sink_failed = w.sink_failed (λ e. cc e) }
 
 -- ---- no status but those

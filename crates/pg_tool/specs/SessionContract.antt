@@ -2,7 +2,6 @@
 use Rattle.std.specs.Prelude.{◌≡◌, ◌<◌, ℕ, List, length, Result, Ok, Err, IfOk, IfErr, ⊤}
 use Rattle.pg_spec.specs.Causes.{Call, HasCause, IsNotBuilt, OfDialogue, Unless, WithSettings}
 use Rattle.pg_spec.specs.Links.{OfBytes}
-use Rattle.pg_errors.specs.Views.{failure_of}
 use Rattle.pg_faults.specs.declared.error.Error.{Error}
 use Rattle.pg_text.specs.Views.{report_of}
 use Rattle.pg_text.specs.declared.report.Report as told
@@ -22,7 +21,7 @@ SessionResult = Result Report Failure
 -- the same of what `run_session` answers
 abbrev pub result_of : Result told.Report Error → SessionResult
 result_of (Ok report) = Ok (report_of report)
-result_of (Err error) = Err (failure_of error)
+result_of (Err error) = Err error
 
 -- a call that ended with this report, where the server gave these bytes
 abbrev pub session_of : Call → Settings → List ℕ → Report → Session

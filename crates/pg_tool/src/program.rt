@@ -1,7 +1,6 @@
 //! The program around a session.
 
 ghost use Rattle.std.specs.Prelude.{◌≡◌, ◌<◌, ◌^◌, ◌↔◌, ℕ, List, None, Err, IfOk, IfSome, IsSome, IsTrue, map, option_map, string_bytes};
-ghost use Rattle.pg_errors.specs.Views.{failure_of};
 ghost use Rattle.pg_text.specs.Sessions.{IsNew, session_of};
 ghost use Rattle.pg_tool.specs.RunContract.{Answered, PlayedSession, PlayedText, RefusedLine, RunContract, Written, play};
 ghost use Rattle.pg_tool.specs.SessionContract.{result_of};
@@ -168,7 +167,7 @@ fn write_answer<K: Sink>(alloc: Global, answer: &Result<Report, Error>, sink: &m
 
 /// Writes the error, unless it is want of memory, and gives the status.
 fn write_failure<K: Sink>(alloc: Global, error: &Error, sink: &mut K) -> u8
-    ensures { Answered (K.state sink.old) (K.state sink.new) result (Err (failure_of error.now)) }
+    ensures { Answered (K.state sink.old) (K.state sink.new) result (Err error.now) }
 {
     match error {
         Error::OutOfMemory => 5,
