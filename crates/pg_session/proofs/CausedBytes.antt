@@ -10,7 +10,7 @@ use Rattle.pg_spec.specs.ConnectionStrings.{only_user, Means}
 use Rattle.pg_spec.specs.DbErrors.{DbError, db_error_of}
 use Rattle.pg_spec.specs.Faults as faults
 use Rattle.pg_spec.specs.Links.{LinkView, OfBytes, Grew}
-use Rattle.pg_spec.specs.Messages.{Message, message_of, layouts}
+use Rattle.pg_spec.specs.Messages.{Message, layouts}
 use Rattle.pg_spec.specs.Messages as spec
 use Rattle.pg_spec.specs.RawMessages.{RawMessage, messages, bytes_left, has_bad_header, async_of, is_ready, cut_after}
 use Rattle.pg_spec.specs.Sent.{tagged_frames}

@@ -57,9 +57,7 @@ decided-said take ms r (front, f, e) = (front, f, ap (option_map simple_answer) 
 
 pub refused-said : (f : spec.FrameFault) →
     answer_of (kept_answer (Err (spec.Encode (spec.Frame f)))) ≡ told.Failed (spec.Encode (spec.Frame f))
-refused-said spec.ZeroByte = refl
-refused-said spec.TooMany = refl
-refused-said spec.TooLong = refl
+refused-said f = refl
 
 -- ---- a command that runs
 

@@ -18,7 +18,7 @@ parameter_lines pairs = flat_map (λ (pair : List ℕ × List ℕ). line (codes 
 
 -- severity, code and message
 abbrev pub error_fields : DbError → List ℕ
-error_fields error = join_with_byte 32 (quoted error.severity ∷ quoted error.code ∷ quoted error.message ∷ [])
+error_fields error = join_with_byte 32 (quoted error.severity ∷ quoted error.code.code ∷ quoted error.message ∷ [])
 
 -- each word behind a space
 abbrev pub behind_spaces : {A : Type 0} → (A → List ℕ) → List A → List ℕ

@@ -5,10 +5,10 @@ ghost use Rattle.pg_spec.specs.Batches.{is_batch};
 ghost use Rattle.pg_spec.specs.RawMessages.{messages, ends_in, is_ready};
 ghost use Rattle.pg_wire.specs.Backend.{HoldsBatch, Nexts};
 
-use pg_faults::WireFault;
 use crate::front::count;
 use crate::message::Message;
 use bytes::Bytes;
+use pg_faults::WireFault;
 use pg_types::OutOfMemory;
 use std::marker::Model;
 

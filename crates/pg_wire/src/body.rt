@@ -3,9 +3,9 @@
 ghost use Rattle.std.specs.Prelude.{◌≡◌, true, false, MatchResult, IfOk, IfErr, is_ok};
 ghost use Rattle.std.specs.Str.{is_utf8};
 
-use pg_faults::WireFault;
 use crate::texts::{TextPair, utf8};
 use bytes::Bytes;
+use pg_faults::WireFault;
 use std::marker::Model;
 use std::str;
 

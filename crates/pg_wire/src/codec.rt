@@ -7,12 +7,12 @@ ghost use Rattle.pg_wire.specs.Writes.{Writes};
 ghost use Rattle.pg_wire.specs.Fronts.{IsWhole, is_aside_tag};
 
 use crate::backend::BackendMessages;
-use pg_faults::{FrameFault, WireFault};
 use crate::front::{Found, batch_end, front, is_aside};
 use crate::frontend::copy_data;
 use crate::layout::{is_laid_out, message_of};
 use crate::message::Message;
 use bytes::{Bytes, BytesMut};
+use pg_faults::{FrameFault, WireFault};
 
 /// What is written to the server.
 #[derive(Drop)]

@@ -4,8 +4,8 @@ ghost use Rattle.std.specs.Prelude.{◌≡◌, ◌<◌, length, IfOk, IfSome};
 ghost use Rattle.pg_wire.specs.Steps.{Steps, error_step};
 
 use crate::body::ErrorResponseBody;
-use pg_faults::WireFault;
 use crate::texts::text_end;
+use pg_faults::WireFault;
 use std::marker::Model;
 
 /// A field: the byte that says what it is, and its text.

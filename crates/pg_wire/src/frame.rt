@@ -5,8 +5,8 @@ ghost use Rattle.pg_spec.specs.Bytes.{text0};
 ghost use Rattle.pg_spec.specs.Frames.{has_zero as spec_has_zero};
 ghost use Rattle.pg_wire.specs.Begins.{Begins, RefusesLength};
 
-use pg_faults::FrameFault;
 use bytes::BytesMut;
+use pg_faults::FrameFault;
 
 /// The largest number that a length field holds, in bytes.
 const MAX_LEN: usize = 2_147_483_647;

@@ -5,9 +5,9 @@ ghost use Rattle.std.specs.List.{list_any};
 ghost use Rattle.pg_spec.specs.Frames as frames;
 ghost use Rattle.pg_wire.specs.Writes.{Writes, pair_has_zero, pairs_bytes};
 
-use pg_faults::FrameFault;
 use crate::frame::{begin, frame_len, has_zero, put_text};
 use bytes::BytesMut;
+use pg_faults::FrameFault;
 use pg_types::{List, OutOfMemory, Text};
 use std::alloc::Global;
 use std::marker::Model;

@@ -13,10 +13,10 @@ use crate::body::{
     ErrorResponseBody, NotificationResponseBody, ParameterDescriptionBody, ParameterStatusBody,
     ReadyForQueryBody, RowDescriptionBody,
 };
-use pg_faults::WireFault;
 use crate::message::Message;
 use crate::texts::{TextPair, pair_end, text_end};
 use bytes::{Buf, Bytes};
+use pg_faults::WireFault;
 
 /// The message of a tag and a body, or what is wrong with them: UnknownTag or Layout.
 pub(crate) fn message_of(tag: u8, body: Bytes) -> Result<Message, WireFault>

@@ -5,8 +5,8 @@ ghost use Rattle.std.specs.Prelude.{◌≡◌, ◌<◌, length, Ok, Some, None, 
 ghost use Rattle.pg_wire.specs.Steps.{Refuses, mechanism_step};
 
 use crate::body::AuthenticationSaslBody;
-use pg_faults::WireFault;
 use crate::texts::{text_end, utf8};
+use pg_faults::WireFault;
 use std::marker::Model;
 
 /// The mechanisms not yet read, seen as the bytes that hold them.

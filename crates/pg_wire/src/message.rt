@@ -9,10 +9,10 @@ use crate::body::{
     ErrorResponseBody, NotificationResponseBody, ParameterDescriptionBody, ParameterStatusBody,
     ReadyForQueryBody, RowDescriptionBody,
 };
-use pg_faults::WireFault;
 use crate::front::{Found, front};
 use crate::layout::message_of;
 use bytes::Bytes;
+use pg_faults::WireFault;
 
 /// A message of the server, its parts not yet read (PostgreSQL documentation, "Message Formats").
 #[derive(Drop)]

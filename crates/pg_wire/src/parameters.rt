@@ -5,8 +5,8 @@ ghost use Rattle.std.specs.Prelude.{◌≡◌, ◌<◌, Ok, IfOk, IfSome, MatchR
 ghost use Rattle.pg_wire.specs.Steps.{Steps, Refuses, oid_at, parameter_step};
 
 use crate::body::ParameterDescriptionBody;
-use pg_faults::WireFault;
 use bytes::Buf;
+use pg_faults::WireFault;
 use std::marker::Model;
 
 /// The types not yet read.

@@ -5,8 +5,8 @@ ghost use Rattle.pg_spec.specs.Bodies.{cell_at};
 ghost use Rattle.pg_wire.specs.Steps.{CellSteps, Refuses, IsWithin, cell_in};
 
 use crate::body::DataRowBody;
-use pg_faults::WireFault;
 use bytes::Buf;
+use pg_faults::WireFault;
 use std::marker::Model;
 use std::ops::Range;
 

@@ -5,9 +5,9 @@ ghost use Rattle.pg_spec.specs.Bodies.{utf8_at, field_at};
 ghost use Rattle.pg_wire.specs.Steps.{Steps, Refuses, field_step};
 
 use crate::body::RowDescriptionBody;
-use pg_faults::WireFault;
 use crate::texts::{text_end, utf8};
 use bytes::Buf;
+use pg_faults::WireFault;
 use std::marker::Model;
 
 /// A column of a result.

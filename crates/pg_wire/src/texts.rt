@@ -4,8 +4,8 @@ ghost use Rattle.std.specs.Prelude.{◌≡◌, true, false, MatchResult};
 ghost use Rattle.std.specs.Str.{is_utf8};
 ghost use Rattle.pg_wire.specs.Bodies.{TextEnds, PairEnds, text_pair};
 
-use pg_faults::WireFault;
 use bytes::Bytes;
+use pg_faults::WireFault;
 use std::marker::Model;
 
 /// Two texts, one behind the other. They share the bytes that were received.
