@@ -1,12 +1,14 @@
 -- Sessions that don't end well.
-use Rattle.std.proofs.Common.{◌≡◌, ℕ, zero, suc, ◌<◌, List, [], ◌∷◌, length, map, Option, Some, None, refl, ap, subst, arith, codes}
-use Rattle.std.specs.Prelude.{Bool, true, IsFalse, ⊤}
+use Rattle.std.proofs.Common.{◌≡◌, ℕ, List, [], ◌∷◌, length, map, Option, Some, None, refl, ap, subst, arith, codes}
+use Rattle.std.specs.Prelude.{Bool, true, false, IsFalse, IsTrue}
+use Rattle.std.specs.List.{list_all}
 use Rattle.std.specs.Str.{is_utf8, chars}
 use Rattle.std.specs.Str.Lossy.{utf8_lossy, utf8_valid_len}
 use lib.Utf8.{encode}
 use Rattle.pg_spec.specs.Book.{Booking}
+use Rattle.pg_spec.specs.Causes.{is_readable}
 use Rattle.pg_spec.specs.EndedWell.{EndedWell, received}
-use Rattle.pg_spec.specs.Examples.{select_one, select_one_sent, two_clients_sent, three_sent, early_reply, booked_later, one_for_two, synced_first, notice_left_out, first_value, bad_header, booked}
+use Rattle.pg_spec.specs.Examples.{select_one, select_one_sent, two_clients_sent, three_sent, early_reply, booked_later, one_for_two, synced_first, notice_left_out, first_value, bad_header, report_skipped}
 use Rattle.pg_spec.specs.Parameters.{last_value, parameter_reports}
 use Rattle.pg_spec.specs.RawMessages.{bytes_left, has_bad_header}
 use Rattle.pg_spec.specs.Report.{Command, Simple}
@@ -87,4 +89,14 @@ unfolding is_utf8 chars encode
 not_bad_header w = bad (subst (λ (b : Bool). IsFalse b) is w.no_bad_header)
   where
     is : has_bad_header (bytes_left bad_header.given) ≡ true
+    is = refl
+
+skipped : IsTrue false → ⊥
+skipped is = absurd cc
+
+pub not_skipped : EndedWell report_skipped select_one_sent → ⊥
+unfolding is_utf8 chars encode
+not_skipped w = skipped (subst (λ (b : Bool). IsTrue b) is w.readable)
+  where
+    is : list_all is_readable (received report_skipped) ≡ false
     is = refl

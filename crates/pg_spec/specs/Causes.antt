@@ -1,5 +1,5 @@
 -- When a session may answer each failure.
-use Rattle.std.specs.Prelude.{◌≡◌, ◌≢◌, ℕ, ◌+◌, ◌≤◌, ◌<◌, ◌⊎◌, Bool, true, false, take, ◌&&◌, ◌||◌, IsTrue, IsFalse, List, [], ◌∷◌, length, count_by, Option, Some, None, is_some, if◌then◌else◌, Result, Ok, Err, IsSome, slice_get, ◌==◌, Contains, ⊤}
+use Rattle.std.specs.Prelude.{◌≡◌, ◌≢◌, ℕ, ◌+◌, ◌-◌, ◌^◌, ◌≤◌, ◌<◌, ◌⊎◌, Bool, true, false, not, take, ◌&&◌, ◌||◌, IsTrue, IsFalse, List, [], ◌∷◌, length, count_by, Option, Some, None, is_some, is_none, if◌then◌else◌, Result, Ok, Err, IsSome, slice_get, ◌==◌, Contains, ⊤}
 use Rattle.std.specs.List.{concat, list_all}
 use Rattle.std.specs.Str.{byte, is_utf8}
 use Rattle.pg_spec.specs.ConnectionStrings.{Means}
@@ -10,7 +10,7 @@ use Rattle.pg_faults.specs.declared.fault.WireFault.TheVariants as wire
 use Rattle.pg_faults.specs.declared.fault.FrameFault.TheVariants as frame
 use Rattle.pg_faults.specs.declared.cause.ScramFault.TheVariants as scram
 use Rattle.pg_spec.specs.Frames.{ssl_request}
-use Rattle.pg_spec.specs.Links.{LinkView, Rose, OfBytes}
+use Rattle.pg_spec.specs.Links.{LinkView, Rose, OfBytes, next_count}
 use Rattle.pg_spec.specs.Messages.{Message, AuthenticationOk, ReadyForQuery, ErrorResponse, NoticeResponse, NotificationResponse, ParameterStatus, message_of}
 use Rattle.pg_spec.specs.Passwords.{is_nonce_byte}
 use Rattle.pg_spec.specs.RawMessages.{RawMessage, messages, bytes_left, has_bad_header, groups, is_whole_group, is_async, is_parameter}
@@ -83,6 +83,13 @@ aside_fault (NotificationResponse process_id channel payload) = if is_utf8 chann
 aside_fault (ParameterStatus name value) = if is_utf8 name && is_utf8 value then None else Some NotText
 aside_fault other = None
 
+-- a notice, a notification or a parameter report keeps its layout and can be read
+abbrev pub is_readable : RawMessage → Bool
+is_readable raw = elim (message_of raw) [
+  | Ok message ↦ is_none (aside_fault message)
+  | Err fault ↦ not (is_async raw || is_parameter raw)
+]
+
 -- one that was received can't be read, for this cause
 abbrev pub AsideUnreadable : Cause → List RawMessage → Type 0
 AsideUnreadable cause ms = (m : RawMessage) × (message : Message) × Contains ms m × (message_of m ≡ Ok message) × (aside_fault message ≡ Some cause)
@@ -111,8 +118,9 @@ pub record IsStalled (call : Call) (before after : ℕ) : Type 0 where
   pub rose : Rose before after
   -- between them one read and at most one other call weren't ready; on a steady link the read alone
   pub round : (after ≤ before + 2) × (IsTrue call.before.steady → after ≤ before + 1)
-  -- and behind them at most the wait wasn't
+  -- and behind them at most the wait wasn't; on a steady link it wasn't, so the counts are those around the round before it
   pub last : call.after.quiet ≤ after + 1
+  pub exact : IsTrue call.before.steady → call.before.lulls < 2 ^ 64 - 1 → call.after.quiet ≡ next_count after
   pub awaited : IsTrue call.before.steady → (call.after.due ≡ Some []) × OfDialogue call (IsAwaited call)
 
 -- more bytes were given than the limit

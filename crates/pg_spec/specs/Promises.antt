@@ -1,14 +1,13 @@
 -- More that a session promises, beside its main theorem: when it must end well, what it sent where it
 -- failed, and that no request is kept back.
-use Rattle.std.specs.Prelude.{◌≡◌, ◌≢◌, ℕ, ◌+◌, ◌≤◌, ◌<◌, ◌⊎◌, Bool, true, false, not, ◌||◌, IsTrue, IsFalse, List, [], ◌∷◌, ◌++◌, length, map, take, drop, filter, filter_map, count_by, sum_by, Option, Some, None, Result, Ok, Err, All, IsOk, IsSome, is_none, slice_get, ◌==◌, nat_lt, ⊤}
+use Rattle.std.specs.Prelude.{◌≡◌, ◌≢◌, ℕ, ◌+◌, ◌≤◌, ◌<◌, ◌⊎◌, Bool, true, false, ◌||◌, IsTrue, IsFalse, List, [], ◌∷◌, ◌++◌, length, map, take, drop, filter, filter_map, count_by, sum_by, Option, Some, None, Result, Ok, Err, All, IsOk, IsSome, slice_get, ◌==◌, nat_lt, ⊤}
 use Rattle.std.specs.List.{concat, list_all}
-use Rattle.pg_spec.specs.Causes.{Call, OfDialogue, startup_after, is_nonce, aside_fault, is_built}
+use Rattle.pg_spec.specs.Causes.{Call, OfDialogue, startup_after, is_nonce, is_readable, is_built}
 use Rattle.pg_spec.specs.ConnectionStrings.{Means}
 use Rattle.pg_spec.specs.Faults.{Failure, OutOfMemory, Stalled}
 use Rattle.pg_spec.specs.Frames.{startup_frame, query_frame, ssl_request, terminate_frame}
 use Rattle.pg_spec.specs.Links.{Plan}
-use Rattle.pg_spec.specs.Messages.{message_of}
-use Rattle.pg_spec.specs.RawMessages.{RawMessage, messages, bytes_left, groups, is_whole_group, is_async, is_parameter}
+use Rattle.pg_spec.specs.RawMessages.{messages, bytes_left, groups, is_whole_group, is_async, is_parameter}
 use Rattle.pg_spec.specs.Sent.{turns_given, whole_units}
 use Rattle.pg_spec.specs.Book.{Booking, wire}
 use Rattle.pg_spec.specs.Report.{Command, Simple, Report}
@@ -33,13 +32,6 @@ dialogue_over call s plan entries = startup s call.nonce (messages (concat (take
 -- the messages of an entry are one whole group, and what may stand anywhere
 abbrev pub IsOneReply : List ℕ → Type 0
 IsOneReply entry = (length (groups (messages entry)) ≡ 1) × IsTrue (list_all is_whole_group (groups (messages entry)))
-
--- a notice, a notification or a parameter report keeps its layout and can be read
-abbrev pub is_readable : RawMessage → Bool
-is_readable raw = elim (message_of raw) [
-  | Ok message ↦ is_none (aside_fault message)
-  | Err fault ↦ not (is_async raw || is_parameter raw)
-]
 
 -- what the server owes: the frames of the startup, `frames` of them, are answered by a startup, and
 -- each later frame that gives it the turn by one reply

@@ -1,4 +1,4 @@
-use Rattle.pg_spec.proofs.WorkedRefused.{not_early, not_later, not_shared, not_synced, not_left_out, not_first_value, not_bad_header}
+use Rattle.pg_spec.proofs.WorkedRefused.{not_early, not_later, not_shared, not_synced, not_left_out, not_first_value, not_bad_header, not_skipped}
 use Rattle.pg_spec.proofs.laws.worked_refused.Goals as goal
 
 pub returns-clause-not_early : goal.returns-clause-not_early
@@ -21,3 +21,6 @@ returns-clause-not_first_value c = not_first_value
 
 pub returns-clause-not_bad_header : goal.returns-clause-not_bad_header
 returns-clause-not_bad_header c = not_bad_header
+
+pub returns-clause-not_skipped : goal.returns-clause-not_skipped
+returns-clause-not_skipped c = not_skipped
