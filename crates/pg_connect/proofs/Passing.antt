@@ -4,7 +4,9 @@ use Rattle.pg_spec.specs.Links.{LinkView}
 use Rattle.pg_spec.specs.RawMessages.{RawMessage, messages, has_bad_header}
 use Rattle.pg_wire.specs.LinkCalls.{Keeps}
 use Rattle.pg_desk.specs.declared.event.Event.{Event}
+use Rattle.pg_wire.specs.declared.body.ErrorResponseBody.{ErrorResponseBody}
 use Rattle.pg_errors.specs.declared.async_message.AsyncMessage.{AsyncMessage}
+use Rattle.pg_faults.specs.declared.cause.Cause.{Cause}
 use Rattle.pg_faults.specs.declared.error.Error.{Error}
 use Rattle.pg_connect.specs.declared.fault.ConnectionFault.{ConnectionFault}
 use Rattle.pg_connect.specs.declared.fault.ConnectionFault.TheVariants as fault
@@ -16,7 +18,7 @@ use Rattle.pg_connect.specs.declared.ends.ReadEnd.TheVariants as ending
 use Rattle.pg_connect.specs.declared.streams.Streams.{Streams}
 use Rattle.pg_connect.specs.Passes.{Passes, PassesOn, Goes, Hands, Untouched, waiting}
 use Rattle.pg_connect.specs.Ends.{last_is, some_is}
-use Rattle.pg_connect.specs.Reads.{HandedOff, OffEnds, DeliverEnds, PassEnds, AllEnds, PieceEnds, ReadEnds, HandedIn, HandedAll, AllDecoded, EndsAt, LastGivesBack, MeetsFull, MeetsNoRequest, NoneFull, WasDry, EndsInside, RefusesFirst, is_full}
+use Rattle.pg_connect.specs.Reads.{HandedOff, OffEnds, DeliverEnds, PassEnds, AllEnds, PieceEnds, ReadEnds, HandedIn, HandedAll, AllDecoded, EndsAt, LastGivesBack, MeetsFull, MeetsNoRequest, NoneFull, WasDry, EndsInside, LeavesDelayed, RefusesFirst, is_full}
 use Rattle.pg_connect.proofs.Joining.{calls-then, none_lost, passes-joined, promised_still, rose_later, unmoved_before}
 use Rattle.pg_connect.proofs.Parts.{Joins}
 
@@ -193,20 +195,21 @@ held_refused t a b (fault.LimitReached given most) events is = absurd is
 pub decoded_same : (s t : Streams) → t.buffer.items ≡ s.buffer.items → AllDecoded s → AllDecoded t
 decoded_same s t same was = record { none_whole = ap messages same ∙ was.none_whole; no_bad_header = ap has_bad_header same ∙ was.no_bad_header }
 
-pub piece_refused : (s t : Streams) (a b c : LinkView) (e : ConnectionFault) (events : List Event) → Keeps a b → AllDecoded s → PieceEnds s t b c (Err e) → ReadEnds t a c (Err e) events
-piece_refused s t a b c fault.Link events keeps decoded is = rose_later a.faults b.faults c.faults keeps.counts.faults is
-piece_refused s t a b c fault.Closed events keeps decoded is = (rose_later a.ends b.ends c.ends keeps.counts.ends is.0, is.1)
-piece_refused s t a b c fault.Ended events keeps decoded is = record {
+pub piece_refused : (s t : Streams) (a b c : LinkView) (e : ConnectionFault) (events : List Event) → Keeps a b → AllDecoded s → t.held ≡ None → PieceEnds s t b c (Err e) → ReadEnds t a c (Err e) events
+piece_refused s t a b c fault.Link events keeps decoded none is = rose_later a.faults b.faults c.faults keeps.counts.faults is
+piece_refused s t a b c fault.Closed events keeps decoded none is = (rose_later a.ends b.ends c.ends keeps.counts.ends is.0, is.1, ap waiting none)
+piece_refused s t a b c fault.Ended events keeps decoded none is = record {
   rose = rose_later a.ends b.ends c.ends keeps.counts.ends is.0;
   some = is.1;
   decoded = decoded_same s t is.2 decoded;
+  held = ap waiting none;
 }
-piece_refused s t a b c (fault.LimitReached given most) events keeps decoded is = is
-piece_refused s t a b c fault.OutOfMemory events keeps decoded is = tt
-piece_refused s t a b c fault.BadLength events keeps decoded is = absurd is
-piece_refused s t a b c fault.Layout events keeps decoded is = absurd is
-piece_refused s t a b c (fault.Unreadable cause) events keeps decoded is = absurd is
-piece_refused s t a b c (fault.Unasked e) events keeps decoded is = absurd is
+piece_refused s t a b c (fault.LimitReached given most) events keeps decoded none is = (is.0, is.1, is.2, record { piece = is.3; undecoded = is.4; held = ap waiting none })
+piece_refused s t a b c fault.OutOfMemory events keeps decoded none is = tt
+piece_refused s t a b c fault.BadLength events keeps decoded none is = absurd is
+piece_refused s t a b c fault.Layout events keeps decoded none is = absurd is
+piece_refused s t a b c (fault.Unreadable cause) events keeps decoded none is = absurd is
+piece_refused s t a b c (fault.Unasked e) events keeps decoded none is = absurd is
 
 -- what was taken off, at the arm's own value
 pub record TakenOff (s t : Streams) (x : Off) : Type 0 where
@@ -312,28 +315,33 @@ pub untouched_first : (a b c : Streams) (l m n : LinkView) (es fs : List Event) 
     Passes a b l m es hs → Passes b c m n fs js → c.moved ≡ false → Untouched l m
 untouched_first a b c l m n es fs hs js p q none = p.still (unmoved_before b.moved c.moved _ q.moved none)
 
--- how the step ended doesn't depend on the events before
-pub ends_behind : (t : Streams) (a b : LinkView) (r : Result ReadEnd ConnectionFault) (es fs : List Event) → ReadEnds t a b r fs → ReadEnds t a b r (es ++ fs)
-ends_behind t a b (Ok (ending.Handed message)) es fs is = tt
-ends_behind t a b (Ok ending.Full) es fs is = (full_behind t es fs is.0, is.1)
-ends_behind t a b (Ok ending.Dry) es fs is = is
-ends_behind t a b (Err (fault.Unasked e)) es fs is = unasked_behind t e es fs is
-ends_behind t a b (Err fault.Link) es fs is = is
-ends_behind t a b (Err fault.Closed) es fs is = is
-ends_behind t a b (Err fault.Ended) es fs is = is
-ends_behind t a b (Err fault.BadLength) es fs is = is
-ends_behind t a b (Err fault.Layout) es fs is = is
-ends_behind t a b (Err (fault.Unreadable c)) es fs is = is
-ends_behind t a b (Err (fault.LimitReached given most)) es fs is = is
-ends_behind t a b (Err fault.OutOfMemory) es fs is = tt
+-- no delayed notice is left unread where none is delayed
+never_late : {P : Type 0} (t : Streams) (c : Cause) → t.delayed.items ≡ [] → LeavesDelayed t c → P
+never_late t c none late = let no : ◌≡◌ {A = List ErrorResponseBody} [] (late.notice ∷ late.others) = sym none ∙ late.first in cc
 
-pub late_refused : (t : Streams) (a b : LinkView) (e : ConnectionFault) (events : List Event) → RefusesFirst t e → ReadEnds t a b (Err e) events
-late_refused t a b (fault.Unreadable c) events is = inr is
-late_refused t a b fault.OutOfMemory events is = tt
-late_refused t a b fault.BadLength events is = absurd is
-late_refused t a b fault.Layout events is = absurd is
-late_refused t a b (fault.Unasked e) events is = absurd is
-late_refused t a b fault.Link events is = absurd is
-late_refused t a b fault.Closed events is = absurd is
-late_refused t a b fault.Ended events is = absurd is
-late_refused t a b (fault.LimitReached given most) events is = absurd is
+-- how the step ended doesn't depend on the events before, where no notice is delayed
+pub ends_behind : (t : Streams) (a b : LinkView) (r : Result ReadEnd ConnectionFault) (es fs : List Event) → t.delayed.items ≡ [] → ReadEnds t a b r fs → ReadEnds t a b r (es ++ fs)
+ends_behind t a b (Ok (ending.Handed message)) es fs none is = tt
+ends_behind t a b (Ok ending.Full) es fs none is = (full_behind t es fs is.0, is.1)
+ends_behind t a b (Ok ending.Dry) es fs none is = is
+ends_behind t a b (Err (fault.Unasked e)) es fs none is = unasked_behind t e es fs is
+ends_behind t a b (Err fault.Link) es fs none is = is
+ends_behind t a b (Err fault.Closed) es fs none is = is
+ends_behind t a b (Err fault.Ended) es fs none is = is
+ends_behind t a b (Err fault.BadLength) es fs none is = is
+ends_behind t a b (Err fault.Layout) es fs none is = is
+ends_behind t a b (Err (fault.Unreadable c)) es fs none (inl is) = inl is
+ends_behind t a b (Err (fault.Unreadable c)) es fs none (inr is) = never_late t c none is.0
+ends_behind t a b (Err (fault.LimitReached given most)) es fs none is = is
+ends_behind t a b (Err fault.OutOfMemory) es fs none is = tt
+
+pub late_refused : (t : Streams) (a b : LinkView) (e : ConnectionFault) → RefusesFirst t e → ReadEnds t a b (Err e) []
+late_refused t a b (fault.Unreadable c) is = inr (is, refl)
+late_refused t a b fault.OutOfMemory is = tt
+late_refused t a b fault.BadLength is = absurd is
+late_refused t a b fault.Layout is = absurd is
+late_refused t a b (fault.Unasked e) is = absurd is
+late_refused t a b fault.Link is = absurd is
+late_refused t a b fault.Closed is = absurd is
+late_refused t a b fault.Ended is = absurd is
+late_refused t a b (fault.LimitReached given most) is = absurd is

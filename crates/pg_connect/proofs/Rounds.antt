@@ -182,7 +182,7 @@ closes_by s mid t may es fs same closes x = elim (closes x) [
 
 read_fails : (s t : Streams) (l n : LinkView) (e : ConnectionFault) (es : List Event) → s.closing ≡ false → t.closing ≡ s.closing → ReadEnds t l n (Err e) es → TurnFails s t l n e es
 read_fails s t l n fault.Link es active same is = is
-read_fails s t l n fault.Closed es active same is = inl (record { rose = is.0; buffer = is.1; active = active; stays = same ∙ active })
+read_fails s t l n fault.Closed es active same is = inl (record { rose = is.0; buffer = is.1; held = is.2; active = active; stays = same ∙ active })
 read_fails s t l n fault.Ended es active same is = is
 read_fails s t l n fault.BadLength es active same is = is
 read_fails s t l n fault.Layout es active same is = is

@@ -20,7 +20,7 @@ use Rattle.pg_connect.specs.declared.ends.Off.{Off}
 use Rattle.pg_connect.specs.declared.ends.Off.TheVariants as off
 use Rattle.pg_connect.specs.declared.streams.Streams.{Streams}
 use Rattle.pg_connect.specs.Kept.{keep}
-use Rattle.pg_connect.specs.Passes.{Passes, PassesOn, Untouched, notice_of, delayed_in}
+use Rattle.pg_connect.specs.Passes.{Passes, PassesOn, Untouched, notice_of, delayed_in, waiting}
 use Rattle.pg_spec.specs.RawMessages.{messages}
 use Rattle.pg_connect.specs.Reads.{TakesAside, HandedOff, OffEnds, Carries, FirstReads}
 use Rattle.pg_connect.specs.declared.fault.ConnectionFault.TheVariants as fault
@@ -83,7 +83,12 @@ aside_ends s mid t message (Ok off.Kept) none cut same takes =
     )
 aside_ends s mid t message (Ok off.Held) none cut same takes = absurd takes
 aside_ends s mid t message (Ok off.Nothing) none cut same takes = absurd takes
-aside_ends s mid t message (Err (fault.Unreadable c)) none cut same takes = record { message = message; unread = ap (λ (x : Streams). x.unread) takes.1; means = takes.0 }
+aside_ends s mid t message (Err (fault.Unreadable c)) none cut same takes = record {
+  message = message;
+  unread = ap (λ (x : Streams). x.unread) takes.1;
+  means = takes.0;
+  held = ap (λ (x : Streams). waiting x.held) takes.1 ∙ ap (λ (x : Streams). waiting x.held) same ∙ ap waiting none;
+}
 aside_ends s mid t message (Err fault.OutOfMemory) none cut same takes = tt
 aside_ends s mid t message (Err _) none cut same takes = absurd takes.0
 

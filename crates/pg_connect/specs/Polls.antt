@@ -1,7 +1,7 @@
 -- How a turn of the connection ends, and why.
 use Rattle.std.specs.Prelude.{◌≡◌, ℕ, ◌<◌, ◌⊎◌, Bool, true, false, not, IsTrue, ◌||◌, List, [], ◌∷◌, length, Some, IfSome, OnOk, Result, Ok, Err}
 use Rattle.pg_spec.specs.Links.{LinkView, Rose, due_by}
-use Rattle.pg_spec.specs.RawMessages.{RawMessage, has_bad_header}
+use Rattle.pg_spec.specs.RawMessages.{RawMessage}
 use Rattle.pg_desk.specs.declared.event.Event.{Event}
 use Rattle.pg_connect.specs.declared.fault.ConnectionFault.{ConnectionFault}
 use Rattle.pg_connect.specs.declared.fault.ConnectionFault.TheVariants as fault
@@ -14,7 +14,7 @@ use Rattle.pg_connect.specs.declared.ends.TurnEnd.TheVariants as turn
 use Rattle.pg_connect.specs.declared.streams.Streams.{Streams}
 use Rattle.pg_connect.specs.Ends.{WasBlocked, last_is, some_is, has_none, has_no_more, is_closed_out, Closes}
 use Rattle.pg_connect.specs.Passes.{waiting, delayed_in, Goes, OnlySends}
-use Rattle.pg_connect.specs.Reads.{AllDecoded, BreaksLayout, Carries, EndsInside, GivesBack, IsCleared, IsOnePastLimit, IsUnasked, LastGivesBack, LeavesDelayed, LeavesUnread, Paced, StopsAt, is_full, has_no_request}
+use Rattle.pg_connect.specs.Reads.{AllDecoded, BreaksHeader, BreaksLayout, Carries, EndsInside, GivesBack, IsCleared, IsOnePastLimit, IsUnasked, LastGivesBack, LeavesDelayed, LeavesUnread, Paced, StopsAt, is_full, has_no_request}
 
 -- how a flush step ended, where nothing is unsent; `closing`: Terminate is queued
 abbrev pub FlushEnds : Bool → LinkView → LinkView → Result FlushEnd ConnectionFault → Type 0
@@ -105,10 +105,11 @@ pub record IsOver (old new : Streams) (before after : LinkView) (events : List E
   pub began : BeganToClose old new before after events
   pub still : old.closing ≡ true → OnlySends old new before after
 
--- the link gave its end behind a whole message, while the connection was active
+-- The link gave its end behind a whole message, while the connection was active, and no batch is held.
 pub record EndsWhole (old new : Streams) (before after : LinkView) : Type 0 where
   pub rose : Rose before.ends after.ends
   pub buffer : new.buffer.items ≡ []
+  pub held : waiting new.held ≡ []
   pub active : old.closing ≡ false
   pub stays : new.closing ≡ false
 
@@ -127,9 +128,10 @@ abbrev pub TurnFails : Streams → Streams → LinkView → LinkView → Connect
 TurnFails old new before after fault.Link events = Rose before.faults after.faults
 TurnFails old new before after fault.Closed events = EndsWhole old new before after ⊎ (last_is is_closed_out events ≡ true)
 TurnFails old new before after fault.Ended events = EndsInside new before after
-TurnFails old new before after fault.BadLength events = has_bad_header new.buffer.items ≡ true
+TurnFails old new before after fault.BadLength events = BreaksHeader new
 TurnFails old new before after fault.Layout events = BreaksLayout new
-TurnFails old new before after (fault.Unreadable c) events = LeavesUnread new c ⊎ LeavesDelayed new c
+-- a delayed notice comes first, so nothing was done before it
+TurnFails old new before after (fault.Unreadable c) events = LeavesUnread new c ⊎ (LeavesDelayed new c × (events ≡ []))
 TurnFails old new before after (fault.Unasked e) events =
     (last_is has_no_request events ≡ true) × IsUnasked (waiting new.held) (fault.Unasked e) × (new.closing ≡ false) × LastGivesBack (waiting new.held) events
 TurnFails old new before after (fault.LimitReached given limit) events = (given ≡ new.given) × (limit ≡ new.max_bytes) × (limit < given) × IsOnePastLimit new given limit

@@ -151,10 +151,11 @@ abbrev pub MeetsNoRequest : Streams → Error → List Event → Type 0
 MeetsNoRequest new e events =
     (last_is has_no_request events ≡ true) × IsUnasked (waiting new.held) (fault.Unasked e) × LastGivesBack (waiting new.held) events
 
--- More was given than the limit allows: by one piece, of which nothing is decoded.
+-- More was given than the limit allows: by one piece, of which nothing is decoded. No batch is held.
 pub record IsOnePastLimit (s : Streams) (given limit : ℕ) : Type 0 where
   pub piece : given ≤ limit + piece_size
   pub undecoded : given ≤ limit + length s.buffer.items
+  pub held : waiting s.held ≡ []
 
 -- every whole message that was given is decoded, and what is left isn't refused
 pub record AllDecoded (s : Streams) : Type 0 where
@@ -174,19 +175,26 @@ pub record EndsAt (bytes left : List ℕ) (message : AsyncMessage) : Type 0 wher
   pub is : messages bytes ≡ front ++ (raw ∷ messages left)
   pub means : async_of_raw raw ≡ Some (async_of message)
 
--- the message in front, which no request asked for, breaks its layout
+-- A header is in front that is none, and no batch is held.
+pub record BreaksHeader (s : Streams) : Type 0 where
+  pub header : has_bad_header s.buffer.items ≡ true
+  pub held : waiting s.held ≡ []
+
+-- The message in front, which no request asked for, breaks its layout, and no batch is held.
 pub record BreaksLayout (s : Streams) : Type 0 where
   pub raw : RawMessage
   pub rest : List RawMessage
   pub front : messages s.buffer.items ≡ raw ∷ rest
   pub aside : is_aside raw ≡ true
   pub broken : message_of raw ≡ Err faults.Layout
+  pub held : waiting s.held ≡ []
 
--- the message that came off last can't be read
+-- The message that came off last can't be read, and no batch is held.
 pub record LeavesUnread (s : Streams) (c : Cause) : Type 0 where
   pub message : Message
   pub unread : s.unread ≡ Some message
   pub means : aside_fault (message_view message) ≡ Some c
+  pub held : waiting s.held ≡ []
 
 -- ---- the steps
 
@@ -201,7 +209,7 @@ OffEnds old new (Ok off.Held) = length new.buffer.items < length old.buffer.item
 OffEnds old new (Ok off.Kept) = (length new.buffer.items < length old.buffer.items) × (new.held ≡ None)
 OffEnds old new (Ok (off.Handed message)) = EndsAt old.buffer.items new.buffer.items message
 OffEnds old new (Ok off.Nothing) = AllDecoded new × (new.held ≡ None)
-OffEnds old new (Err fault.BadLength) = has_bad_header new.buffer.items ≡ true
+OffEnds old new (Err fault.BadLength) = BreaksHeader new
 OffEnds old new (Err fault.Layout) = BreaksLayout new
 OffEnds old new (Err (fault.Unreadable c)) = LeavesUnread new c
 OffEnds old new (Err fault.OutOfMemory) = Unit {0}
@@ -226,7 +234,7 @@ PassEnds old new (Ok None) events = (length new.buffer.items < length old.buffer
 PassEnds old new (Ok (Some (step.Handed message))) events = EndsAt old.buffer.items new.buffer.items message
 PassEnds old new (Ok (Some step.Full)) events = MeetsFull new events
 PassEnds old new (Ok (Some step.Nothing)) events = AllDecoded new × (new.held ≡ None) × NoneFull events
-PassEnds old new (Err fault.BadLength) events = has_bad_header new.buffer.items ≡ true
+PassEnds old new (Err fault.BadLength) events = BreaksHeader new
 PassEnds old new (Err fault.Layout) events = BreaksLayout new
 PassEnds old new (Err (fault.Unreadable c)) events = LeavesUnread new c
 PassEnds old new (Err (fault.Unasked e)) events = MeetsNoRequest new e events
@@ -243,7 +251,7 @@ abbrev pub AllEnds : Streams → Streams → Result Step ConnectionFault → Lis
 AllEnds old new (Ok (step.Handed message)) events = EndsAt old.buffer.items new.buffer.items message
 AllEnds old new (Ok step.Full) events = MeetsFull new events
 AllEnds old new (Ok step.Nothing) events = AllDecoded new × (new.held ≡ None) × NoneFull events
-AllEnds old new (Err fault.BadLength) events = has_bad_header new.buffer.items ≡ true
+AllEnds old new (Err fault.BadLength) events = BreaksHeader new
 AllEnds old new (Err fault.Layout) events = BreaksLayout new
 AllEnds old new (Err (fault.Unreadable c)) events = LeavesUnread new c
 AllEnds old new (Err (fault.Unasked e)) events = MeetsNoRequest new e events
@@ -281,7 +289,8 @@ PieceEnds old new before after (Ok false) = WasDry new.moved before after × (ne
 PieceEnds old new before after (Err fault.Link) = Rose before.faults after.faults
 PieceEnds old new before after (Err fault.Closed) = Rose before.ends after.ends × (new.buffer.items ≡ [])
 PieceEnds old new before after (Err fault.Ended) = Rose before.ends after.ends × (0 < length new.buffer.items) × (new.buffer.items ≡ old.buffer.items)
-PieceEnds old new before after (Err (fault.LimitReached given most)) = (given ≡ new.given) × (most ≡ new.max_bytes) × (most < given) × IsOnePastLimit new given most
+PieceEnds old new before after (Err (fault.LimitReached given most)) = (given ≡ new.given) × (most ≡ new.max_bytes) × (most < given)
+    × (given ≤ most + piece_size) × (given ≤ most + length new.buffer.items)
 PieceEnds old new before after (Err fault.OutOfMemory) = Unit {0}
 PieceEnds old new before after (Err _) = ⊥
 
@@ -295,11 +304,12 @@ abbrev pub HandedBy : Result ReadEnd ConnectionFault → List RawMessage → Typ
 HandedBy (Ok (reads.Handed message)) handed = Carries handed message
 HandedBy _ handed = handed ≡ []
 
--- the input ended inside a message
+-- The input ended inside a message, and no batch is held.
 pub record EndsInside (s : Streams) (before after : LinkView) : Type 0 where
   pub rose : Rose before.ends after.ends
   pub some : 0 < length s.buffer.items
   pub decoded : AllDecoded s
+  pub held : waiting s.held ≡ []
 
 -- How a read step ended: a message is handed out, a mailbox is full, or the link isn't ready, all is decoded
 -- and nothing of it lies there. Or why it was broken off.
@@ -308,11 +318,12 @@ ReadEnds new before after (Ok (reads.Handed message)) events = Unit {0}
 ReadEnds new before after (Ok reads.Full) events = MeetsFull new events × (delayed_in new ≡ [])
 ReadEnds new before after (Ok reads.Dry) events = WasDry new.moved before after × AllDecoded new × IsCleared new
 ReadEnds new before after (Err fault.Link) events = Rose before.faults after.faults
-ReadEnds new before after (Err fault.Closed) events = Rose before.ends after.ends × (new.buffer.items ≡ [])
+ReadEnds new before after (Err fault.Closed) events = Rose before.ends after.ends × (new.buffer.items ≡ []) × (waiting new.held ≡ [])
 ReadEnds new before after (Err fault.Ended) events = EndsInside new before after
-ReadEnds new before after (Err fault.BadLength) events = has_bad_header new.buffer.items ≡ true
+ReadEnds new before after (Err fault.BadLength) events = BreaksHeader new
 ReadEnds new before after (Err fault.Layout) events = BreaksLayout new
-ReadEnds new before after (Err (fault.Unreadable c)) events = LeavesUnread new c ⊎ LeavesDelayed new c
+-- a delayed notice comes first, so nothing was done before it
+ReadEnds new before after (Err (fault.Unreadable c)) events = LeavesUnread new c ⊎ (LeavesDelayed new c × (events ≡ []))
 ReadEnds new before after (Err (fault.Unasked e)) events = MeetsNoRequest new e events
 ReadEnds new before after (Err (fault.LimitReached given most)) events = (given ≡ new.given) × (most ≡ new.max_bytes) × (most < given) × IsOnePastLimit new given most
 ReadEnds new before after (Err fault.OutOfMemory) events = Unit {0}

@@ -237,6 +237,7 @@ impl Streams {
         ensures goes { ReadsOn E.becomes hub.old hub.new self.old self.new (L.view link.old) (L.view link.new) (HandedBy result)
             (ReadEnds self.new (L.view link.old) (L.view link.new) result) (ReadStops self.old self.new result) }
         ensures only { OnlyReads self.old self.new (L.view link.old) (L.view link.new) }
+        ensures delayed { self.new.delayed.items ≡ [] }
         ensures unread { OnOk result (self.new.unread ≡ None) }
         ensures within { IsWithin self.new result }
         ensures at_end { OnOk result (self.new.at_end ≡ self.old.at_end) }

@@ -176,7 +176,7 @@ returns-in-Err-read_piece-clause-goes g c =
       late = none_late t all.ensures.delayed;
       within = omega (arith, i.limit, i.given, c.pieces.invariant.given);
     }) c.in-Err-read_piece.ensures.piece refl
-    (λ es. piece_refused t u a v w e es c.pieces.invariant.goes.goes.passes.link i.decoded c.in-Err-read_piece.ensures.end) (λ got. tt)
+    (λ es. piece_refused t u a v w e es c.pieces.invariant.goes.goes.passes.link i.decoded (c.in-Err-read_piece.ensures.held ∙ i.held) c.in-Err-read_piece.ensures.end) (λ got. tt)
 
 pub returns-in-Ok-Full-clause-within : goal.returns-in-Ok-Full-clause-within
 returns-in-Ok-Full-clause-within g c =

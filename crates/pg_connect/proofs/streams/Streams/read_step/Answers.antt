@@ -29,7 +29,7 @@ returns-in-Err-clause-goes g c =
     let w = c.in-Err in
     paced-still _ _ _ c.args.self.now c.hand_delayed.new.self v v _ _ (ReadStops c.args.self.now c.hand_delayed.new.self (Err w.e))
     (hands-quietly _ _ (g.met.E.Desk.stays c.args.hub.now) c.args.self.now c.hand_delayed.new.self v v _ _ _ (w.ensures.passes v) (λ handed is. is)
-    (late_refused c.hand_delayed.new.self v v w.e [] w.ensures.end)) w.ensures.given tt
+    (late_refused c.hand_delayed.new.self v v w.e w.ensures.end)) w.ensures.given tt
 
 pub returns-in-Ok-false-clause-goes : goal.returns-in-Ok-false-clause-goes
 returns-in-Ok-false-clause-goes g c =
@@ -105,7 +105,7 @@ returns-in-Ok-true-clause-goes g c =
     (given_in _ _ _ mid t _ (c.in-Ok-true.ensures.goes any_link) ∙ w.ensures.given)
     (ap (λ (b : BytesMut Global). b.items) (c.in-Ok-true.ensures.buffer ∙ w.ensures.buffer))
     (ap (λ (x : List ErrorResponseBody). map notice_of x) late) so_far.ended.0 c.in-Ok-true.ensures.unread
-    (λ es fs was. ends_behind u v n c.read_link.result es fs was)
+    (λ es fs was. ends_behind u v n c.read_link.result es fs c.read_link.ensures.delayed was)
     (λ got was. stops_before s t u c.read_link.result got (ap (λ (b : BytesMut Global). b.items) (c.in-Ok-true.ensures.buffer ∙ w.ensures.buffer)) was)
 
 pub returns-in-Ok-false-clause-within : goal.returns-in-Ok-false-clause-within
