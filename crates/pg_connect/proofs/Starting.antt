@@ -7,7 +7,7 @@ use Rattle.pg_spec.specs.ConnectionStrings.{only_user}
 use Rattle.pg_spec.specs.Faults.{Failure}
 use Rattle.pg_spec.specs.Links.{LinkView, Grew}
 use Rattle.pg_spec.specs.RawMessages.{RawMessage, messages, bytes_left}
-use Rattle.pg_spec.specs.Startup.{Startup, Outcome, Done, Refused, More, Phase, First, Move, Writes, Refuses, after_one, moved_by, dialogue, startup_move}
+use Rattle.pg_spec.specs.Startup.{Startup, Outcome, Done, Refused, More, Phase, First, Move, Writes, Refuses, after_one, moved_by, dialogue, startup_move, plain_login}
 use Rattle.pg_spec.specs.Startup as startups
 use Rattle.pg_connect.proofs.Joining.{grew_none, keeps_same}
 use Rattle.pg_connect.specs.declared.startup.Startup.{Startup as StartupState}
@@ -49,12 +49,12 @@ leads-none name nonce = record { on = λ more. refl; built = refl }
 
 -- a message behind those that were read, and what it makes of the dialogue
 step : (name nonce : List ℕ) (read : List RawMessage) (at : Phase) (raw : RawMessage) (move : Move) → Leads name nonce read at →
-    startup_move (only_user name) nonce at raw ≡ move → (more : List RawMessage) →
+    startup_move (plain_login (only_user name) nonce) at raw ≡ move → (more : List RawMessage) →
     dialogue_of name nonce ((read ++ raw ∷ []) ++ more)
-    ≡ behind (length read) (moved_by move (λ next. dialogue (only_user name) nonce next more))
+    ≡ behind (length read) (moved_by move (λ next. dialogue (plain_login (only_user name) nonce) next more))
 step name nonce read at raw move leads e more =
     ap (dialogue_of name nonce) (append_assoc read (raw ∷ []) more) ∙ leads.on (raw ∷ more)
-    ∙ ap (λ m. behind (length read) (moved_by m (λ next. dialogue (only_user name) nonce next more))) e
+    ∙ ap (λ m. behind (length read) (moved_by m (λ next. dialogue (plain_login (only_user name) nonce) next more))) e
 
 length-push : (read : List RawMessage) (raw : RawMessage) → length (read ++ raw ∷ []) ≡ suc (length read)
 length-push read raw = length-append read (raw ∷ []) ∙ omega arith
@@ -65,16 +65,16 @@ built-push [] raw each known = ap (λ (b : Bool). b && true) known
 built-push (m ∷ ms) raw each known = and_from (is_built m) _ (and_parts (is_built m) _ each).0 (built-push ms raw (and_parts (is_built m) _ each).1 known)
 
 pub leads-more : (name nonce : List ℕ) (read : List RawMessage) (at next : Phase) (raw : RawMessage) → Leads name nonce read at →
-    startup_move (only_user name) nonce at raw ≡ Writes [] next → is_built raw ≡ true → Leads name nonce (read ++ raw ∷ []) next
+    startup_move (plain_login (only_user name) nonce) at raw ≡ Writes [] next → is_built raw ≡ true → Leads name nonce (read ++ raw ∷ []) next
 leads-more name nonce read at next raw leads e known = record {
   on = λ more. step name nonce read at raw (Writes [] next) leads e more
-      ∙ behind-suc (length read) (dialogue (only_user name) nonce next more)
-      ∙ ap (λ n. behind n (dialogue (only_user name) nonce next more)) (sym (length-push read raw));
+      ∙ behind-suc (length read) (dialogue (plain_login (only_user name) nonce) next more)
+      ∙ ap (λ n. behind n (dialogue (plain_login (only_user name) nonce) next more)) (sym (length-push read raw));
   built = built-push read raw leads.built known;
 }
 
 pub ends-done : (name nonce : List ℕ) (read : List RawMessage) (at : Phase) (raw : RawMessage) → Leads name nonce read at →
-    startup_move (only_user name) nonce at raw ≡ startups.Ends → is_built raw ≡ true → Ends name nonce (read ++ raw ∷ []) (Done (length (read ++ raw ∷ [])))
+    startup_move (plain_login (only_user name) nonce) at raw ≡ startups.Ends → is_built raw ≡ true → Ends name nonce (read ++ raw ∷ []) (Done (length (read ++ raw ∷ [])))
 ends-done name nonce read at raw leads e known = record {
   over = λ more. ap (λ s. s.outcome) (step name nonce read at raw startups.Ends leads e more)
       ∙ behind-done (length read) _ refl
@@ -83,7 +83,7 @@ ends-done name nonce read at raw leads e known = record {
 }
 
 pub ends-refused : (name nonce : List ℕ) (read : List RawMessage) (at : Phase) (raw : RawMessage) (f : Failure) → Leads name nonce read at →
-    startup_move (only_user name) nonce at raw ≡ Refuses f → is_built raw ≡ true → Ends name nonce (read ++ raw ∷ []) (Refused f)
+    startup_move (plain_login (only_user name) nonce) at raw ≡ Refuses f → is_built raw ≡ true → Ends name nonce (read ++ raw ∷ []) (Refused f)
 ends-refused name nonce read at raw f leads e known = record {
   over = λ more. ap (λ s. s.outcome) (step name nonce read at raw (Refuses f) leads e more)
       ∙ behind-refused (length read) _ f refl;

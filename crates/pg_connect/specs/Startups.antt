@@ -56,22 +56,22 @@ behind (suc n) rest = startups.after_one [] (behind n rest)
 
 -- the dialogue of a user over these messages, behind the startup frame
 abbrev pub dialogue_of : List ℕ → List ℕ → List RawMessage → startups.Startup
-dialogue_of name nonce ms = startups.dialogue (only_user name) nonce startups.First ms
+dialogue_of name nonce ms = startups.dialogue (startups.plain_login (only_user name) nonce) startups.First ms
 
 -- These messages lead to that phase, no frame answers them, and this version knows each.
 pub record Leads (name nonce : List ℕ) (read : List RawMessage) (at : startups.Phase) : Type 0 where
   pub on : (more : List RawMessage) →
-      dialogue_of name nonce (read ++ more) ≡ behind (length read) (startups.dialogue (only_user name) nonce at more)
+      dialogue_of name nonce (read ++ more) ≡ behind (length read) (startups.dialogue (startups.plain_login (only_user name) nonce) at more)
   pub built : list_all is_built read ≡ true
 
 -- what a message makes of the dialogue, where it waits in that phase
 abbrev pub Judges : Phase → Message → Judgement → Type 0
 Judges at message (judgement.Next next) = (name nonce : List ℕ) (raw : RawMessage) → message_of raw ≡ Ok (message_view message) →
-    startups.startup_move (only_user name) nonce (phase_of at) raw ≡ startups.Writes [] (phase_of next)
+    startups.startup_move (startups.plain_login (only_user name) nonce) (phase_of at) raw ≡ startups.Writes [] (phase_of next)
 Judges at message judgement.Done = (name nonce : List ℕ) (raw : RawMessage) → message_of raw ≡ Ok (message_view message) →
-    startups.startup_move (only_user name) nonce (phase_of at) raw ≡ startups.Ends
+    startups.startup_move (startups.plain_login (only_user name) nonce) (phase_of at) raw ≡ startups.Ends
 Judges at message judgement.Unexpected = (name nonce : List ℕ) (raw : RawMessage) → message_of raw ≡ Ok (message_view message) →
-    startups.startup_move (only_user name) nonce (phase_of at) raw ≡ startups.Refuses spec.UnexpectedMessage
+    startups.startup_move (startups.plain_login (only_user name) nonce) (phase_of at) raw ≡ startups.Refuses spec.UnexpectedMessage
 Judges at message judgement.NotBuilt = (raw : RawMessage) → message_of raw ≡ Ok (message_view message) → is_built raw ≡ false
 
 -- this version knows the message, unless it answers that it doesn't

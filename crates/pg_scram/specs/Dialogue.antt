@@ -1,12 +1,13 @@
 -- What the states of a SCRAM dialogue hold.
 use Rattle.std.specs.Prelude.{◌≡◌, ℕ, List, Result, Ok, Err}
 use Rattle.pg_spec.specs.Faults as spec
-use Rattle.pg_spec.specs.Passwords.{ClientFinal, client_final_of, client_first}
+use Rattle.pg_spec.specs.Passwords.{ClientFinal}
 use Rattle.pg_faults.specs.declared.cause.ScramFault.{ScramFault}
 use Rattle.pg_scram.specs.declared.binding.ChannelBinding.{ChannelBinding}
 use Rattle.pg_scram.specs.declared.sasl.ScramSha256.{ScramSha256}
 use Rattle.pg_scram.specs.declared.sasl.ScramSha256Final.{ScramSha256Final}
-use Rattle.pg_scram.specs.Bindings.{binding_data, gs2_header}
+use Rattle.pg_scram.specs.Bindings.{binding_of}
+use Rattle.pg_spec.specs.Bindings.{client_first, client_final_of}
 use Rattle.pg_scram.specs.Faults.{Refuses}
 
 -- the state with the client's first message
@@ -14,12 +15,11 @@ pub record IsOpened (password : List ℕ) (binding : ChannelBinding) (nonce : Li
   pub password_kept : scram.password ≡ password
   pub binding_kept : scram.binding ≡ binding
   pub nonce_kept : scram.nonce ≡ nonce
-  pub first : scram.message ≡ client_first (gs2_header binding) nonce
+  pub first : scram.message ≡ client_first (binding_of binding) nonce
 
 -- what the state makes of the server's first message
 abbrev pub reply_of : ScramSha256 → List ℕ → Result ClientFinal spec.ScramFault
-reply_of scram server_first =
-    client_final_of (gs2_header scram.binding) (binding_data scram.binding) scram.password scram.nonce server_first
+reply_of scram server_first = client_final_of (binding_of scram.binding) scram.password scram.nonce server_first
 
 -- what the state with the client's last message holds
 abbrev pub final_of : ScramSha256Final → ClientFinal

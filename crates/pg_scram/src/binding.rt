@@ -1,7 +1,8 @@
 //! How the dialogue is bound to its channel (RFC 5802, section 6).
 
 ghost use Rattle.std.specs.Prelude.{◌≡◌};
-ghost use Rattle.pg_scram.specs.Bindings as spec;
+ghost use Rattle.pg_spec.specs.Bindings as spec;
+ghost use Rattle.pg_scram.specs.Bindings.{binding_of};
 
 use pg_types::Blob;
 
@@ -19,7 +20,7 @@ pub enum ChannelBinding {
 impl ChannelBinding {
     /// The header of the client's first message.
     pub(crate) fn gs2_header(&self) -> &'static [u8]
-        ensures { result.now ≡ spec.gs2_header self.now }
+        ensures { result.now ≡ spec.gs2_header (binding_of self.now) }
     {
         match self {
             ChannelBinding::Unsupported => b"n,,",
@@ -30,7 +31,7 @@ impl ChannelBinding {
 
     /// What the header is followed by in the client's last message.
     pub(crate) fn data(&self) -> &[u8]
-        ensures { result.now ≡ spec.binding_data self.now }
+        ensures { result.now ≡ spec.binding_data (binding_of self.now) }
     {
         match self {
             ChannelBinding::TlsServerEndPoint(data) => data.as_slice(),

@@ -1,8 +1,8 @@
 //! The client's messages (RFC 5802, section 7).
 
 ghost use Rattle.std.specs.Prelude.{◌≡◌, IfOk};
-ghost use Rattle.pg_spec.specs.Passwords as spec;
-ghost use Rattle.pg_scram.specs.Bindings.{binding_data, gs2_header};
+ghost use Rattle.pg_spec.specs.Bindings as spec;
+ghost use Rattle.pg_scram.specs.Bindings.{binding_of};
 
 use crate::binding::ChannelBinding;
 use crate::encoded::base64;
@@ -14,7 +14,7 @@ pub(crate) fn client_first(
     binding: &ChannelBinding,
     nonce: &[u8],
 ) -> Result<Vec<u8>, AllocError>
-    ensures { IfOk result (λ message. message.items ≡ spec.client_first (gs2_header binding.now) nonce.now) }
+    ensures { IfOk result (λ message. message.items ≡ spec.client_first (binding_of binding.now) nonce.now) }
 {
     let mut message = Vec::from_slice(alloc, binding.gs2_header())?;
     message.extend_from_slice(b"n=,r=")?;
@@ -28,7 +28,7 @@ pub(crate) fn client_final_bare(
     binding: &ChannelBinding,
     nonce: &[u8],
 ) -> Result<Vec<u8>, AllocError>
-    ensures { IfOk result (λ message. message.items ≡ spec.client_final_bare (gs2_header binding.now) (binding_data binding.now) nonce.now) }
+    ensures { IfOk result (λ message. message.items ≡ spec.client_final_bare (binding_of binding.now) nonce.now) }
 {
     let mut bound = Vec::from_slice(alloc, binding.gs2_header())?;
     bound.extend_from_slice(binding.data())?;

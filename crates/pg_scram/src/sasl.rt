@@ -3,8 +3,9 @@
 ghost use Rattle.std.specs.Prelude.{◌≡◌, None, IsTrue, IfOk, IfErr};
 ghost use Rattle.pg_faults.specs.declared.cause.ScramFault.TheVariants.{OutOfMemory};
 ghost use Rattle.pg_spec.specs.Causes.{is_nonce};
-ghost use Rattle.pg_spec.specs.Passwords.{client_final, server_final_fault};
-ghost use Rattle.pg_scram.specs.Bindings.{binding_data, gs2_header};
+ghost use Rattle.pg_spec.specs.Bindings.{client_final};
+ghost use Rattle.pg_spec.specs.Passwords.{server_final_fault};
+ghost use Rattle.pg_scram.specs.Bindings.{binding_of};
 ghost use Rattle.pg_scram.specs.Dialogue.{IsOpened, RepliesAs, final_of, reply_of};
 ghost use Rattle.pg_scram.specs.Faults.{Rejects};
 
@@ -92,7 +93,7 @@ impl ScramSha256 {
         nonce: &[u8],
         salted: &[u8; 32],
     ) -> Result<ScramSha256Final, AllocError>
-        ensures { IfOk result (λ final. final_of final ≡ client_final (gs2_header self.now.binding) (binding_data self.now.binding) self.now.nonce server_first.now nonce.now salted.now) }
+        ensures { IfOk result (λ final. final_of final ≡ client_final (binding_of self.now.binding) self.now.nonce server_first.now nonce.now salted.now) }
     {
         let bare = client_final_bare(alloc, &self.binding, nonce)?;
         let auth = auth_message(alloc, self.nonce.as_slice(), server_first, &bare)?;

@@ -12,7 +12,7 @@ use Rattle.pg_spec.specs.Frames.{terminate_frame, startup_frame, untagged, unles
 use Rattle.pg_spec.specs.RawMessages.{RawMessage, is_ready, messages, bytes_left, groups, cut_after, ends_in, is_whole_group, sync_of}
 use Rattle.pg_spec.specs.Sent.{after_startup_frame}
 use Rattle.pg_spec.specs.Settings.{Settings, startup_parameters}
-use Rattle.pg_spec.specs.Startup.{Startup, Outcome, Done, Refused, More, Move, Writes, Ends, Refuses, Phase, First, startup, session_part, used_of, moved_by, startup_move, dialogue, begun_by}
+use Rattle.pg_spec.specs.Startup.{Startup, Outcome, Done, Refused, More, Move, Writes, Ends, Refuses, Phase, First, startup, session_part, used_of, moved_by, startup_move, dialogue, begun_by, plain_login}
 use Rattle.pg_spec.proofs.MessageLaws.{messages-append, messages-join}
 use Rattle.pg_spec.proofs.GroupLaws.{cut_after-append, AreFronts, groups-AreFronts}
 use Rattle.pg_spec.proofs.StartupLaws.{IsOpenOr, startup-append}
@@ -74,9 +74,9 @@ fronts-equal (a ∷ as_) (b ∷ bs) fronts same whole one =
 -- ---- the startup
 
 -- it uses no more messages than came
-used-few : (s : Settings) (nonce : List ℕ) (phase : Phase) (ms : List RawMessage) (used : ℕ) → (dialogue s nonce phase ms).outcome ≡ Done used → used ≤ length ms
+used-few : (s : Settings) (nonce : List ℕ) (phase : Phase) (ms : List RawMessage) (used : ℕ) → (dialogue (plain_login s nonce) phase ms).outcome ≡ Done used → used ≤ length ms
 used-few s nonce phase [] used e = absurd cc
-used-few s nonce phase (m ∷ ms) used e = by_move (startup_move s nonce phase m) (λ next u h. used-few s nonce next ms u h) e
+used-few s nonce phase (m ∷ ms) used e = by_move (startup_move (plain_login s nonce) phase m) (λ next u h. used-few s nonce next ms u h) e
   where
     done-same : (a b : ℕ) → Done a ≡ Done b → a ≡ b
     done-same a b e = ap used_of e
@@ -86,16 +86,16 @@ used-few s nonce phase (m ∷ ms) used e = by_move (startup_move s nonce phase m
     by_outcome (Refused failure) h e = absurd cc
     by_outcome More h e = absurd cc
 
-    by_move : (move : Move) → ((next : Phase) (u : ℕ) → (dialogue s nonce next ms).outcome ≡ Done u → u ≤ length ms) →
-        (moved_by move (λ next. dialogue s nonce next ms)).outcome ≡ Done used → used ≤ suc (length ms)
-    by_move (Writes frames next) h e = by_outcome (dialogue s nonce next ms).outcome (h next) e
+    by_move : (move : Move) → ((next : Phase) (u : ℕ) → (dialogue (plain_login s nonce) next ms).outcome ≡ Done u → u ≤ length ms) →
+        (moved_by move (λ next. dialogue (plain_login s nonce) next ms)).outcome ≡ Done used → used ≤ suc (length ms)
+    by_move (Writes frames next) h e = by_outcome (dialogue (plain_login s nonce) next ms).outcome (h next) e
     by_move Ends h e = omega (arith, done-same 1 used e)
     by_move (Refuses failure) h e = absurd cc
 
 startup-few : (s : Settings) (nonce : List ℕ) (ms : List RawMessage) (used : ℕ) → (startup s nonce ms).outcome ≡ Done used → used ≤ length ms
 startup-few s nonce ms used e = by_frame (startup_frame (startup_parameters s)) e
   where
-    by_frame : (frame : Result (List ℕ) FrameFault) → (begun_by frame (dialogue s nonce First ms)).outcome ≡ Done used → used ≤ length ms
+    by_frame : (frame : Result (List ℕ) FrameFault) → (begun_by frame (dialogue (plain_login s nonce) First ms)).outcome ≡ Done used → used ≤ length ms
     by_frame (Ok frame) e = used-few s nonce First ms used e
     by_frame (Err fault) e = absurd cc
 
@@ -168,11 +168,11 @@ startup-frame s nonce ms frame n e = by_frame (startup_frame (startup_parameters
         same_ok a b e = ap (λ (r : Result (List ℕ) FrameFault). elim r [ Ok x ↦ x | Err x ↦ [] ]) e
     by_fault (Some fault) some f ok = absurd (refused-fault fault (untagged (0 ∷ body)) f ok)
 
-    by_frame : (begun : Result (List ℕ) FrameFault) → startup_frame pairs ≡ begun → begun_by begun (dialogue s nonce First ms) ≡ record { frames = frame ∷ []; outcome = Done n } → IsStartupFrame frame
+    by_frame : (begun : Result (List ℕ) FrameFault) → startup_frame pairs ≡ begun → begun_by begun (dialogue (plain_login s nonce) First ms) ≡ record { frames = frame ∷ []; outcome = Done n } → IsStartupFrame frame
     by_frame (Ok f) is e =
-        subst IsStartupFrame (first-frame f frame (dialogue s nonce First ms) (record { frames = frame ∷ []; outcome = Done n }) e refl)
+        subst IsStartupFrame (first-frame f frame (dialogue (plain_login s nonce) First ms) (record { frames = frame ∷ []; outcome = Done n }) e refl)
         (by_fault (frame_fault (map (λ pair. pair.0) pairs ++ map (λ pair. pair.1) pairs) [] (4 + length (0 ∷ body))) refl f is)
-    by_frame (Err fault) is e = absurd (refused-frame fault (dialogue s nonce First ms) frame n e)
+    by_frame (Err fault) is e = absurd (refused-frame fault (dialogue (plain_login s nonce) First ms) frame n e)
 
 -- ---- what was taken
 

@@ -17,7 +17,7 @@ use Rattle.pg_spec.specs.Promises.{IsValid, Conforms, EndsWell, IsOneReply, is_r
 use Rattle.pg_spec.specs.RawMessages.{RawMessage, messages, bytes_left, has_bad_header, groups, is_async, is_parameter, is_whole_group}
 use Rattle.pg_spec.specs.Sent.{after_startup_frame, asked_for_tls, gives_turn, turns_given}
 use Rattle.pg_spec.specs.Settings.{Settings}
-use Rattle.pg_spec.specs.Startup.{Startup, Done, More, First, used_of, begun_by, dialogue, startup, session_part}
+use Rattle.pg_spec.specs.Startup.{Startup, Done, More, First, used_of, begun_by, dialogue, startup, session_part, plain_login}
 use Rattle.pg_spec.proofs.GroupLaws.{groups-AreFronts}
 use Rattle.pg_connect.specs.Startups.{frame_of}
 use Rattle.pg_session.specs.Course.{HoldsCourse}
@@ -69,7 +69,7 @@ module _ (call : Call) (user : List ℕ) (plan : Plan) (g t : List ℕ) (means :
 
   one-frame : (ms : List RawMessage) → (dialogue_of ms).frames ≡ opening.0 ∷ []
   one-frame ms =
-      ap (λ (r : Result (List ℕ) FrameFault). (begun_by r (dialogue s call.nonce First ms)).frames) opening.1
+      ap (λ (r : Result (List ℕ) FrameFault). (begun_by r (dialogue (plain_login s call.nonce) First ms)).frames) opening.1
       ∙ ap (λ (l : List (List ℕ)). opening.0 ∷ l) (no-frames user call.nonce First ms tt)
 
   is-one : c.frames ≡ 1
@@ -135,7 +135,7 @@ module _ (call : Call) (user : List ℕ) (plan : Plan) (g t : List ℕ) (means :
   -- nothing comes before a turn was given
   nothing-done : (u : ℕ) → g ≡ [] → (dialogue_of (messages g)).outcome ≡ Done u → ⊥
   nothing-done u none done =
-      let more : (dialogue_of []).outcome ≡ More = ap (λ (r : Result (List ℕ) FrameFault). (begun_by r (dialogue s call.nonce First [])).outcome) opening.1 in
+      let more : (dialogue_of []).outcome ≡ More = ap (λ (r : Result (List ℕ) FrameFault). (begun_by r (dialogue (plain_login s call.nonce) First [])).outcome) opening.1 in
       let no : More ≡ Done u = sym more ∙ sym (ap (λ (l : List ℕ). (dialogue_of (messages l)).outcome) none) ∙ done in cc
 
   some-turn : (u : ℕ) → (dialogue_of (messages g)).outcome ≡ Done u → 1 ≤ turns_given t
@@ -250,7 +250,7 @@ module _ (call : Call) (user : List ℕ) (plan : Plan) (g t : List ℕ) (means :
         let turns : turns_given t ≡ 1 = ap turns_given is in
         let more : (dialogue_of (messages g)).outcome ≡ More =
         ap (λ (l : List ℕ). (dialogue_of (messages l)).outcome) none
-        ∙ ap (λ (r : Result (List ℕ) FrameFault). (begun_by r (dialogue s call.nonce First [])).outcome) opening.1 in
+        ∙ ap (λ (r : Result (List ℕ) FrameFault). (begun_by r (dialogue (plain_login s call.nonce) First [])).outcome) opening.1 in
         goes-on (omega (arith, turns)) more
     not-awaited (inr (inr (u, done, less))) =
         let low = some-turn u done in

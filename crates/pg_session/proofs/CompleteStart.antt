@@ -3,7 +3,7 @@ use Rattle.std.proofs.Common.{◌≡◌, ◌<◌, ◌≤◌, ◌+◌, ◌⊎◌,
 use Rattle.pg_spec.specs.Faults.{Failure, FrameFault}
 use Rattle.pg_spec.specs.RawMessages.{RawMessage}
 use Rattle.pg_spec.specs.Settings.{Settings}
-use Rattle.pg_spec.specs.Startup.{Startup, Outcome, Done, Refused, More, Move, Writes, Ends, Refuses, Phase, First, used_of, moved_by, startup_move, dialogue, begun_by, startup}
+use Rattle.pg_spec.specs.Startup.{Startup, Outcome, Done, Refused, More, Move, Writes, Ends, Refuses, Phase, First, used_of, moved_by, startup_move, dialogue, begun_by, startup, plain_login}
 use Rattle.pg_spec.proofs.StartupLaws.{startup-append}
 
 -- one message behind another
@@ -47,17 +47,17 @@ used-fit Ends many n used h done = let e : 1 ≡ used = ap used_of done in omega
 used-fit (Refuses f) many n used h done = absurd cc
 
 module _ (s : Settings) (nonce : List ℕ) where
-  asks-within : (phase : Phase) (xs ys : List RawMessage) (used : ℕ) → (dialogue s nonce phase (xs ++ ys)).outcome ≡ Done used → (dialogue s nonce phase xs).outcome ≡ More → length xs < used
+  asks-within : (phase : Phase) (xs ys : List RawMessage) (used : ℕ) → (dialogue (plain_login s nonce) phase (xs ++ ys)).outcome ≡ Done used → (dialogue (plain_login s nonce) phase xs).outcome ≡ More → length xs < used
   asks-within phase [] [] used done more = absurd cc
-  asks-within phase [] (y ∷ ys) used done more = some-used (startup_move s nonce phase y) (λ p. dialogue s nonce p ys) used done
+  asks-within phase [] (y ∷ ys) used done more = some-used (startup_move (plain_login s nonce) phase y) (λ p. dialogue (plain_login s nonce) p ys) used done
   asks-within phase (x ∷ xs) ys used done more =
-      counts (startup_move s nonce phase x) (λ p. dialogue s nonce p xs) (λ p. dialogue s nonce p (xs ++ ys)) (length xs) used
+      counts (startup_move (plain_login s nonce) phase x) (λ p. dialogue (plain_login s nonce) p xs) (λ p. dialogue (plain_login s nonce) p (xs ++ ys)) (length xs) used
       (λ p u d m. asks-within p xs ys u d m) done more
 
-  fits-within : (phase : Phase) (xs : List RawMessage) (used : ℕ) → (dialogue s nonce phase xs).outcome ≡ Done used → used ≤ length xs
+  fits-within : (phase : Phase) (xs : List RawMessage) (used : ℕ) → (dialogue (plain_login s nonce) phase xs).outcome ≡ Done used → used ≤ length xs
   fits-within phase [] used done = absurd cc
   fits-within phase (x ∷ xs) used done =
-      used-fit (startup_move s nonce phase x) (λ p. dialogue s nonce p xs) (length xs) used (λ p u d. fits-within p xs u d) done
+      used-fit (startup_move (plain_login s nonce) phase x) (λ p. dialogue (plain_login s nonce) p xs) (length xs) used (λ p u d. fits-within p xs u d) done
 
 -- the same of the whole startup
 begun-done : (r : Result (List ℕ) FrameFault) (d : Startup) (used : ℕ) → (begun_by r d).outcome ≡ Done used → d.outcome ≡ Done used
@@ -71,10 +71,10 @@ begun-more (Err fault) d e = absurd cc
 -- while it waits, fewer messages came than it uses
 pub waits-within : (s : Settings) (nonce : List ℕ) (xs ys : List RawMessage) (used : ℕ) → (startup s nonce (xs ++ ys)).outcome ≡ Done used → (startup s nonce xs).outcome ≡ More → length xs < used
 waits-within s nonce xs ys used done more =
-    asks-within s nonce First xs ys used (begun-done _ (dialogue s nonce First (xs ++ ys)) used done) (begun-more _ (dialogue s nonce First xs) more)
+    asks-within s nonce First xs ys used (begun-done _ (dialogue (plain_login s nonce) First (xs ++ ys)) used done) (begun-more _ (dialogue (plain_login s nonce) First xs) more)
 
 pub used-within : (s : Settings) (nonce : List ℕ) (xs : List RawMessage) (used : ℕ) → (startup s nonce xs).outcome ≡ Done used → used ≤ length xs
-used-within s nonce xs used done = fits-within s nonce First xs used (begun-done _ (dialogue s nonce First xs) used done)
+used-within s nonce xs used done = fits-within s nonce First xs used (begun-done _ (dialogue (plain_login s nonce) First xs) used done)
 
 -- what a front of the messages makes of it: it waits, or is done with as many
 pub front-startup : (s : Settings) (nonce : List ℕ) (xs ys : List RawMessage) (used : ℕ) → (startup s nonce (xs ++ ys)).outcome ≡ Done used →

@@ -14,7 +14,7 @@ use Rattle.pg_spec.specs.Messages as spec
 use Rattle.pg_spec.specs.Parameters.{parameter_reports, report_of}
 use Rattle.pg_spec.specs.RawMessages.{RawMessage, messages, bytes_left, async_of, is_async, is_parameter}
 use Rattle.pg_spec.specs.Settings.{startup_parameters}
-use Rattle.pg_spec.specs.Startup.{Phase, First, Continue, Final, Accepted, Info, Move, Writes, Ends as EndsMove, Refuses, Startup, Outcome, Done, moved_by, begun_by, dialogue, startup_message, startup_move, startup, used_of, startup_part, session_part, key_of, key_of_raw, cancel_key}
+use Rattle.pg_spec.specs.Startup.{Phase, First, Continue, Final, Accepted, Info, Move, Writes, Ends as EndsMove, Refuses, Startup, Outcome, Done, moved_by, begun_by, dialogue, startup_message, startup_move, startup, used_of, startup_part, session_part, key_of, key_of_raw, cancel_key, plain_login}
 use Rattle.pg_connect.specs.declared.startup.Startup.{Startup as StartupState}
 use Rattle.pg_connect.specs.Passes.{waiting, notice_of, IsUnread, goodbye}
 use Rattle.pg_connect.specs.Startups.{frame_of, dialogue_of, Ends, Opened}
@@ -73,7 +73,7 @@ abbrev pub WritesNothing : Move → Type 0
 WritesNothing (Writes frames next) = (frames ≡ []) × IsCalm next
 WritesNothing _ = Unit {0}
 
-calm-message : (user nonce : List ℕ) (phase : Phase) (m : Message) → IsCalm phase → WritesNothing (startup_message (only_user user) nonce phase m)
+calm-message : (user nonce : List ℕ) (phase : Phase) (m : Message) → IsCalm phase → WritesNothing (startup_message (plain_login (only_user user) nonce) phase m)
 calm-message user nonce First spec.AuthenticationOk c = (refl, tt)
 calm-message user nonce First _ c = tt
 calm-message user nonce Info (spec.BackendKeyData process_id secret_key) c = (refl, tt)
@@ -84,15 +84,15 @@ calm-message user nonce Info (spec.ParameterStatus name value) c = by_text (is_u
     by_text true = (refl, tt)
     by_text false = tt
 calm-message user nonce Info _ c = tt
-calm-message user nonce Continue _ c = absurd c
+calm-message user nonce (Continue binding) _ c = absurd c
 calm-message user nonce (Final signature) _ c = absurd c
 calm-message user nonce Accepted _ c = absurd c
 
-calm-move : (user nonce : List ℕ) (phase : Phase) (raw : RawMessage) → IsCalm phase → WritesNothing (startup_move (only_user user) nonce phase raw)
+calm-move : (user nonce : List ℕ) (phase : Phase) (raw : RawMessage) → IsCalm phase → WritesNothing (startup_move (plain_login (only_user user) nonce) phase raw)
 calm-move user nonce phase raw c = by_read (message_of raw)
   where
     by_read : (r : Result Message WireFault) → WritesNothing (elim r [
-      | Ok message ↦ startup_message (only_user user) nonce phase message
+      | Ok message ↦ startup_message (plain_login (only_user user) nonce) phase message
       | Err fault ↦ Refuses (Io (Wire fault))
     ])
     by_read (Ok message) = calm-message user nonce phase message c
@@ -103,10 +103,10 @@ silent-move (Writes frames next) later w h = ap (λ (l : List (List ℕ)). l ++ 
 silent-move EndsMove later w h = refl
 silent-move (Refuses failure) later w h = refl
 
-pub no-frames : (user nonce : List ℕ) (phase : Phase) (ms : List RawMessage) → IsCalm phase → (dialogue (only_user user) nonce phase ms).frames ≡ []
+pub no-frames : (user nonce : List ℕ) (phase : Phase) (ms : List RawMessage) → IsCalm phase → (dialogue (plain_login (only_user user) nonce) phase ms).frames ≡ []
 no-frames user nonce phase [] c = refl
 no-frames user nonce phase (m ∷ ms) c =
-    silent-move (startup_move (only_user user) nonce phase m) (λ next. dialogue (only_user user) nonce next ms) (calm-move user nonce phase m c)
+    silent-move (startup_move (plain_login (only_user user) nonce) phase m) (λ next. dialogue (plain_login (only_user user) nonce) next ms) (calm-move user nonce phase m c)
     (λ next d. no-frames user nonce next ms d)
 
 begun-frames : (r : Result (List ℕ) FrameFault) (frame : List ℕ) (s : Startup) → r ≡ Ok frame → s.frames ≡ [] → concat (begun_by r s).frames ≡ frame
@@ -116,7 +116,7 @@ begun-frames r frame s e none =
 -- whatever it reads, it writes the startup's frame alone
 pub one-frame : (user nonce opening : List ℕ) (ms : List RawMessage) → frame_of user ≡ Ok opening → concat (startup (only_user user) nonce ms).frames ≡ opening
 one-frame user nonce opening ms frame =
-    begun-frames (startup_frame (startup_parameters (only_user user))) opening (dialogue (only_user user) nonce First ms) frame (no-frames user nonce First ms tt)
+    begun-frames (startup_frame (startup_parameters (only_user user))) opening (dialogue (plain_login (only_user user) nonce) First ms) frame (no-frames user nonce First ms tt)
 
 -- ---- the startup of a session
 
@@ -134,11 +134,11 @@ pub is-started : (user nonce opening : List ℕ) (first more ms : List RawMessag
     Started user nonce opening first more ms
 is-started user nonce opening first more ms frame ends is =
     let outcome : (startup (only_user user) nonce ms).outcome ≡ Done (length first) =
-    begun-outcome (startup_frame (startup_parameters (only_user user))) opening (dialogue (only_user user) nonce First ms) frame
+    begun-outcome (startup_frame (startup_parameters (only_user user))) opening (dialogue (plain_login (only_user user) nonce) First ms) frame
     ∙ ap (λ (l : List RawMessage). (dialogue_of user nonce l).outcome) is ∙ ends.over more in
     record {
       outcome = outcome;
-      frames = begun-frames (startup_frame (startup_parameters (only_user user))) opening (dialogue (only_user user) nonce First ms) frame (no-frames user nonce First ms tt);
+      frames = begun-frames (startup_frame (startup_parameters (only_user user))) opening (dialogue (plain_login (only_user user) nonce) First ms) frame (no-frames user nonce First ms tt);
       part = ap (λ (o : Outcome). take (used_of o) ms) outcome ∙ ap (λ (l : List RawMessage). take (length first) l) is ∙ take-append_seam first more;
       rest = ap (λ (o : Outcome). drop (used_of o) ms) outcome ∙ ap (λ (l : List RawMessage). drop (length first) l) is ∙ drop-append_seam first more;
     }

@@ -7,7 +7,7 @@ use Rattle.pg_spec.specs.ConnectionStrings.{Means, only_user}
 use Rattle.pg_spec.specs.Faults.{FrameFault}
 use Rattle.pg_spec.specs.Links.{LinkView, Rose}
 use Rattle.pg_spec.specs.RawMessages.{RawMessage, messages}
-use Rattle.pg_spec.specs.Startup.{Startup as Dialogue, More, Phase, begun_by, dialogue, startup}
+use Rattle.pg_spec.specs.Startup.{Startup as Dialogue, More, Phase, begun_by, dialogue, startup, plain_login}
 use Rattle.pg_faults.specs.declared.error.Error.TheVariants as error
 use Rattle.pg_connect.specs.StartupPolls.{IsIdle}
 use Rattle.pg_connect.specs.declared.startup.Startup.{Startup}
@@ -47,7 +47,7 @@ frames-of user nonce opening front at is leads =
     ap (λ (r : Result (List ℕ) FrameFault). concat (begun_by r (dialogue_of user nonce front)).frames) is
     ∙ ap (λ (l : List RawMessage). opening ++ concat (dialogue_of user nonce l).frames) (sym (append-nil front))
     ∙ ap (λ (d : Dialogue). opening ++ concat d.frames) (leads.on [])
-    ∙ ap (λ (fs : List (List ℕ)). opening ++ concat fs) (silent-behind (length front) (dialogue (only_user user) nonce at []))
+    ∙ ap (λ (fs : List (List ℕ)). opening ++ concat fs) (silent-behind (length front) (dialogue (plain_login (only_user user) nonce) at []))
     ∙ append-nil opening
 
 -- it waits for more

@@ -8,7 +8,7 @@ use Rattle.pg_spec.specs.Faults.{FrameFault, ZeroByte, TooMany, TooLong, BadLeng
 use Rattle.pg_spec.specs.Links.{LinkView, Grew, added, OfBytes}
 use Rattle.pg_spec.specs.RawMessages.{RawMessage, messages}
 use Rattle.pg_spec.specs.Settings.{Settings}
-use Rattle.pg_spec.specs.Startup.{Startup as Dialogue, Outcome, More, Phase, after_one, begun_by, dialogue, startup}
+use Rattle.pg_spec.specs.Startup.{Startup as Dialogue, Outcome, More, Phase, after_one, begun_by, dialogue, startup, plain_login}
 use Rattle.pg_faults.specs.declared.fault.FrameFault.TheVariants as frame
 use Rattle.pg_faults.specs.declared.fault.WireFault.TheVariants as wire
 use Rattle.pg_faults.specs.declared.cause.Cause.TheVariants as cause
@@ -93,7 +93,7 @@ awaits user nonce opening front at is leads =
     ap (λ (r : Result (List ℕ) FrameFault). (begun_by r (dialogue_of user nonce front)).outcome) is
     ∙ ap (λ (l : List RawMessage). (dialogue_of user nonce l).outcome) (sym (append-nil front))
     ∙ ap (λ (d : Dialogue). d.outcome) (leads.on [])
-    ∙ waits_behind (length front) (dialogue (only_user user) nonce at []) refl
+    ∙ waits_behind (length front) (dialogue (plain_login (only_user user) nonce) at []) refl
 
 asks_more : (call : Call) (user opening got : List ℕ) → frame_of user ≡ Ok opening → MeetsMore user call.nonce [] (messages got) → AsksMore call (only_user user) got
 asks_more call user opening got is m = record {

@@ -16,7 +16,7 @@ use Rattle.pg_spec.specs.Promises.{IsFront, SentInOrder, requests_in}
 use Rattle.pg_spec.specs.RawMessages.{RawMessage, messages, cut_after}
 use Rattle.pg_spec.specs.Sent.{asked_for_tls, after_ssl_request, behind_length, after_startup_frame, ends_unit, gives_turn, is_password, turns_given, units}
 use Rattle.pg_spec.specs.Settings.{startup_parameters}
-use Rattle.pg_spec.specs.Startup.{Startup, Done, First, begun_by, dialogue}
+use Rattle.pg_spec.specs.Startup.{Startup, Done, First, begun_by, dialogue, plain_login}
 use Rattle.pg_spec.proofs.Readers.{number_at-Reader, number_at_front}
 use Rattle.pg_connect.specs.Startups.{frame_of}
 use Rattle.pg_session.proofs.CausedFrames.{Written, written, sent-behind, frames-behind}
@@ -170,7 +170,7 @@ module _ (user opening : List ℕ) (frame : frame_of user ≡ Ok opening) where
 
 module _ (call : Call) (user g t : List ℕ) (h : SentInOrder call (only_user user) g t) where
   abbrev begun : Result (List ℕ) FrameFault → Startup
-  begun r = begun_by r (dialogue (only_user user) call.nonce First (messages g))
+  begun r = begun_by r (dialogue (plain_login (only_user user) call.nonce) First (messages g))
 
   owners : AllByRecursion (λ (b : Booking). b.stamp.owner < length call.scripts) h.book
   owners = recursion_from_All (λ (b : Booking). b.stamp.owner < length call.scripts) h.book h.owners

@@ -12,6 +12,7 @@ pub mod Sent
 pub mod Readings
 pub mod SimpleQuery
 pub mod Passwords
+pub mod Bindings
 pub mod Settings
 pub mod Startup
 pub mod Book
