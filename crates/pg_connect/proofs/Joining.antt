@@ -1,12 +1,13 @@
 -- What passed in some calls, and then in others, passed in all of them.
 use Rattle.std.proofs.Common.{◌≡◌, ℕ, ◌+◌, ◌-◌, ◌^◌, ◌≤◌, Bool, true, false, not, ◌||◌, ◌&&◌, IsTrue, List, [], ◌∷◌, ◌++◌, length, map, Option, Some, None, option_map, Err, refl, sym, ap, subst, ◌∙◌, arith, append_assoc, length-append}
 use Rattle.std.specs.Prelude.{min, max}
-use Rattle.std.specs.List.{list_any}
+use Rattle.std.specs.List.{list_all, list_any}
 use Rattle.std.proofs.lemmas.List.{append-nil}
 use Rattle.std.proofs.lemmas.List.Elements.{filter-append, filter_map-append}
-use Rattle.std.proofs.lemmas.List.Folds.{list_any-append}
+use Rattle.std.proofs.lemmas.List.Folds.{list_all-append, list_any-append}
 use Rattle.std.proofs.lemmas.List.Sums.{fold-append}
 use Rattle.pg_spec.specs.Batches.{is_nothing}
+use Rattle.pg_spec.specs.Causes.{is_readable}
 use Rattle.pg_spec.specs.Frames.{terminate_frame}
 use Rattle.pg_spec.specs.Links.{LinkView, Grew, Rose}
 use Rattle.pg_spec.specs.Parameters.{parameter_reports}
@@ -196,6 +197,16 @@ unmoved_before false b m is none = refl
 pub risen_then : (a b c x y z : ℕ) → b ≡ risen a x → c ≡ risen b y → z ≡ x + y → c ≡ risen a z
 risen_then a b c x y z first then both = omega arith
 
+-- ---- what can be read
+
+both_true : (a b : Bool) → a ≡ true → b ≡ true → (a && b) ≡ true
+both_true true b one other = other
+both_true false b one other = absurd cc
+
+-- what holds of all in two lists
+pub all_then : {X : Type 0} (p : X → Bool) (xs ys : List X) → list_all p xs ≡ true → list_all p ys ≡ true → list_all p (xs ++ ys) ≡ true
+all_then p xs ys first then = list_all-append p xs ys ∙ both_true (list_all p xs) (list_all p ys) first then
+
 -- ---- all together
 
 pub passes-joined : (a b c : Streams) (l m n : LinkView) (es fs : List Event) (hs js : List RawMessage) →
@@ -213,6 +224,7 @@ passes-joined a b c l m n es fs hs js p q = record {
   rest = rest_then a.buffer.items b.buffer.items c.buffer.items p.got q.got p.rest q.rest;
   all_read = p.all_read;
   unread = q.unread;
+  readable = all_then is_readable p.read q.read p.readable q.readable;
   delivered = ap (λ x. waiting a.held ++ x) (filter-append _ p.read q.read)
       ∙ relay (waiting a.held) (sync_of p.read) (delivered_by es) (waiting b.held) (sync_of q.read) (delivered_by fs) (waiting c.held) p.delivered q.delivered
       ∙ ap (λ x. x ++ waiting c.held) (sym (delivered_by-append es fs));

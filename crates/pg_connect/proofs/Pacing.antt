@@ -51,6 +51,7 @@ handed-as a c l n es hs js same p = record {
   rest = p.rest;
   all_read = p.all_read;
   unread = p.unread;
+  readable = p.readable;
   delivered = p.delivered;
   handed_out = p.handed_out ∙ ap (λ (x : List RawMessage). x ++ delayed_in c) same;
   kept = p.kept;

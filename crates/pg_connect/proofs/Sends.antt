@@ -42,6 +42,7 @@ sends s unsent closing moved before after sent events read given taken none out 
   rest = ap bytes_left (append-nil s.buffer.items);
   all_read = read;
   unread = subst (λ (o : Option Message). IsUnread o []) (sym read) refl;
+  readable = refl;
   delivered = append-nil (waiting s.held) ∙ ap (λ x. x ++ waiting s.held) (sym none);
   handed_out = append-nil (delayed_in s);
   kept = refl;

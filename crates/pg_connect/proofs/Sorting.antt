@@ -1,19 +1,21 @@
 -- How messages are sorted.
 use Rattle.std.proofs.Common.{◌≡◌, ℕ, zero, suc, Bool, true, false, not, List, [], ◌∷◌, ◌++◌, map, filter, Option, Some, None, Result, Ok, Err, refl, sym, ap, subst, ◌∙◌, ◌||◌, ◌&&◌, ◌==◌, if◌then◌else◌, ◌⊎◌, inl, inr, ℤ}
-use Rattle.std.specs.Prelude.{filter_map, IfSome}
+use Rattle.std.specs.Prelude.{filter_map, is_some, IfSome}
 use Rattle.std.specs.Int.{w32}
-use Rattle.std.specs.List.{cons_option}
-use Rattle.std.specs.Str.{byte}
+use Rattle.std.specs.List.{cons_option, list_all}
+use Rattle.std.specs.Str.{byte, is_utf8}
 use Rattle.std.proofs.lemmas.Bool.{eqb-true}
 use Rattle.pg_spec.specs.Bytes.{◌>>=◌, signed_at, text0_at}
 use Rattle.std.specs.Option.{option_and_then}
 use Rattle.pg_spec.specs.Batches.{is_batch, is_nothing}
+use Rattle.pg_spec.specs.Causes.{aside_fault, is_readable}
+use Rattle.pg_spec.specs.DbErrors.{db_error_of}
 use Rattle.pg_spec.specs.Faults as faults
 use Rattle.pg_spec.specs.Messages as spec
 use Rattle.pg_spec.specs.Messages.{message_of, notification, parameter}
 use Rattle.pg_spec.specs.Parameters.{parameter_reports, report_of}
 use Rattle.pg_spec.specs.RawMessages.{RawMessage, is_aside, is_async, is_parameter, is_ready, sync_of, async_of}
-use Rattle.pg_spec.specs.Report.{AsyncMessage, async_message, async_of_raw}
+use Rattle.pg_spec.specs.Report.{AsyncMessage, Notice, Notification, async_message, async_of_raw}
 use Rattle.pg_wire.specs.declared.message.Message.{Message}
 use Rattle.pg_wire.specs.declared.message.Message.TheVariants as wire
 use Rattle.pg_wire.specs.Messages.{message_view}
@@ -21,7 +23,7 @@ use Rattle.pg_errors.specs.Parsing.{IsHandedOut}
 use Rattle.pg_connect.specs.declared.streams.Streams.{Streams}
 use Rattle.pg_connect.specs.Kept.{keep}
 use Rattle.pg_connect.specs.Reads.{KeepsReport}
-use Rattle.pg_connect.proofs.Tags.{reported, report, read, no_report}
+use Rattle.pg_connect.proofs.Tags.{reported, report, read, no_report, readable_apart, readable_by}
 
 -- ---- the messages of a batch
 
@@ -136,11 +138,35 @@ aside_kind raw m aside means = elim (aside_tags raw.tag aside) [
   ]
 ]
 
--- how one message aside is sorted
+-- and each can be read
+pub calm_readable : (ms : List RawMessage) → Calm ms → list_all is_readable ms ≡ true
+calm_readable [] calm = refl
+calm_readable (m ∷ ms) calm = ap (λ b. b && list_all is_readable ms) (readable_apart m calm.0) ∙ calm_readable ms calm.1
+
+-- one that can be read, alone
+alone_readable : (raw : RawMessage) → is_readable raw ≡ true → list_all is_readable (raw ∷ []) ≡ true
+alone_readable raw is = ap (λ b. b && true) is
+
+-- how one message aside is sorted, which can be read
 pub record Sorted (raw : RawMessage) (async : List RawMessage) (reports : List (List ℕ × List ℕ)) : Type 0 where
+  pub readable : list_all is_readable (raw ∷ []) ≡ true
   pub sync : sync_of (raw ∷ []) ≡ []
   pub async_is : async_of (raw ∷ []) ≡ async
   pub reports_are : parameter_reports (raw ∷ []) ≡ reports
+
+-- a message that is handed out can be read
+read_if : {A : Type 0} (o : Option A) (f : A → AsyncMessage) (a : AsyncMessage) (c : faults.Cause) → (o >>= λ x. Some (f x)) ≡ Some a → (if is_some o then None else Some c) ≡ None
+read_if None f a c e = absurd cc
+read_if (Some x) f a c e = refl
+
+told_if : (b : Bool) (x a : AsyncMessage) (c : faults.Cause) → (if b then Some x else None) ≡ Some a → (if b then None else Some c) ≡ None
+told_if true x a c e = refl
+told_if false x a c e = absurd cc
+
+handed_well : (m : spec.Message) (a : AsyncMessage) → async_message m ≡ Some a → aside_fault m ≡ None
+handed_well (spec.NoticeResponse fields) a e = read_if (db_error_of fields) Notice a faults.Fields e
+handed_well (spec.NotificationResponse process_id channel payload) a e = told_if (is_utf8 channel && is_utf8 payload) (Notification process_id channel payload) a faults.NotText e
+handed_well _ a e = absurd cc
 
 -- a message that is handed out is a notice or a notification
 handed_tag : (m : spec.Message) (a : AsyncMessage) → async_message m ≡ Some a → (report_of m ≡ None) × ((kind m == byte "N" || kind m == byte "A") ≡ true)
@@ -159,6 +185,7 @@ pub sorted_handed : (raw : RawMessage) (m : spec.Message) (a : AsyncMessage) →
 sorted_handed raw m a aside means reads =
     let tag = handed_tag m a reads in (
       record {
+        readable = alone_readable raw (readable_by raw m means (handed_well m a reads));
         sync = sync_none raw aside;
         async_is = ap (λ b. if b then raw ∷ [] else []) (ap (λ (t : ℕ). t == byte "N" || t == byte "A") (sym (aside_kind raw m aside means)) ∙ tag.1);
         reports_are = ap (λ o. cons_option o []) (reported_as raw m means ∙ tag.0);
@@ -170,9 +197,10 @@ sorted_handed raw m a aside means reads =
     async_read (Ok m) = async_message m
     async_read (Err fault) = None
 
-pub sorted_kept : (raw : RawMessage) (name value : List ℕ) → is_aside raw ≡ true → message_of raw ≡ Ok (spec.ParameterStatus name value) →
+pub sorted_kept : (raw : RawMessage) (name value : List ℕ) → is_aside raw ≡ true → message_of raw ≡ Ok (spec.ParameterStatus name value) → aside_fault (spec.ParameterStatus name value) ≡ None →
     Sorted raw [] ((name, value) ∷ [])
-sorted_kept raw name value aside means = record {
+sorted_kept raw name value aside means well = record {
+  readable = alone_readable raw (readable_by raw (spec.ParameterStatus name value) means well);
   sync = sync_none raw aside;
   async_is = ap (λ b. if b then raw ∷ [] else []) (ap (λ (t : ℕ). t == byte "N" || t == byte "A") (sym (aside_kind raw (spec.ParameterStatus name value) aside means)));
   reports_are = ap (λ o. cons_option o []) (reported_as raw (spec.ParameterStatus name value) means);
@@ -189,7 +217,7 @@ not_aside raw m none aside means =
     let no : false ≡ true = ap (λ (t : ℕ). (t == byte "N" || t == byte "A") || t == byte "S") (sym none ∙ aside_kind raw m aside means) ∙ aside in cc
 
 pub kept_aside : (s t : Streams) (m : Message) (raw : RawMessage) → is_aside raw ≡ true → message_of raw ≡ Ok (message_view m) → KeepsReport s t m → Kept s t raw
-kept_aside s t (wire.ParameterStatus b) raw aside means is = record { report = (b.name, b.value); same = is; sorted = sorted_kept raw b.name b.value aside means }
+kept_aside s t (wire.ParameterStatus b) raw aside means is = record { report = (b.name, b.value); same = is.1; sorted = sorted_kept raw b.name b.value aside means is.0 }
 kept_aside s t (wire.NoticeResponse b) raw aside means is = absurd (is.0 tt)
 kept_aside s t (wire.NotificationResponse b) raw aside means is = absurd (is.0 tt)
 kept_aside s t m raw aside means is = absurd (not_aside raw (message_view m) refl aside means)

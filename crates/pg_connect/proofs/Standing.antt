@@ -3,6 +3,7 @@ use Rattle.std.proofs.Common.{◌≡◌, ℕ, ◌+◌, Bool, true, false, IsTrue
 use Rattle.std.proofs.lemmas.List.{append-nil}
 use Rattle.std.proofs.lemmas.List.Elements.{filter-append, filter_map-append}
 use Rattle.std.proofs.lemmas.List.Sums.{fold-append}
+use Rattle.pg_spec.specs.Causes.{is_readable}
 use Rattle.pg_spec.specs.Frames.{terminate_frame}
 use Rattle.pg_spec.specs.Links.{LinkView, Grew}
 use Rattle.pg_spec.specs.Parameters.{parameter_reports}
@@ -18,7 +19,7 @@ use Rattle.pg_connect.specs.Passes.{Passes, waiting, delayed_in, IsUnread, goodb
 use Rattle.pg_connect.specs.Reads.{AllDecoded, is_full}
 use Rattle.pg_connect.specs.Polls.{Waits, ReadDry}
 use Rattle.pg_connect.specs.Histories.{History, Stands, Settled, extended}
-use Rattle.pg_connect.proofs.Joining.{relay, grew_then, keeps_then, came_off_then, rest_then, out_then, delivered_by-append, bytes_out_by-append, none_lost, risen_then}
+use Rattle.pg_connect.proofs.Joining.{all_then, relay, grew_then, keeps_then, came_off_then, rest_then, out_then, delivered_by-append, bytes_out_by-append, none_lost, risen_then}
 
 absurd_true : {X : Type 0} → IsTrue false → X
 absurd_true e = absurd (let no_way : false ≡ true = e in cc)
@@ -37,6 +38,7 @@ stands_after s t base l m es hs h is p = record {
       ∙ ap (λ (x : List RawMessage). x ++ (p.lost ++ messages t.buffer.items)) (append_assoc h.startup h.read p.read);
   rest = rest_then [] s.buffer.items t.buffer.items is.given p.got is.rest p.rest;
   unread = p.unread;
+  readable = all_then is_readable h.read p.read is.readable p.readable;
   out = ap (λ x. (h.opening ++ x) ++ goodbye false t.closing) (bytes_out_by-append h.events es)
       ∙ out_then false s.closing t.closing h.opening (bytes_out_by h.events) is.taken s.unsent (bytes_out_by es) p.sent t.unsent
       (λ x. absurd_true x) p.still_closing (λ x. p.nothing_more x) is.out p.out;

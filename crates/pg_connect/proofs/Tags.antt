@@ -1,22 +1,25 @@
--- Only a message tagged `Z` is ReadyForQuery, and only one tagged `S` reports a parameter.
-use Rattle.std.proofs.Common.{◌≡◌, ℕ, zero, suc, Bool, true, false, List, [], ◌∷◌, length, Option, Some, None, Result, Ok, Err, refl, sym, ap, subst, ◌∙◌, ◌==◌, if◌then◌else◌, ◌⊎◌, inl, inr, ℤ}
-use Rattle.std.specs.Prelude.{find, IfSome, IfOk}
+-- Only a message tagged `Z` is ReadyForQuery, only one tagged `S` reports a parameter, and only messages aside may be unreadable.
+use Rattle.std.proofs.Common.{◌≡◌, ℕ, zero, suc, Bool, true, false, List, [], ◌∷◌, length, not, ◌||◌, Option, Some, None, Result, Ok, Err, refl, sym, ap, subst, ◌∙◌, ◌==◌, if◌then◌else◌, ◌⊎◌, inl, inr, ℤ}
+use Rattle.std.specs.Prelude.{find, is_none, IfSome, IfOk}
 use Rattle.std.specs.Int.{w16, w32}
 use Rattle.std.specs.Option.{option_and_then}
 use Rattle.std.specs.Str.{byte}
 use Rattle.std.proofs.lemmas.Bool.{eqb-true}
 use Rattle.std.proofs.lemmas.Bool.Decides.{eqb_tells}
+use Rattle.pg_spec.specs.Causes.{aside_fault, is_readable}
 use Rattle.pg_spec.specs.Bytes.{◌>>=◌, byte_at, number_at, signed_at, text0_at}
 use Rattle.pg_spec.specs.Faults as faults
 use Rattle.pg_spec.specs.Messages as spec
 use Rattle.pg_spec.specs.Messages.{Message, message_of, layouts, authentications, authentication, alone, counted, text_alone, key_data, ready, parameter, notification, copying}
 use Rattle.pg_spec.specs.Parameters.{report_of}
-use Rattle.pg_spec.specs.RawMessages.{RawMessage, is_ready}
+use Rattle.pg_spec.specs.RawMessages.{RawMessage, is_aside, is_ready}
 
 -- the tag of the messages that are told apart here
 abbrev own_tag : Message → ℕ
 own_tag (spec.ReadyForQuery status) = byte "Z"
 own_tag (spec.ParameterStatus name value) = byte "S"
+own_tag (spec.NoticeResponse fields) = byte "N"
+own_tag (spec.NotificationResponse process_id channel payload) = byte "A"
 own_tag other = 0
 
 -- what was read has that tag
@@ -54,10 +57,10 @@ parameter-own : (body : List ℕ) → Of (byte "S") (parameter body)
 parameter-own body =
     after_all (byte "S") (text0_at body) (λ n. text_alone (spec.ParameterStatus n.0) n.1) (λ n. text-of (byte "S") (spec.ParameterStatus n.0) (λ t. refl) n.1)
 
-notification-plain : (body : List ℕ) → Of 0 (notification body)
-notification-plain body =
-    after_all 0 (signed_at w32 body) (λ p. text0_at p.1 >>= λ c. text_alone (spec.NotificationResponse p.0 c.0) c.1) (λ p.
-    after_all 0 (text0_at p.1) (λ c. text_alone (spec.NotificationResponse p.0 c.0) c.1) (λ c. text-of 0 (spec.NotificationResponse p.0 c.0) (λ t. refl) c.1))
+notification-own : (body : List ℕ) → Of (byte "A") (notification body)
+notification-own body =
+    after_all (byte "A") (signed_at w32 body) (λ p. text0_at p.1 >>= λ c. text_alone (spec.NotificationResponse p.0 c.0) c.1) (λ p.
+    after_all (byte "A") (text0_at p.1) (λ c. text_alone (spec.NotificationResponse p.0 c.0) c.1) (λ c. text-of (byte "A") (spec.NotificationResponse p.0 c.0) (λ t. refl) c.1))
 
 -- ---- by the rows of the table
 
@@ -130,9 +133,9 @@ all_tell = (
       (
         inl parameter-own,
         (
-          inr (λ body. refl),
+          inl (λ body. refl),
           (
-            inr notification-plain,
+            inl notification-own,
             (
               inr (counted-plain spec.RowDescription (λ n rest. refl)),
               (
@@ -237,3 +240,32 @@ no_report raw other = by (message_of raw) refl
     by : (r : Result Message faults.WireFault) → message_of raw ≡ r → report r ≡ None
     by (Ok m) e = reports_nothing m (apart m e)
     by (Err fault) e = refl
+
+-- ---- what can be read
+
+pub readable_by : (raw : RawMessage) (m : Message) → message_of raw ≡ Ok m → aside_fault m ≡ None → is_readable raw ≡ true
+readable_by raw m means well = ap (λ (r : Result Message faults.WireFault). elim r [ Ok message ↦ is_none (aside_fault message) | Err fault ↦ not (is_aside raw) ]) means ∙ ap (λ (o : Option faults.Cause). is_none o) well
+
+-- no tag of a message aside
+abbrev pub none_of : ℕ → Bool
+none_of tag = (tag == byte "N" || tag == byte "A") || tag == byte "S"
+
+tag_apart : (tag own : ℕ) → none_of own ≡ true → none_of tag ≡ false → (own ≡ tag) ⊎ (own ≡ 0) → ⊥
+tag_apart tag own is other (inl same) = let no : true ≡ false = sym is ∙ ap none_of same ∙ other in cc
+tag_apart tag own is other (inr plain) = let no : true ≡ false = sym is ∙ ap none_of plain in cc
+
+well_apart : (m : Message) → (none_of (own_tag m) ≡ true → ⊥) → aside_fault m ≡ None
+well_apart (spec.NoticeResponse fields) never = absurd (never refl)
+well_apart (spec.NotificationResponse process_id channel payload) never = absurd (never refl)
+well_apart (spec.ParameterStatus name value) never = absurd (never refl)
+well_apart _ never = refl
+
+-- a message that isn't aside can be read, as far as that is asked
+pub readable_apart : (raw : RawMessage) → is_aside raw ≡ false → is_readable raw ≡ true
+readable_apart raw other = by (message_of raw) refl
+  where
+    by : (r : Result Message faults.WireFault) → message_of raw ≡ r → is_readable raw ≡ true
+    by (Ok m) e = readable_by raw m e (well_apart m (λ is. tag_apart raw.tag (own_tag m) is other (tagged raw m e)))
+    by (Err fault) e =
+        ap (λ (r : Result Message faults.WireFault). elim r [ Ok message ↦ is_none (aside_fault message) | Err fault ↦ not (is_aside raw) ]) e
+        ∙ ap not other

@@ -1,6 +1,8 @@
 -- All that passed through a connection since its startup began, and what a connection that stands there
 -- holds. A session speaks of histories and events alone: buffers and bytes stand only in `Stands`.
 use Rattle.std.specs.Prelude.{◌≡◌, ℕ, true, false, IsTrue, List, [], ◌++◌, length}
+use Rattle.std.specs.List.{list_all}
+use Rattle.pg_spec.specs.Causes.{is_readable}
 use Rattle.pg_spec.specs.Links.{LinkView, Grew}
 use Rattle.pg_spec.specs.Parameters.{parameter_reports}
 use Rattle.pg_spec.specs.RawMessages.{RawMessage, messages, bytes_left, sync_of, async_of}
@@ -43,6 +45,7 @@ pub record Stands (s : Streams) (base link : LinkView) (h : History) : Type 0 wh
   pub came_off : messages given ≡ (h.startup ++ h.read) ++ (lost ++ messages (held_bytes s))
   pub rest : bytes_left given ≡ bytes_left (held_bytes s)
   pub unread : IsUnread s.unread lost
+  pub readable : IsTrue (list_all is_readable h.read)
   pub out : (h.opening ++ bytes_out_by h.events) ++ goodbye false s.closing ≡ taken ++ s.unsent
   pub delivered : sync_of h.read ≡ delivered_by h.events ++ waiting s.held
   pub handed : async_of (h.startup ++ h.read) ≡ h.handed ++ delayed_in s

@@ -1,8 +1,9 @@
 -- What some calls of a connection passed on, from the link to the hub and from the hub to the link.
 use Rattle.std.specs.Prelude.{◌≡◌, ℕ, ◌+◌, ◌-◌, ◌^◌, min, max, Bool, true, false, not, ◌||◌, IsTrue, List, [], ◌∷◌, ◌++◌, length, map, Option, Some, None, Ok}
-use Rattle.std.specs.List.{list_any}
+use Rattle.std.specs.List.{list_all, list_any}
 use Rattle.std.specs.Str.{byte}
 use Rattle.pg_spec.specs.Batches.{is_nothing}
+use Rattle.pg_spec.specs.Causes.{is_readable}
 use Rattle.pg_spec.specs.Frames.{terminate_frame}
 use Rattle.pg_spec.specs.Links.{LinkView, Grew, Rose}
 use Rattle.pg_spec.specs.Messages.{message_of}
@@ -83,6 +84,8 @@ pub record Passes (old new : Streams) (before after : LinkView) (events : List E
   pub rest : bytes_left (old.buffer.items ++ got) ≡ bytes_left new.buffer.items
   pub all_read : old.unread ≡ None
   pub unread : IsUnread new.unread lost
+  -- and each that no request asked for can be read
+  pub readable : IsTrue (list_all is_readable read)
   -- what was held or read is delivered in order, or held
   pub delivered : waiting old.held ++ sync_of read ≡ delivered_by events ++ waiting new.held
   -- what was delayed or read is handed out in order, or delayed

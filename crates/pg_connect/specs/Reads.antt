@@ -4,7 +4,7 @@ use Rattle.pg_spec.specs.Causes.{aside_fault, unasked, out_of_turn}
 use Rattle.pg_spec.specs.DbErrors.{db_error_of}
 use Rattle.pg_spec.specs.Faults as faults
 use Rattle.pg_spec.specs.Links.{LinkView, Rose, due_by}
-use Rattle.pg_spec.specs.Messages.{message_of, NoticeResponse}
+use Rattle.pg_spec.specs.Messages.{message_of, NoticeResponse, ParameterStatus}
 use Rattle.pg_spec.specs.RawMessages.{RawMessage, messages, has_bad_header, is_aside, sync_of, async_of as asides_of}
 use Rattle.pg_spec.specs.Report.{async_message, async_of_raw}
 use Rattle.pg_wire.specs.declared.body.ErrorResponseBody.{ErrorResponseBody}
@@ -43,9 +43,10 @@ IsUnreadable message (fault.Unreadable c) = aside_fault (message_view message) �
 IsUnreadable message fault.OutOfMemory = Unit {0}
 IsUnreadable message _ = ⊥
 
--- a parameter report is kept; nothing is done with a message that is neither reported nor handed out
+-- a parameter report that can be read is kept; nothing is done with a message that is neither reported nor handed out
 abbrev pub KeepsReport : Streams → Streams → Message → Type 0
-KeepsReport old new (wire.ParameterStatus report) = new ≡ record old { parameters = keep old.parameters (report.name, report.value) }
+KeepsReport old new (wire.ParameterStatus report) =
+    (aside_fault (ParameterStatus report.name report.value) ≡ None) × (new ≡ record old { parameters = keep old.parameters (report.name, report.value) })
 KeepsReport old new message = (IsHandedOut message → ⊥) × (new ≡ old)
 
 -- what becomes of a message that no request asked for: it is kept, read to be handed out, or refused

@@ -2,9 +2,8 @@
 
 ghost use Rattle.std.specs.Prelude.{◌≡◌, ◌<◌, true, [], None, drop, Some, length, IfOk, IfErr, is_ok, OnOk};
 ghost use Rattle.pg_spec.specs.Links.{LinkView};
-ghost use Rattle.pg_connect.specs.Kept.{keep};
 ghost use Rattle.pg_connect.specs.Passes.{PassesOn};
-ghost use Rattle.pg_connect.specs.Reads.{IsUnreadable, Sorts, TakesAside, MeansUnasked, IsUnasked, unreadable_as, ReadsFirst, HandedLate, LateEnds};
+ghost use Rattle.pg_connect.specs.Reads.{IsUnreadable, KeepsReport, Sorts, TakesAside, MeansUnasked, IsUnasked, unreadable_as, ReadsFirst, HandedLate, LateEnds};
 
 use crate::{ConnectionFault, Off, Streams};
 use pg_errors::{AsyncMessage, Cause, DbError, Error, ParseFields};
@@ -14,7 +13,7 @@ use std::alloc::Global;
 impl Streams {
     /// Keeps a parameter report in place of an earlier one for its name.
     fn keep(&mut self, alloc: Global, report: &ParameterStatusBody) -> Result<(), ConnectionFault>
-        ensures ok { OnOk result (self.new ≡ record self.old { parameters = keep self.old.parameters (report.now.name, report.now.value) }) }
+        ensures ok { OnOk result (KeepsReport self.old self.new (Message.ParameterStatus report.now)) }
         ensures fault { IfErr result (λ e. IsUnreadable (Message.ParameterStatus report.now) e × (self.new ≡ self.old)) }
     {
         let name = match report.name() {
