@@ -17,7 +17,7 @@ use Rattle.pg_desk.specs.declared.event.Event.{Event}
 use Rattle.pg_connect.specs.declared.streams.Streams.{Streams}
 use Rattle.pg_connect.specs.Kept.{keep, keep_all}
 use Rattle.pg_connect.specs.Passed.{delivered_in, delivered_by, bytes_out_in, bytes_out_by, moves_in}
-use Rattle.pg_connect.specs.Passes.{Passes, Untouched, waiting, delayed_in, CameOff, IsUnread, goodbye, moves, risen}
+use Rattle.pg_connect.specs.Passes.{Passes, StandsLast, Untouched, waiting, delayed_in, CameOff, IsUnread, goodbye, moves, risen}
 use Rattle.pg_connect.proofs.Joining.{grew_same, goodbye_same, keeps_same, untouched_same}
 use Rattle.pg_connect.proofs.Sends.{or_false, or_true}
 use Rattle.pg_connect.proofs.Sorting.{batch_calm, calm_sync, calm_async, calm_readable, calm_reports, Sorted}
@@ -53,7 +53,7 @@ not_there never = cc
 
 -- calls that send nothing
 pub reads : (s t : Streams) (before after : LinkView) (got : List ℕ) (read lost : List RawMessage) (over : Bool) (events : List Event) (handed : List RawMessage) →
-    s.unread ≡ None → IsUnread t.unread lost → list_all is_readable read ≡ true →
+    s.unread ≡ None → IsUnread t.unread lost → list_all is_readable read ≡ true → StandsLast (waiting t.held) (waiting s.held ++ (read ++ lost)) →
     Grew before.given after.given got → after.taken ≡ before.taken →
     messages (s.buffer.items ++ got) ≡ read ++ (lost ++ messages t.buffer.items) → bytes_left (s.buffer.items ++ got) ≡ bytes_left t.buffer.items →
     waiting s.held ++ sync_of read ≡ delivered_by events ++ waiting t.held →
@@ -62,7 +62,7 @@ pub reads : (s t : Streams) (before after : LinkView) (got : List ℕ) (read los
     SameSent s t → bytes_out_by events ≡ [] → t.given ≡ s.given + length got → t.delivered ≡ risen s.delivered (length (delivered_by events)) →
     t.moved ≡ (s.moved || (moves got [] handed events || over)) → t.at_end ≡ (s.at_end || over) → (t.moved ≡ false → Untouched before after) →
     (over ≡ true → Rose before.ends after.ends) → Keeps before after → Passes s t before after events handed
-reads s t before after got read lost over events handed all_read unread readable given taken off left delivered out kept same none count counted moved at_end still ended link = record {
+reads s t before after got read lost over events handed all_read unread readable last given taken off left delivered out kept same none count counted moved at_end still ended link = record {
   got = got;
   sent = [];
   read = read;
@@ -76,6 +76,7 @@ reads s t before after got read lost over events handed all_read unread readable
   unread = unread;
   readable = readable;
   delivered = delivered;
+  held_last = last;
   handed_out = out;
   kept = kept;
   out = ap (λ x. (s.unsent ++ x) ++ goodbye s.closing t.closing) none ∙ ap (λ x. (s.unsent ++ []) ++ goodbye s.closing x) same.closing
@@ -109,11 +110,19 @@ unread_none o none = subst (λ (x : Option Message). IsUnread x []) (sym none) r
 not_risen : (a b : ℕ) → b ≡ a → b ≡ risen a 0
 not_risen a b same = omega (arith, same)
 
+-- the batch that is held still is
+still_last : (s t : Streams) → waiting t.held ≡ waiting s.held → StandsLast (waiting t.held) (waiting s.held ++ [])
+still_last s t held = ([], append-nil (waiting s.held) ∙ sym held)
+
+-- a message came off, and no batch is held
+alone_last : (s t : Streams) (raw : RawMessage) → waiting s.held ≡ [] → waiting t.held ≡ waiting s.held → StandsLast (waiting t.held) (waiting s.held ++ (raw ∷ []))
+alone_last s t raw free held = (raw ∷ [], ap (λ (x : List RawMessage). x ++ (raw ∷ [])) free ∙ ap (λ (x : List RawMessage). raw ∷ x) (sym (held ∙ free)))
+
 -- nothing was read or passed on
 pub reads_nothing : (s t : Streams) (before after : LinkView) → s.unread ≡ None → Untouched before after → SameRead s t → SameWay s t → t.moved ≡ s.moved →
     Keeps before after → Passes s t before after [] []
 reads_nothing s t before after read still same way moved link =
-    reads s t before after [] [] [] false [] [] read (unread_none t.unread same.unread) refl (grew_same before.given after.given still.bytes.given) still.bytes.taken
+    reads s t before after [] [] [] false [] [] read (unread_none t.unread same.unread) refl (still_last s t same.held) (grew_same before.given after.given still.bytes.given) still.bytes.taken
     (ap messages (append-nil s.buffer.items ∙ sym same.buffer)) (ap bytes_left (append-nil s.buffer.items ∙ sym same.buffer))
     (append-nil (waiting s.held) ∙ sym same.held) (append-nil (delayed_in s) ∙ sym same.delayed) same.parameters
     (sent_in s t way) refl (omega (arith, same.given)) (not_risen s.delivered t.delivered same.delivered) (moved ∙ or_false s.moved) (no_end s t way) (λ none. still) not_there link
@@ -122,7 +131,7 @@ reads_nothing s t before after read still same way moved link =
 pub reads_end : (s t : Streams) (before after : LinkView) → s.unread ≡ None → SameBytes before after → SameRead s t → SameSent s t → t.moved ≡ true →
     t.at_end ≡ true → Rose before.ends after.ends → Keeps before after → Passes s t before after [] []
 reads_end s t before after read bytes same way moved at_end rose link =
-    reads s t before after [] [] [] true [] [] read (unread_none t.unread same.unread) refl (grew_same before.given after.given bytes.given) bytes.taken
+    reads s t before after [] [] [] true [] [] read (unread_none t.unread same.unread) refl (still_last s t same.held) (grew_same before.given after.given bytes.given) bytes.taken
     (ap messages (append-nil s.buffer.items ∙ sym same.buffer)) (ap bytes_left (append-nil s.buffer.items ∙ sym same.buffer))
     (append-nil (waiting s.held) ∙ sym same.held) (append-nil (delayed_in s) ∙ sym same.delayed) same.parameters
     way refl (omega (arith, same.given)) (not_risen s.delivered t.delivered same.delivered) (moved ∙ or_true s.moved) (at_end ∙ or_true s.at_end) (λ none. stirred t.moved moved none) (λ is. rose) link
@@ -133,7 +142,8 @@ pub reads_batch : (s t : Streams) (l : LinkView) (batch : List RawMessage) (comp
     t.parameters ≡ s.parameters → t.given ≡ s.given → t.delivered ≡ s.delivered → SameWay s t → t.moved ≡ s.moved → Passes s t l l [] []
 reads_batch s t l batch complete read unread cut none held delayed parameters given delivered way moved =
     let calm = batch_calm complete batch cut.batch in
-    reads s t l l [] batch [] false [] [] read (unread_none t.unread unread) (calm_readable batch calm) (grew_same l.given l.given refl) refl
+    reads s t l l [] batch [] false [] [] read (unread_none t.unread unread) (calm_readable batch calm)
+    ([], ap (λ (x : List RawMessage). x ++ (batch ++ [])) none ∙ append-nil batch ∙ sym held) (grew_same l.given l.given refl) refl
     (ap messages (append-nil s.buffer.items) ∙ cut.cuts.messages) (ap bytes_left (append-nil s.buffer.items) ∙ cut.cuts.left)
     (ap (λ x. x ++ sync_of batch) none ∙ calm_sync batch calm ∙ sym held)
     (ap (λ x. delayed_in s ++ x) (calm_async batch calm) ∙ append-nil (delayed_in s) ∙ sym delayed)
@@ -142,11 +152,11 @@ reads_batch s t l batch complete read unread cut none held delayed parameters gi
 
 -- a message aside came off, and is kept or handed out
 pub reads_aside : (s t : Streams) (l : LinkView) (raw : RawMessage) (async : List RawMessage) (reports : List (List ℕ × List ℕ)) → s.unread ≡ None → t.unread ≡ None →
-    CutsOff s.buffer.items t.buffer.items (raw ∷ []) → Sorted raw async reports → waiting t.held ≡ waiting s.held → delayed_in s ≡ [] → delayed_in t ≡ delayed_in s →
+    CutsOff s.buffer.items t.buffer.items (raw ∷ []) → Sorted raw async reports → waiting s.held ≡ [] → waiting t.held ≡ waiting s.held → delayed_in s ≡ [] → delayed_in t ≡ delayed_in s →
     t.parameters ≡ keep_all s.parameters reports → t.given ≡ s.given → t.delivered ≡ s.delivered → SameWay s t → t.moved ≡ (s.moved || not (is_nothing async)) →
     Passes s t l l [] async
-reads_aside s t l raw async reports read unread cuts sorted held none delayed parameters given delivered way moved =
-    reads s t l l [] (raw ∷ []) [] false [] async read (unread_none t.unread unread) sorted.readable (grew_same l.given l.given refl) refl
+reads_aside s t l raw async reports read unread cuts sorted free held none delayed parameters given delivered way moved =
+    reads s t l l [] (raw ∷ []) [] false [] async read (unread_none t.unread unread) sorted.readable (alone_last s t raw free held) (grew_same l.given l.given refl) refl
     (ap messages (append-nil s.buffer.items) ∙ cuts.messages) (ap bytes_left (append-nil s.buffer.items) ∙ cuts.left)
     (ap (λ x. waiting s.held ++ x) sorted.sync ∙ append-nil (waiting s.held) ∙ sym held)
     (ap (λ x. x ++ async_of (raw ∷ [])) none ∙ sorted.async_is ∙ sym (append-nil async) ∙ ap (λ x. async ++ x) (sym (delayed ∙ none)))
@@ -155,12 +165,12 @@ reads_aside s t l raw async reports read unread cuts sorted held none delayed pa
 
 -- a message aside came off, and can't be read
 pub reads_lost : (s t : Streams) (l : LinkView) (raw : RawMessage) (message : Message) → s.unread ≡ None → t.unread ≡ Some message →
-    CutsOff s.buffer.items t.buffer.items (raw ∷ []) → is_aside raw ≡ true → message_of raw ≡ Ok (message_view message) →
+    CutsOff s.buffer.items t.buffer.items (raw ∷ []) → is_aside raw ≡ true → message_of raw ≡ Ok (message_view message) → waiting s.held ≡ [] →
     waiting t.held ≡ waiting s.held → delayed_in t ≡ delayed_in s → t.parameters ≡ s.parameters → t.given ≡ s.given → t.delivered ≡ s.delivered →
     SameWay s t → t.moved ≡ s.moved → Passes s t l l [] []
-reads_lost s t l raw message read unread cuts aside means held delayed parameters given delivered way moved =
+reads_lost s t l raw message read unread cuts aside means free held delayed parameters given delivered way moved =
     reads s t l l [] [] (raw ∷ []) false [] [] read
-    (subst (λ (x : Option Message). IsUnread x (raw ∷ [])) (sym unread) (record { raw = raw; alone = refl; aside = aside; means = means })) refl
+    (subst (λ (x : Option Message). IsUnread x (raw ∷ [])) (sym unread) (record { raw = raw; alone = refl; aside = aside; means = means })) refl (alone_last s t raw free held)
     (grew_same l.given l.given refl) refl
     (ap messages (append-nil s.buffer.items) ∙ cuts.messages) (ap bytes_left (append-nil s.buffer.items) ∙ cuts.left)
     (append-nil (waiting s.held) ∙ sym held) (append-nil (delayed_in s) ∙ sym delayed) parameters
@@ -171,7 +181,7 @@ pub delivers : (s t : Streams) (l : LinkView) (e : Event) → s.unread ≡ None 
     t.buffer.items ≡ s.buffer.items → delayed_in t ≡ delayed_in s → t.parameters ≡ s.parameters → t.given ≡ s.given → t.delivered ≡ risen s.delivered (length (delivered_in e)) →
     SameWay s t → t.moved ≡ (s.moved || moves_in e) → Passes s t l l (e ∷ []) []
 delivers s t l e read unread held none buffer delayed parameters given delivered way moved =
-    reads s t l l [] [] [] false (e ∷ []) [] read (unread_none t.unread unread) refl (grew_same l.given l.given refl) refl
+    reads s t l l [] [] [] false (e ∷ []) [] read (unread_none t.unread unread) refl (delivered_in e, append-nil (waiting s.held) ∙ held) (grew_same l.given l.given refl) refl
     (ap messages (append-nil s.buffer.items ∙ sym buffer)) (ap bytes_left (append-nil s.buffer.items ∙ sym buffer))
     (append-nil (waiting s.held) ∙ held ∙ ap (λ x. x ++ waiting t.held) (sym (append-nil (delivered_in e))))
     (append-nil (delayed_in s) ∙ sym delayed) parameters (sent_in s t way) (ap (λ x. x ++ []) none) (omega (arith, given))
@@ -183,7 +193,7 @@ pub reads_piece : (s t : Streams) (before after : LinkView) (piece : List ℕ) �
     t.buffer.items ≡ s.buffer.items ++ piece → waiting t.held ≡ waiting s.held → delayed_in t ≡ delayed_in s → t.parameters ≡ s.parameters →
     t.given ≡ s.given + length piece → t.delivered ≡ s.delivered → SameWay s t → is_nothing piece ≡ false → t.moved ≡ true → Keeps before after → Passes s t before after [] []
 reads_piece s t before after piece read unread given taken buffer held delayed parameters count delivered way some moved link =
-    reads s t before after piece [] [] false [] [] read (unread_none t.unread unread) refl given taken (ap messages (sym buffer)) (ap bytes_left (sym buffer))
+    reads s t before after piece [] [] false [] [] read (unread_none t.unread unread) refl (still_last s t held) given taken (ap messages (sym buffer)) (ap bytes_left (sym buffer))
     (append-nil (waiting s.held) ∙ sym held) (append-nil (delayed_in s) ∙ sym delayed) parameters (sent_in s t way) refl count (not_risen s.delivered t.delivered delivered)
     (moved ∙ or_true s.moved ∙ ap (λ x. s.moved || (((not x || false) || (false || false)) || false)) (sym some)) (no_end s t way) (λ none. stirred t.moved moved none) not_there link
 
@@ -192,7 +202,7 @@ pub reads_delayed : (s t : Streams) (l : LinkView) (raw : RawMessage) → s.unre
     delayed_in s ≡ raw ∷ delayed_in t → t.parameters ≡ s.parameters → t.given ≡ s.given → t.delivered ≡ s.delivered → SameWay s t → t.moved ≡ true →
     Passes s t l l [] (raw ∷ [])
 reads_delayed s t l raw read unread buffer held delayed parameters given delivered way moved =
-    reads s t l l [] [] [] false [] (raw ∷ []) read (unread_none t.unread unread) refl (grew_same l.given l.given refl) refl
+    reads s t l l [] [] [] false [] (raw ∷ []) read (unread_none t.unread unread) refl (still_last s t held) (grew_same l.given l.given refl) refl
     (ap messages (append-nil s.buffer.items ∙ sym buffer)) (ap bytes_left (append-nil s.buffer.items ∙ sym buffer))
     (append-nil (waiting s.held) ∙ sym held) (append-nil (delayed_in s) ∙ delayed) parameters (sent_in s t way) refl (omega (arith, given)) (not_risen s.delivered t.delivered delivered)
     (moved ∙ or_true s.moved) (no_end s t way) (λ none. untouched_same l) not_there (keeps_same l)

@@ -228,6 +228,13 @@ passes-joined a b c l m n es fs hs js p q = record {
   delivered = ap (λ x. waiting a.held ++ x) (filter-append _ p.read q.read)
       ∙ relay (waiting a.held) (sync_of p.read) (delivered_by es) (waiting b.held) (sync_of q.read) (delivered_by fs) (waiting c.held) p.delivered q.delivered
       ∙ ap (λ x. x ++ waiting c.held) (sym (delivered_by-append es fs));
+  held_last = (
+    p.held_last.0 ++ q.held_last.0,
+    ap (λ x. waiting a.held ++ x) (append_assoc p.read q.read q.lost)
+        ∙ relay (waiting a.held) p.read p.held_last.0 (waiting b.held) (q.read ++ q.lost) q.held_last.0 (waiting c.held)
+        (ap (λ x. waiting a.held ++ x) (sym (ap (λ (x : List RawMessage). p.read ++ x) (none_lost b.unread p.lost q.all_read p.unread) ∙ append-nil p.read)) ∙ p.held_last.1)
+        q.held_last.1,
+  );
   handed_out = ap (λ x. delayed_in a ++ x) (filter-append _ p.read q.read)
       ∙ relay (delayed_in a) (async_of p.read) hs (delayed_in b) (async_of q.read) js (delayed_in c) p.handed_out q.handed_out;
   kept = q.kept ∙ ap (λ x. keep_all x (parameter_reports q.read)) p.kept

@@ -53,6 +53,7 @@ handed-as a c l n es hs js same p = record {
   unread = p.unread;
   readable = p.readable;
   delivered = p.delivered;
+  held_last = p.held_last;
   handed_out = p.handed_out ∙ ap (λ (x : List RawMessage). x ++ delayed_in c) same;
   kept = p.kept;
   out = p.out;

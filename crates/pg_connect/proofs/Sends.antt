@@ -44,6 +44,7 @@ sends s unsent closing moved before after sent events read given taken none out 
   unread = subst (λ (o : Option Message). IsUnread o []) (sym read) refl;
   readable = refl;
   delivered = append-nil (waiting s.held) ∙ ap (λ x. x ++ waiting s.held) (sym none);
+  held_last = ([], append-nil (waiting s.held));
   handed_out = append-nil (delayed_in s);
   kept = refl;
   out = out;

@@ -30,19 +30,19 @@ use Rattle.pg_connect.proofs.Sorting.{sorted_handed, kept_aside}
 use Rattle.pg_connect.proofs.Arriving.{reads_nothing, reads_end, reads_aside, reads_lost, reads_piece, reads_delayed}
 
 -- a message aside was passed on, or is left unread
-pub aside_taken : (s mid t : Streams) (l : LinkView) (message : Message) (r : Result Off ConnectionFault) → s.unread ≡ None → delayed_in s ≡ [] →
+pub aside_taken : (s mid t : Streams) (l : LinkView) (message : Message) (r : Result Off ConnectionFault) → s.unread ≡ None → waiting s.held ≡ [] → delayed_in s ≡ [] →
     CutsAside s.buffer.items mid.buffer.items message → mid ≡ record s { buffer = mid.buffer } → TakesAside mid t message r → PassesOn s t l l [] (HandedOff r)
-aside_taken s mid t l message (Ok (off.Handed handed)) read none cut same takes =
+aside_taken s mid t l message (Ok (off.Handed handed)) read free none cut same takes =
     let is : t ≡ record s { buffer = mid.buffer; moved = true } = takes.1 ∙ ap (λ (x : Streams). record x { moved = true }) same in
     let sorted = sorted_handed cut.raw (message_view message) (errors.async_of handed) cut.aside cut.means takes.0 in
     record {
       handed = cut.raw ∷ [];
       is = record { raw = cut.raw; alone = refl; means = sorted.1 };
       passes = subst (λ (x : Streams). Passes s x l l [] (cut.raw ∷ [])) (sym is)
-          (reads_aside s (record s { buffer = mid.buffer; moved = true }) l cut.raw (cut.raw ∷ []) [] read read cut.cuts sorted.0 refl none refl refl refl refl
+          (reads_aside s (record s { buffer = mid.buffer; moved = true }) l cut.raw (cut.raw ∷ []) [] read read cut.cuts sorted.0 free refl none refl refl refl refl
           (record { unsent = refl; closing = refl; limit = refl; ended = refl; at_end = refl }) (or_true s.moved));
     }
-aside_taken s mid t l message (Ok off.Kept) read none cut same takes =
+aside_taken s mid t l message (Ok off.Kept) read free none cut same takes =
     let kept = kept_aside mid t message cut.raw cut.aside cut.means takes in
     let is : t ≡ record s { buffer = mid.buffer; parameters = keep s.parameters kept.report } =
     kept.same ∙ ap (λ (x : Streams). record x { parameters = keep x.parameters kept.report }) same in
@@ -50,18 +50,18 @@ aside_taken s mid t l message (Ok off.Kept) read none cut same takes =
       handed = [];
       is = refl;
       passes = subst (λ (x : Streams). Passes s x l l [] []) (sym is)
-          (reads_aside s (record s { buffer = mid.buffer; parameters = keep s.parameters kept.report }) l cut.raw [] (kept.report ∷ []) read read cut.cuts kept.sorted refl none refl refl refl refl
+          (reads_aside s (record s { buffer = mid.buffer; parameters = keep s.parameters kept.report }) l cut.raw [] (kept.report ∷ []) read read cut.cuts kept.sorted free refl none refl refl refl refl
           (record { unsent = refl; closing = refl; limit = refl; ended = refl; at_end = refl }) (or_false s.moved));
     }
-aside_taken s mid t l message (Ok off.Held) read none cut same takes = absurd takes
-aside_taken s mid t l message (Ok off.Nothing) read none cut same takes = absurd takes
-aside_taken s mid t l message (Err e) read none cut same takes =
+aside_taken s mid t l message (Ok off.Held) read free none cut same takes = absurd takes
+aside_taken s mid t l message (Ok off.Nothing) read free none cut same takes = absurd takes
+aside_taken s mid t l message (Err e) read free none cut same takes =
     let is : t ≡ record s { buffer = mid.buffer; unread = Some message } = takes.1 ∙ ap (λ (x : Streams). record x { unread = Some message }) same in
     record {
       handed = [];
       is = refl;
       passes = subst (λ (x : Streams). Passes s x l l [] []) (sym is)
-          (reads_lost s (record s { buffer = mid.buffer; unread = Some message }) l cut.raw message read refl cut.cuts cut.aside cut.means refl refl refl refl refl
+          (reads_lost s (record s { buffer = mid.buffer; unread = Some message }) l cut.raw message read refl cut.cuts cut.aside cut.means free refl refl refl refl refl
           (record { unsent = refl; closing = refl; limit = refl; ended = refl; at_end = refl }) refl);
     }
 

@@ -67,6 +67,10 @@ pub record Untouched (before after : LinkView) : Type 0 where
   pub bytes : SameBytes before after
   pub promised : after.promised ≡ before.promised
 
+-- this batch is the last of these messages
+abbrev pub StandsLast : (batch all : List RawMessage) → Type 0
+StandsLast batch all = (front : List RawMessage) × (all ≡ front ++ batch)
+
 -- In these calls the link gave and took bytes, messages were read, the hub took messages and handed out
 -- parts by these events, and these messages were handed out.
 pub record Passes (old new : Streams) (before after : LinkView) (events : List Event) (handed : List RawMessage) : Type 0 where
@@ -88,6 +92,8 @@ pub record Passes (old new : Streams) (before after : LinkView) (events : List E
   pub readable : IsTrue (list_all is_readable read)
   -- what was held or read is delivered in order, or held
   pub delivered : waiting old.held ++ sync_of read ≡ delivered_by events ++ waiting new.held
+  -- the batch that is held is the last of what was held or came off
+  pub held_last : StandsLast (waiting new.held) (waiting old.held ++ (read ++ lost))
   -- what was delayed or read is handed out in order, or delayed
   pub handed_out : delayed_in old ++ async_of read ≡ handed ++ delayed_in new
   -- of the reports that were read the last for each name is kept

@@ -54,7 +54,7 @@ returns-in-Ok-Some-Async-clause-passes c =
     let w = c.in-Ok-Some-Async in
     let s = c.args.self.now in
     let cut = subst (λ (r : Option BackendMessage). Decodes s.buffer.items c.decode.new.buf.items (Ok r)) (w.field-0-is ∙ ap Some w.field-0-0-is) w.ensures in
-    λ l. aside_taken s (record s { buffer = c.decode.new.buf }) c.take_aside.new.self l w.message c.take_aside.result c.requires.unread (ap (map notice_of) c.requires.delayed) cut refl c.take_aside.ensures
+    λ l. aside_taken s (record s { buffer = c.decode.new.buf }) c.take_aside.new.self l w.message c.take_aside.result c.requires.unread (ap waiting c.requires.held) (ap (map notice_of) c.requires.delayed) cut refl c.take_aside.ensures
 
 pub returns-in-Ok-Some-Async-clause-end : goal.returns-in-Ok-Some-Async-clause-end
 returns-in-Ok-Some-Async-clause-end c =
