@@ -306,9 +306,10 @@ paced-behind becomes joins h i k s t u v n W F G R S first more given buffer lat
       stops_there = subst S (sym (joined-got s t u v v n es fs [] more.hands.handed p q ∙ ap (λ (x : List ℕ). x ++ q.got) none)) (stops q.got more.stops_there);
     }
 
--- how reading stopped, where the same bytes stood there before
-pub stops_before : (s t u : Streams) (r : Result ReadEnd ConnectionFault) (got : List ℕ) → t.buffer.items ≡ s.buffer.items → ReadStops t u r got → ReadStops s u r got
-stops_before s t u (Ok (ending.Handed message)) got same was = subst (λ (x : List ℕ). ((got ≡ []) × (u.buffer.items ≡ x)) ⊎ EndsAt (x ++ got) u.buffer.items message) same was
-stops_before s t u (Ok ending.Full) got same was = tt
-stops_before s t u (Ok ending.Dry) got same was = tt
-stops_before s t u (Err e) got same was = tt
+-- how reading stopped, where the same bytes stood there before, and no notice is delayed any more
+pub stops_before : (s t u : Streams) (r : Result ReadEnd ConnectionFault) (got : List ℕ) → t.buffer.items ≡ s.buffer.items → t.delayed.items ≡ [] → ReadStops t u r got → ReadStops s u r got
+stops_before s t u (Ok (ending.Handed message)) got same none (inl was) = absurd (omega (arith, was.delayed, ap length none))
+stops_before s t u (Ok (ending.Handed message)) got same none (inr was) = inr (subst (λ (x : List ℕ). EndsAt (x ++ got) u.buffer.items message) same was)
+stops_before s t u (Ok ending.Full) got same none was = tt
+stops_before s t u (Ok ending.Dry) got same none was = tt
+stops_before s t u (Err e) got same none was = tt

@@ -195,9 +195,10 @@ pub read_error : (s t : Streams) (l n : LinkView) (e : ConnectionFault) (es : Li
 read_error s t l n e es active same is = (λ x. inl (sym same ∙ x), read_fails s t l n e es active same is, λ x. absurd (not_both s.closing x active))
 
 -- a write step leaves what was read
-handed_stops : (a b c : Streams) (message : AsyncMessage) (got : List ℕ) → c.buffer.items ≡ b.buffer.items → StopsAt a b message got → StopsAt a c message got
-handed_stops a b c message got same was =
-    subst (λ (x : List ℕ). ((got ≡ []) × (x ≡ a.buffer.items)) ⊎ EndsAt (a.buffer.items ++ got) x message) (sym same) was
+handed_stops : (a b c : Streams) (message : AsyncMessage) (got : List ℕ) → c.buffer.items ≡ b.buffer.items → c.held ≡ b.held → StopsAt a b message got → StopsAt a c message got
+handed_stops a b c message got same held (inl was) =
+    inl (record { delayed = was.delayed; none_read = was.none_read; buffer = same ∙ was.buffer; held = ap waiting held ∙ was.held })
+handed_stops a b c message got same held (inr was) = inr (subst (λ (x : List ℕ). EndsAt (a.buffer.items ++ got) x message) (sym same) was)
 
 -- a turn whose read step failed
 pub turned_read : {H : Type 0} (becomes : H → List Event → H → Type 0) (h i : H) (s t : Streams) (l m : LinkView) (e : ConnectionFault) → s.closing ≡ false → t.closing ≡ s.closing →
@@ -265,7 +266,7 @@ turned_handed becomes joins h i k a b c l m n message active reads sends first m
       active = active;
       stays = stays_open a b c fs active reads.closing f.closes;
       writing = written_later c l m n es fs first.hands.goes.passes.link (untouched_first a b c l m n _ _ _ _ first.hands.goes.passes more.passes) f.end.writing;
-    }) (λ got was. handed_stops a b c message got sends.buffer was)
+    }) (λ got was. handed_stops a b c message got sends.buffer sends.held was)
 
 pub turned_full : {H : Type 0} (becomes : H → List Event → H → Type 0) → Joins becomes → (h i k : H) (a b c : Streams) (l m n : LinkView) →
     a.closing ≡ false → OnlyReads a b l m → OnlySends b c m n → ReadsOn becomes h i a b l m (HandedBy (Ok ending.Full)) (ReadEnds b l m (Ok ending.Full)) (ReadStops a b (Ok ending.Full)) →

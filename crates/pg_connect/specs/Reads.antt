@@ -265,10 +265,10 @@ HandedLate (Ok (Some message)) handed = Carries handed message
 HandedLate _ handed = handed ≡ []
 
 -- how the notices that are delayed were looked at
-abbrev pub LateEnds : Streams → Result (Option AsyncMessage) ConnectionFault → Type 0
-LateEnds new (Ok None) = new.delayed.items ≡ []
-LateEnds new (Ok (Some message)) = Unit {0}
-LateEnds new (Err e) = RefusesFirst new e
+abbrev pub LateEnds : Streams → Streams → Result (Option AsyncMessage) ConnectionFault → Type 0
+LateEnds old new (Ok None) = new.delayed.items ≡ []
+LateEnds old new (Ok (Some message)) = 0 < length old.delayed.items
+LateEnds old new (Err e) = RefusesFirst new e
 
 -- what is due by the plan was given
 abbrev pub NothingDue : LinkView → Type 0
@@ -351,9 +351,16 @@ pub record Paced (old : Streams) (got : List ℕ) (events : List Event) : Type 0
   pub fits : length piece ≤ piece_size
   pub needed : (got ≡ []) ⊎ NeedsMore old front events
 
--- reading ends at the message that is handed out: one that was delayed, and nothing is read, or the last that came off
+-- A notice was delayed, and before it nothing is read, and the batch that is held isn't delivered.
+pub record ComesFirst (old new : Streams) (got : List ℕ) : Type 0 where
+  pub delayed : 0 < length old.delayed.items
+  pub none_read : got ≡ []
+  pub buffer : new.buffer.items ≡ old.buffer.items
+  pub held : waiting new.held ≡ waiting old.held
+
+-- reading ends at the message that is handed out: one that was delayed, or the last that came off
 abbrev pub StopsAt : Streams → Streams → AsyncMessage → List ℕ → Type 0
-StopsAt old new message got = ((got ≡ []) × (new.buffer.items ≡ old.buffer.items)) ⊎ EndsAt (old.buffer.items ++ got) new.buffer.items message
+StopsAt old new message got = ComesFirst old new got ⊎ EndsAt (old.buffer.items ++ got) new.buffer.items message
 
 -- the same of a read step
 abbrev pub ReadStops : Streams → Streams → Result ReadEnd ConnectionFault → List ℕ → Type 0

@@ -136,7 +136,8 @@ impl Streams {
     ) -> Result<Option<AsyncMessage>, ConnectionFault>
         requires { self.old.unread ≡ None }
         ensures passes { (l : LinkView) → PassesOn self.old self.new l l [] (HandedLate result) }
-        ensures end { LateEnds self.new result }
+        ensures end { LateEnds self.old self.new result }
+        ensures held { self.new.held ≡ self.old.held }
         ensures unread { self.new.unread ≡ None }
         ensures buffer { self.new.buffer ≡ self.old.buffer }
         ensures given { self.new.given ≡ self.old.given }

@@ -1,4 +1,4 @@
-use Rattle.std.proofs.Common.{[], refl, subst, Some, Result, Ok, Err}
+use Rattle.std.proofs.Common.{[], refl, ap, arith, length, subst, Some, Result, Ok, Err}
 use Rattle.pg_faults.specs.declared.db_error.DbError.{DbError}
 use Rattle.pg_connect.specs.declared.fault.ConnectionFault.{ConnectionFault}
 use Rattle.pg_connect.specs.Reads.{ReadsFirst}
@@ -25,3 +25,9 @@ returns-in-Some-Ok-clause-passes c =
     let w = c.in-Some-Ok in
     let first = subst (λ (r : Result DbError ConnectionFault). ReadsFirst c.args.self.now (Some r)) w.field-0-is w.ensures in
     λ l. delayed_taken c.args.self.now c.drop_notice.new.self l w.notice c.requires first c.drop_notice.ensures.delayed c.drop_notice.ensures.same
+
+pub returns-in-Some-Ok-clause-end : goal.returns-in-Some-Ok-clause-end
+returns-in-Some-Ok-clause-end c =
+    let w = c.in-Some-Ok in
+    let first = subst (λ (r : Result DbError ConnectionFault). ReadsFirst c.args.self.now (Some r)) w.field-0-is w.ensures in
+    omega (arith, ap length first.first)

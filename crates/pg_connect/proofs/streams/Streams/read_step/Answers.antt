@@ -3,7 +3,7 @@ use Rattle.pg_wire.specs.declared.body.ErrorResponseBody.{ErrorResponseBody}
 use Rattle.pg_errors.specs.declared.async_message.AsyncMessage.{AsyncMessage}
 use Rattle.pg_connect.specs.declared.ends.ReadEnd.{ReadEnd}
 use Rattle.pg_connect.specs.declared.ends.ReadEnd.TheVariants as ending
-use Rattle.pg_connect.specs.Passes.{PassesOn, notice_of}
+use Rattle.pg_connect.specs.Passes.{PassesOn, notice_of, waiting}
 use Rattle.std.specs.declared.alloc.Global.{Global}
 use Rattle.bytes.specs.declared.unique.BytesMut.{BytesMut}
 use Rattle.pg_connect.specs.Reads.{DeliverEnds, NoneFull, ReadEnds, ReadStops, HandedBy, HandedLate, LateEnds}
@@ -21,7 +21,12 @@ returns-in-Ok-Some-clause-goes g c =
     let w = c.in-Ok-Some in
     let on = subst (λ (o : Option AsyncMessage). PassesOn s t v v [] (HandedLate (Ok o))) w.field-0-is (w.ensures.passes v) in
     paced-still _ _ _ s t v v _ _ (ReadStops s t (Ok (ending.Handed w.message))) (hands-quietly _ _ (g.met.E.Desk.stays c.args.hub.now) s t v v _ _ _ on (λ handed is. is) tt) w.ensures.given
-    (inl (refl, ap (λ (b : BytesMut Global). b.items) w.ensures.buffer))
+    (inl (record {
+      delayed = subst (λ (o : Option AsyncMessage). LateEnds s t (Ok o)) w.field-0-is w.ensures.end;
+      none_read = refl;
+      buffer = ap (λ (b : BytesMut Global). b.items) w.ensures.buffer;
+      held = ap waiting w.ensures.held;
+    }))
 
 pub returns-in-Err-clause-goes : goal.returns-in-Err-clause-goes
 returns-in-Err-clause-goes g c =
@@ -47,7 +52,7 @@ returns-in-Ok-false-clause-goes g c =
           (λ es was. (
             subst (λ (b : Bool). DeliverEnds t (Ok b) es) c.in-Ok-false.field-0-test was,
             ap (λ (x : List ErrorResponseBody). map notice_of x)
-                (c.in-Ok-false.ensures.delayed ∙ subst (λ (o : Option AsyncMessage). LateEnds mid (Ok o)) w.field-0-is w.ensures.end),
+                (c.in-Ok-false.ensures.delayed ∙ subst (λ (o : Option AsyncMessage). LateEnds s mid (Ok o)) w.field-0-is w.ensures.end),
           ));
     }) (given_in _ _ _ mid t _ (c.in-Ok-false.ensures.goes any_link) ∙ w.ensures.given) tt
 
@@ -84,7 +89,7 @@ read_link-requires-clause-given g c =
 
 pub read_link-requires-clause-delayed : goal.read_link-requires-clause-delayed
 read_link-requires-clause-delayed g c =
-    c.in-Ok-true.ensures.delayed ∙ subst (λ (o : Option AsyncMessage). LateEnds c.hand_delayed.new.self (Ok o)) c.in-Ok-None.field-0-is c.in-Ok-None.ensures.end
+    c.in-Ok-true.ensures.delayed ∙ subst (λ (o : Option AsyncMessage). LateEnds c.args.self.now c.hand_delayed.new.self (Ok o)) c.in-Ok-None.field-0-is c.in-Ok-None.ensures.end
 
 pub returns-in-Ok-true-clause-goes : goal.returns-in-Ok-true-clause-goes
 returns-in-Ok-true-clause-goes g c =
@@ -98,7 +103,7 @@ returns-in-Ok-true-clause-goes g c =
     let first = none_handed s mid v v [] (subst (λ (o : Option AsyncMessage). PassesOn s mid v v [] (HandedLate (Ok o))) w.field-0-is (w.ensures.passes v)) in
     let so_far = goes-behind g.E.Desk.becomes c.args.hub.now c.deliver_held.new.hub s mid t v v v [] [] (DeliverEnds t (Ok c.in-Ok-true.field-0)) (DeliverEnds t (Ok true)) first
     (c.in-Ok-true.ensures.goes v) (λ es was. subst (λ (b : Bool). DeliverEnds t (Ok b) es) c.in-Ok-true.field-0-test was) in
-    let late = c.in-Ok-true.ensures.delayed ∙ subst (λ (o : Option AsyncMessage). LateEnds mid (Ok o)) w.field-0-is w.ensures.end in
+    let late = c.in-Ok-true.ensures.delayed ∙ subst (λ (o : Option AsyncMessage). LateEnds s mid (Ok o)) w.field-0-is w.ensures.end in
     paced-behind _ g.met.E.Desk.joins _ _ _ s t u v n (HandedBy c.read_link.result) (ReadEnds u v n c.read_link.result) (ReadEnds u v n c.read_link.result)
     (ReadStops t u c.read_link.result) (ReadStops s u c.read_link.result)
     (goes-ends _ _ _ s t v v [] (DeliverEnds t (Ok true)) NoneFull so_far (λ es was. was.1)) c.read_link.ensures.goes
@@ -106,7 +111,7 @@ returns-in-Ok-true-clause-goes g c =
     (ap (λ (b : BytesMut Global). b.items) (c.in-Ok-true.ensures.buffer ∙ w.ensures.buffer))
     (ap (λ (x : List ErrorResponseBody). map notice_of x) late) so_far.ended.0 c.in-Ok-true.ensures.unread
     (λ es fs was. ends_behind u v n c.read_link.result es fs c.read_link.ensures.delayed was)
-    (λ got was. stops_before s t u c.read_link.result got (ap (λ (b : BytesMut Global). b.items) (c.in-Ok-true.ensures.buffer ∙ w.ensures.buffer)) was)
+    (λ got was. stops_before s t u c.read_link.result got (ap (λ (b : BytesMut Global). b.items) (c.in-Ok-true.ensures.buffer ∙ w.ensures.buffer)) late was)
 
 pub returns-in-Ok-false-clause-within : goal.returns-in-Ok-false-clause-within
 returns-in-Ok-false-clause-within g c =
