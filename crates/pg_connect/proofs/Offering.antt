@@ -8,8 +8,8 @@ use Rattle.pg_connect.specs.StartupPolls.{Sends}
 use Rattle.pg_connect.proofs.Joining.{keeps_same, keeps_then, grew_same, grew_then, untouched_same, untouched_then}
 
 -- a call of the link that took nothing
-pub sends-none : (s : Startup) (a b : LinkView) → Untouched a b → b.flushed ≡ a.flushed → Keeps a b → Sends s s a b
-sends-none s a b same flushed keeps = record {
+pub sends-none : (s : Startup) (a b : LinkView) → Untouched a b → b.flushed ≡ a.flushed → b.shut ≡ a.shut → Keeps a b → Sends s s a b
+sends-none s a b same flushed shut keeps = record {
   sent = [];
   taken = grew_same a.taken b.taken same.bytes.taken;
   given = same.bytes.given;
@@ -17,13 +17,14 @@ sends-none s a b same flushed keeps = record {
   same = refl;
   link = keeps;
   flushed = λ was is. let before = was is in (before.0, flushed ∙ before.1);
+  shut = shut;
   flag = λ is. is;
   still = λ none. (none, same);
   stirs = λ moved. inl moved;
 }
 
 pub sends-nothing : (s : Startup) (a : LinkView) → Sends s s a a
-sends-nothing s a = sends-none s a a (untouched_same a) refl (keeps_same a)
+sends-nothing s a = sends-none s a a (untouched_same a) refl refl (keeps_same a)
 
 nothing-left : (unsent : List ℕ) (n : ℕ) → 1 ≤ n → n ≤ length unsent → unsent ≡ [] → ⊥
 nothing-left unsent n some fits none = omega (arith, some, fits, ap (λ (l : List ℕ). length l) none)
@@ -38,6 +39,7 @@ sends-piece s a b n takes keeps = record {
   same = refl;
   link = keeps;
   flushed = λ was is. absurd (nothing-left s.unsent n takes.some takes.fits (was is).0);
+  shut = takes.shut;
   flag = λ is. is;
   still = λ none. absurd cc;
   stirs = λ moved. inr (omega (arith, takes.some, takes.fits, length-drop n s.unsent));
@@ -56,6 +58,7 @@ sends-then s t u a b c first then = record {
   same = then.same ∙ ap (λ (x : Startup). record x { unsent = u.unsent; flushed = u.flushed; moved = u.moved }) first.same;
   link = keeps_then a b c first.link then.link;
   flushed = λ was. then.flushed (first.flushed was);
+  shut = then.shut ∙ first.shut;
   flag = λ is. then.flag (first.flag is);
   still = λ none.
       let later = then.still none in

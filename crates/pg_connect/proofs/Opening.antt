@@ -28,6 +28,7 @@ opening-sends name nonce begin a b s t o sends = record {
   leads = subst (λ (x : Startup). Leads name nonce o.read (phase_of x.phase)) (sym sends.same) o.leads;
   flushed = sends.flushed o.flushed;
   behind = elim o.behind [ inl none ↦ inl none | inr is ↦ inr (sends.flag is) ];
+  shut = sends.shut ∙ o.shut;
   count = ap (λ (x : Startup). x.given) sends.same ∙ o.count;
   link = keeps_then begin a b o.link sends.link;
 }
@@ -53,6 +54,7 @@ opening-reads name nonce begin a b s t o passed reads = record {
   leads = subst (λ (x : Startup). Leads name nonce o.read (phase_of x.phase)) (sym reads.same) o.leads;
   flushed = λ is. (ap (λ (x : Startup). x.unsent) reads.same ∙ (o.flushed passed).0, reads.flushed ∙ (o.flushed passed).1);
   behind = inr (ap (λ (x : Startup). x.flushed) reads.same ∙ passed);
+  shut = reads.shut ∙ o.shut;
   count = reads.count ∙ ap (λ (n : ℕ). n + length reads.got) o.count ∙ sym (length-append o.got reads.got);
   link = keeps_then begin a b o.link reads.link;
 }
@@ -77,6 +79,7 @@ opening-heard name nonce begin a s t o same h = record {
       let was = o.flushed (sym (ap (λ (x : Startup). x.flushed) same) ∙ is) in
       (ap (λ (x : Startup). x.unsent) same ∙ was.0, was.1);
   behind = elim o.behind [ inl none ↦ inl none | inr is ↦ inr (ap (λ (x : Startup). x.flushed) same ∙ is) ];
+  shut = o.shut;
   count = ap (λ (x : Startup). x.given) same ∙ o.count;
   link = o.link;
 }
@@ -98,6 +101,7 @@ opening-done name nonce begin a s t o same sent passed within h =
       };
       frame = o.frame ∙ ap (λ (l : List ℕ). Ok l) (sym (ap (λ (x : Startup). x.opening.items) same));
       flushed = (o.flushed passed).1;
+      shut = o.shut;
       done = h.1.2;
       count = ap (λ (x : Startup). x.given) same ∙ o.count;
       within = subst (λ (x : Startup). x.given ≤ x.max_bytes) (sym same) within;
@@ -119,6 +123,7 @@ opening-failed name nonce begin a s t e o same fails within = record {
         let was = o.flushed is in
         inr (sym (append-nil o.sent) ∙ ap (λ (l : List ℕ). o.sent ++ l) (sym was.0) ∙ o.out ∙ sym same, was.1)
   ];
+  shut = o.shut;
   frame = o.frame ∙ ap (λ (l : List ℕ). Ok l) (sym same);
   link = o.link;
   fails = fails;
@@ -193,6 +198,7 @@ opening-again name nonce begin a s o = record {
   leads = o.leads;
   flushed = o.flushed;
   behind = o.behind;
+  shut = o.shut;
   count = o.count;
   link = o.link;
 }

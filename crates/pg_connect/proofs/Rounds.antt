@@ -24,7 +24,7 @@ use Rattle.pg_connect.specs.declared.streams.Streams.{Streams}
 use Rattle.pg_connect.specs.Passes.{Passes, Goes, Hands, OnlyReads, OnlySends, Untouched, waiting}
 use Rattle.pg_connect.specs.Ends.{WasBlocked, last_is, some_is, has_no_more, Closes, Written, WriteEnds}
 use Rattle.pg_connect.specs.Reads.{EndsAt, Paced, ReadsOn, ReadStops, StopsAt, ReadEnds, LastGivesBack, NothingDue, WasDry, AllDecoded, IsCleared, EndsInside, Carries, HandedBy, is_full}
-use Rattle.pg_connect.specs.Polls.{SomeGivesBack, TurnStops, ClosesThen, FlushEnds, SendEnds, SendWaits, Sends, StopsWriting, TurnEnds, TurnFails, ClosesBy, Turns, HandedTurn, Waits, ReadDry, BeganToClose, NothingDueBefore}
+use Rattle.pg_connect.specs.Polls.{Shuts, SomeGivesBack, TurnStops, is_last_turn, is_over_sent, is_shut_down, ClosesThen, FlushEnds, SendEnds, SendWaits, Sends, StopsWriting, TurnEnds, TurnFails, ClosesBy, Turns, HandedTurn, Waits, ReadDry, BeganToClose, NothingDueBefore}
 use Rattle.pg_connect.proofs.Clearing.{still_cleared}
 use Rattle.pg_connect.proofs.Joining.{calls-then, joined-got, passes-joined, goes-also, rose_later, rose_before, blocked_later, unmoved_before}
 use Rattle.pg_connect.proofs.Sends.{passes_nothing}
@@ -40,13 +40,14 @@ on_any (Err e) P p = tt
 
 -- a write step that took all, and a flush step behind it
 pub flushed : {H : Type 0} (becomes : H → List Event → H → Type 0) (h i : H) (s t : Streams) (l m n : LinkView) (may : Bool) (w : WriteEnd) (r : Result SendEnd ConnectionFault) →
-    t.unread ≡ None → w ≡ writes.AllTaken → Goes becomes h i s t l m [] (Written s t l m may (Ok w)) → Untouched m n → Keeps m n →
+    t.unread ≡ None → w ≡ writes.AllTaken → Goes becomes h i s t l m [] (Written s t l m may (Ok w)) → Untouched m n → Keeps m n → Shuts (is_over_sent r) l n →
     ((es : List Event) → Keeps l m → (t.moved ≡ false → Untouched l m) → WriteEnds t l m (Ok writes.AllTaken) es → SendEnds t l n r es) →
     Goes becomes h i s t l n [] (Sends s t l n may r)
-flushed becomes h i s t l m n may w r read all goes same keeps ends =
+flushed becomes h i s t l m n may w r read all goes same keeps shuts ends =
     goes-also becomes h i s t t l m n [] [] (Written s t l m may (Ok w)) (Sends s t l n may r) goes (passes_nothing t m n [] read same keeps refl refl refl)
     (λ es was. record {
       end = ends es goes.passes.link goes.passes.still (subst (λ (x : WriteEnd). WriteEnds t l m (Ok x) es) all was.end);
+      shut = shuts;
       closes = was.closes;
       must = on_any r (ClosesThen t l n may es) (λ allowed none. inl (was.must (ap Ok all) allowed none));
     })
@@ -70,8 +71,17 @@ flush_done t l m n f es is ends was =
 pub flush_over : (t : Streams) (l m n : LinkView) (f : FlushEnd) (es : List Event) → f ≡ flushing.ShutDown → FlushEnds t.closing m n (Ok f) →
     WriteEnds t l m (Ok writes.AllTaken) es → SendEnds t l n (Ok sending.Over) es
 flush_over t l m n f es is ends was =
-    let done : (t.closing ≡ true) × IsTrue n.flushed × IsTrue n.shut = subst (λ (x : FlushEnd). FlushEnds t.closing m n (Ok x)) is ends in
-    (done.0, was.0, done.1, done.2)
+    let done : (t.closing ≡ true) × IsTrue n.flushed = subst (λ (x : FlushEnd). FlushEnds t.closing m n (Ok x)) is ends in
+    (done.0, was.0, done.1)
+
+-- what a flush step says of the shutdown, at the arm's own value, and what the whole sending says then
+pub flush_shuts : (l m n : LinkView) (x y : FlushEnd) (r : Result SendEnd ConnectionFault) → y ≡ x → m.shut ≡ l.shut → is_shut_down (Ok x) ≡ is_over_sent r → Shuts (is_shut_down (Ok y)) m n → Shuts (is_over_sent r) l n
+flush_shuts l m n x y r is same as shuts =
+    subst (λ (b : Bool). Shuts b l n) (ap (λ (z : FlushEnd). is_shut_down (Ok z)) is ∙ as) (by (is_shut_down (Ok y)) shuts)
+  where
+    by : (b : Bool) → Shuts b m n → Shuts b l n
+    by true shut = shut
+    by false shut = shut ∙ same
 
 pub flush_error : (t : Streams) (closing : Bool) (l m n : LinkView) (e : ConnectionFault) (events : List Event) → Keeps l m → FlushEnds closing m n (Err e) → SendEnds t l n (Err e) events
 flush_error t closing l m n fault.Link events keeps is = rose_later l.faults m.faults n.faults keeps.counts.faults is
@@ -202,8 +212,8 @@ handed_stops a b c message got same held (inr was) = inr (subst (λ (x : List �
 
 -- a turn whose read step failed
 pub turned_read : {H : Type 0} (becomes : H → List Event → H → Type 0) (h i : H) (s t : Streams) (l m : LinkView) (e : ConnectionFault) → s.closing ≡ false → t.closing ≡ s.closing →
-    ReadsOn becomes h i s t l m (HandedBy (Err e)) (ReadEnds t l m (Err e)) (ReadStops s t (Err e)) → Turns becomes h i s t l m (Err e)
-turned_read becomes h i s t l m e active same first =
+    ReadsOn becomes h i s t l m (HandedBy (Err e)) (ReadEnds t l m (Err e)) (ReadStops s t (Err e)) → m.shut ≡ l.shut → Turns becomes h i s t l m (Err e)
+turned_read becomes h i s t l m e active same first shuts =
     let goes = first.hands.goes in
     record {
       handed = first.hands.handed;
@@ -217,14 +227,15 @@ turned_read becomes h i s t l m e active same first =
       };
       paced = first.paced;
       stops = tt;
+      shut = shuts;
     }
 
 -- both steps, with what each says of its events, as one turn
 turns-all : {H : Type 0} (becomes : H → List Event → H → Type 0) → Joins becomes → (h i k : H) (a b c : Streams) (l m n : LinkView)
     (W : List RawMessage → Type 0) (E F : List Event → Type 0) (S : List ℕ → Type 0) (r : Result TurnEnd ConnectionFault) →
     (first : ReadsOn becomes h i a b l m W E S) → Goes becomes i k b c m n [] F → c.given ≡ b.given → HandedTurn r first.hands.handed →
-    ((es fs : List Event) → E es → F fs → TurnEnds a c l n r (es ++ fs)) → ((got : List ℕ) → S got → TurnStops a c r got) → Turns becomes h k a c l n r
-turns-all becomes joins h i k a b c l m n W E F S r first more same which ends stops =
+    ((es fs : List Event) → E es → F fs → TurnEnds a c l n r (es ++ fs)) → ((got : List ℕ) → S got → TurnStops a c r got) → Shuts (is_last_turn r) l n → Turns becomes h k a c l n r
+turns-all becomes joins h i k a b c l m n W E F S r first more same which ends stops shuts =
     let hs = first.hands.handed in
     let goes = first.hands.goes in
     let es = goes.events in
@@ -246,6 +257,7 @@ turns-all becomes joins h i k a b c l m n W E F S r first more same which ends s
       stops = subst (λ (x : List ℕ). TurnStops a c r x)
           (sym (joined-got a b c l m n es fs hs [] goes.passes more.passes ∙ ap (λ (x : List ℕ). goes.passes.got ++ x) (no_more b c m n fs [] more.passes same) ∙ append-nil goes.passes.got))
           (stops goes.passes.got first.stops_there);
+      shut = shuts;
     }
 
 -- what the read step did, at the arm's own value
@@ -266,7 +278,7 @@ turned_handed becomes joins h i k a b c l m n message active reads sends first m
       active = active;
       stays = stays_open a b c fs active reads.closing f.closes;
       writing = written_later c l m n es fs first.hands.goes.passes.link (untouched_first a b c l m n _ _ _ _ first.hands.goes.passes more.passes) f.end.writing;
-    }) (λ got was. handed_stops a b c message got sends.buffer sends.held was)
+    }) (λ got was. handed_stops a b c message got sends.buffer sends.held was) (more.ended.shut ∙ reads.shut)
 
 pub turned_full : {H : Type 0} (becomes : H → List Event → H → Type 0) → Joins becomes → (h i k : H) (a b c : Streams) (l m n : LinkView) →
     a.closing ≡ false → OnlyReads a b l m → OnlySends b c m n → ReadsOn becomes h i a b l m (HandedBy (Ok ending.Full)) (ReadEnds b l m (Ok ending.Full)) (ReadStops a b (Ok ending.Full)) →
@@ -281,7 +293,7 @@ turned_full becomes joins h i k a b c l m n active reads sends first more =
       began = λ x. absurd (not_both c.closing x (stays_open a b c fs active reads.closing f.closes));
       must = λ allowed none. absurd (not_full (some_is is_full (es ++ fs)) (some_of_last is_full es fs e.0.0) allowed);
       still = λ x. absurd (not_both a.closing x active);
-    }) (λ got was. tt)
+    }) (λ got was. tt) (more.ended.shut ∙ reads.shut)
 
 pub turned_dry : {H : Type 0} (becomes : H → List Event → H → Type 0) → Joins becomes → (h i k : H) (a b c : Streams) (l m n : LinkView) →
     a.closing ≡ false → OnlyReads a b l m → OnlySends b c m n → ReadsOn becomes h i a b l m (HandedBy (Ok ending.Dry)) (ReadEnds b l m (Ok ending.Dry)) (ReadStops a b (Ok ending.Dry)) →
@@ -298,7 +310,7 @@ turned_dry becomes joins h i k a b c l m n active reads sends first more =
       began = closes_dry a b c l n es fs reads.closing dry f.closes;
       must = λ allowed none. must_close c l m n es fs first.hands.goes.passes.link (untouched_first a b c l m n _ _ _ _ first.hands.goes.passes more.passes) f.end.writing f.must none;
       still = λ x. absurd (not_both a.closing x active);
-    }) (λ got was. tt)
+    }) (λ got was. tt) (more.ended.shut ∙ reads.shut)
 
 pub turned_over : {H : Type 0} (becomes : H → List Event → H → Type 0) → Joins becomes → (h i k : H) (a b c : Streams) (l m n : LinkView) →
     a.closing ≡ false → OnlyReads a b l m → OnlySends b c m n → ReadsOn becomes h i a b l m (HandedBy (Ok ending.Dry)) (ReadEnds b l m (Ok ending.Dry)) (ReadStops a b (Ok ending.Dry)) →
@@ -309,10 +321,10 @@ turned_over becomes joins h i k a b c l m n active reads sends first more =
       closing = f.end.0;
       sent = f.end.1;
       flushed = f.end.2;
-      shut = f.end.3;
+      shut = f.shut;
       began = closes_dry a b c l n es fs reads.closing (dry_turn a b c l m n more.events more.passes reads sends e) f.closes;
       still = λ x. absurd (not_both a.closing x active);
-    }) (λ got was. tt)
+    }) (λ got was. tt) more.ended.shut
 
 -- a connection that may not close isn't over
 pub never_over : {H R : Type 0} (becomes : H → List Event → H → Type 0) (i k : H) (a b c : Streams) (l m n : LinkView) → a.closing ≡ false → OnlyReads a b l m →
@@ -325,18 +337,19 @@ pub turned_error : {H : Type 0} (becomes : H → List Event → H → Type 0) �
     a.closing ≡ false → OnlyReads a b l m → OnlySends b c m n → ReadsOn becomes h i a b l m W E S → Goes becomes i k b c m n [] (Sends b c m n may (Err e)) → Turns becomes h k a c l n (Err e)
 turned_error becomes joins h i k a b c l m n may W E S e active reads sends first more =
     turns-all becomes joins h i k a b c l m n W E (Sends b c m n may (Err e)) S (Err e) first more sends.count tt
-    (λ es fs x f. (closes_by a b c may es fs reads.closing f.closes, send_error a c l m n e es fs first.hands.goes.passes.link f.end, λ x. absurd (not_both a.closing x active))) (λ got was. tt)
+    (λ es fs x f. (closes_by a b c may es fs reads.closing f.closes, send_error a c l m n e es fs first.hands.goes.passes.link f.end, λ x. absurd (not_both a.closing x active))) (λ got was. tt) (more.ended.shut ∙ reads.shut)
 
 -- a turn that reads nothing
 pub turned_closing : {H : Type 0} (becomes : H → List Event → H → Type 0) (h i : H) (s t : Streams) (l m : LinkView) (x : SendEnd) (r : Result TurnEnd ConnectionFault) →
     ((handed : List RawMessage) → handed ≡ [] → HandedTurn r handed) → ((got : List ℕ) → TurnStops s t r got) → OnlySends s t l m → Goes becomes h i s t l m [] (Sends s t l m false (Ok x)) →
-    ((es : List Event) → Sends s t l m false (Ok x) es → TurnEnds s t l m r es) → Turns becomes h i s t l m r
-turned_closing becomes h i s t l m x r none stops only goes ends = record {
+    ((es : List Event) → Sends s t l m false (Ok x) es → TurnEnds s t l m r es) → is_over_sent (Ok x) ≡ is_last_turn r → Turns becomes h i s t l m r
+turned_closing becomes h i s t l m x r none stops only goes ends as = record {
   handed = [];
   which = none [] refl;
   goes = record { events = goes.events; calls = goes.calls; became = goes.became; passes = goes.passes; ended = ends goes.events goes.ended };
   paced = paced_none s goes.passes.got goes.events (no_more s t l m goes.events [] goes.passes only.count);
   stops = stops goes.passes.got;
+  shut = subst (λ (b : Bool). Shuts b l m) as goes.ended.shut;
 }
 
 pub closing_waits : (s t : Streams) (l m : LinkView) (es : List Event) → s.closing ≡ true → t.closing ≡ true → OnlySends s t l m → Sends s t l m false (Ok sending.Waits) es → TurnEnds s t l m (Ok turn.Waits) es
@@ -351,7 +364,7 @@ closing_waits s t l m es closing stays only was = record {
 }
 
 pub closing_over : (s t : Streams) (l m : LinkView) (es : List Event) → s.closing ≡ true → OnlySends s t l m → Sends s t l m false (Ok sending.Over) es → TurnEnds s t l m (Ok turn.Over) es
-closing_over s t l m es closing only was = record { closing = was.end.0; sent = was.end.1; flushed = was.end.2; shut = was.end.3; began = λ x. inl closing; still = λ x. only }
+closing_over s t l m es closing only was = record { closing = was.end.0; sent = was.end.1; flushed = was.end.2; shut = was.shut; began = λ x. inl closing; still = λ x. only }
 
 closing_failed : (s t : Streams) (l m : LinkView) (e : ConnectionFault) (es : List Event) → SendEnds t l m (Err e) es → TurnFails s t l m e es
 closing_failed s t l m fault.Link es is = is
@@ -367,4 +380,5 @@ closing_error becomes h i s t l m e closing only goes = record {
   goes = record { events = goes.events; calls = goes.calls; became = goes.became; passes = goes.passes; ended = (λ x. inl closing, closing_failed s t l m e goes.events goes.ended.end, λ x. only) };
   paced = paced_none s goes.passes.got goes.events (no_more s t l m goes.events [] goes.passes only.count);
   stops = tt;
+  shut = goes.ended.shut;
 }

@@ -108,6 +108,7 @@ opens name nonce begin s empty unsent frame at not_yet count = record {
   leads = subst (λ (p : Phase). Leads name nonce [] p) (sym at) (leads-none name nonce);
   flushed = λ is. absurd (let no : true ≡ false = sym is ∙ not_yet in cc);
   behind = inl refl;
+  shut = refl;
   count = count;
   link = keeps_same begin;
 }

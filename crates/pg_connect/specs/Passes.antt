@@ -144,7 +144,8 @@ pub record OnlySends (old new : Streams) (before after : LinkView) : Type 0 wher
   pub unread : new.unread ≡ old.unread
   pub at_end : new.at_end ≡ old.at_end
 
--- Nothing was sent in these calls.
+-- Nothing was sent in these calls, and the link wasn't shut down.
 pub record OnlyReads (old new : Streams) (before after : LinkView) : Type 0 where
   pub taken : after.taken ≡ before.taken
   pub closing : new.closing ≡ old.closing
+  pub shut : after.shut ≡ before.shut

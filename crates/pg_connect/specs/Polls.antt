@@ -16,11 +16,31 @@ use Rattle.pg_connect.specs.Ends.{WasBlocked, last_is, some_is, has_none, has_no
 use Rattle.pg_connect.specs.Passes.{waiting, delayed_in, Goes, OnlySends}
 use Rattle.pg_connect.specs.Reads.{AllDecoded, BreaksHeader, BreaksLayout, Carries, EndsInside, GivesBack, IsCleared, IsOnePastLimit, IsUnasked, LastGivesBack, LeavesDelayed, LeavesUnread, Paced, StopsAt, is_full, has_no_request}
 
+-- the link was shut down, or not
+abbrev pub Shuts : Bool → LinkView → LinkView → Type 0
+Shuts true before after = IsTrue after.shut
+Shuts false before after = after.shut ≡ before.shut
+
+-- where a flush step, sending and a turn say that they shut the link down
+abbrev pub is_shut_down : Result FlushEnd ConnectionFault → Bool
+is_shut_down (Ok flush.ShutDown) = true
+is_shut_down _ = false
+
+-- the same of sending
+abbrev pub is_over_sent : Result SendEnd ConnectionFault → Bool
+is_over_sent (Ok send.Over) = true
+is_over_sent _ = false
+
+-- the same of a turn
+abbrev pub is_last_turn : Result TurnEnd ConnectionFault → Bool
+is_last_turn (Ok turn.Over) = true
+is_last_turn _ = false
+
 -- how a flush step ended, where nothing is unsent; `closing`: Terminate is queued
 abbrev pub FlushEnds : Bool → LinkView → LinkView → Result FlushEnd ConnectionFault → Type 0
 FlushEnds closing before after (Ok flush.Blocked) = WasBlocked false before after
 FlushEnds closing before after (Ok flush.Flushed) = (closing ≡ false) × IsTrue after.flushed
-FlushEnds closing before after (Ok flush.ShutDown) = (closing ≡ true) × IsTrue after.flushed × IsTrue after.shut
+FlushEnds closing before after (Ok flush.ShutDown) = (closing ≡ true) × IsTrue after.flushed
 FlushEnds closing before after (Err fault.Link) = Rose before.faults after.faults
 FlushEnds closing before after (Err _) = ⊥
 
@@ -36,7 +56,7 @@ pub record SendWaits (new : Streams) (before after : LinkView) (events : List Ev
 -- how the write step and the flush step ended
 abbrev pub SendEnds : Streams → LinkView → LinkView → Result SendEnd ConnectionFault → List Event → Type 0
 SendEnds new before after (Ok send.Waits) events = SendWaits new before after events
-SendEnds new before after (Ok send.Over) events = (new.closing ≡ true) × (new.unsent ≡ []) × IsTrue after.flushed × IsTrue after.shut
+SendEnds new before after (Ok send.Over) events = (new.closing ≡ true) × (new.unsent ≡ []) × IsTrue after.flushed
 SendEnds new before after (Err fault.Link) events = Rose before.faults after.faults
 SendEnds new before after (Err fault.Closed) events = last_is is_closed_out events ≡ true
 SendEnds new before after (Err fault.OutOfMemory) events = Unit {0}
@@ -47,9 +67,10 @@ abbrev pub ClosesThen : Streams → LinkView → LinkView → Bool → List Even
 ClosesThen new before after may_close events =
     may_close ≡ true → last_is has_no_more events ≡ true → (new.closing ≡ true) ⊎ WasBlocked new.moved before after
 
--- the same, and where the connection began to close
+-- the same, and where the connection began to close, and the link was shut down
 pub record Sends (old new : Streams) (before after : LinkView) (may_close : Bool) (result : Result SendEnd ConnectionFault) (events : List Event) : Type 0 where
   pub end : SendEnds new before after result events
+  pub shut : Shuts (is_over_sent result) before after
   pub closes : Closes old new may_close events
   pub must : OnOk result (ClosesThen new before after may_close events)
 
@@ -149,10 +170,12 @@ abbrev pub TurnStops : Streams → Streams → Result TurnEnd ConnectionFault �
 TurnStops old new (Ok (turn.Handed message)) got = StopsAt old new message got
 TurnStops old new _ got = Unit {0}
 
--- What a turn did to the hub, the link and what stands between them, how far it read, and how it ended.
+-- What a turn did to the hub, the link and what stands between them, how far it read, and how it ended. The link is
+-- shut down in a turn that answers its end, and in no other.
 pub record Turns {H : Type 0} (becomes : H → List Event → H → Type 0) (a b : H) (old new : Streams) (before after : LinkView) (result : Result TurnEnd ConnectionFault) : Type 0 where
   pub handed : List RawMessage
   pub which : HandedTurn result handed
   pub goes : Goes becomes a b old new before after handed (TurnEnds old new before after result)
   pub paced : Paced old goes.passes.got goes.events
   pub stops : TurnStops old new result goes.passes.got
+  pub shut : Shuts (is_last_turn result) before after

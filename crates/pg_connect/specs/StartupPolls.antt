@@ -24,6 +24,7 @@ pub record Sends (old new : Startup) (before after : LinkView) : Type 0 where
   pub same : new ≡ record old { unsent = new.unsent; flushed = new.flushed; moved = new.moved }
   pub link : Keeps before after
   pub flushed : IsFlushed old before → IsFlushed new after
+  pub shut : after.shut ≡ before.shut
   pub flag : old.flushed ≡ true → new.flushed ≡ true
   pub still : new.moved ≡ false → (old.moved ≡ false) × Untouched before after
   pub stirs : new.moved ≡ true → (old.moved ≡ true) ⊎ (length new.unsent < length old.unsent)
@@ -47,6 +48,7 @@ pub record Reads (old new : Startup) (before after : LinkView) : Type 0 where
   pub given : Grew before.given after.given got
   pub taken : after.taken ≡ before.taken
   pub flushed : after.flushed ≡ before.flushed
+  pub shut : after.shut ≡ before.shut
   pub buffer : new.buffer.items ≡ old.buffer.items ++ got
   pub count : new.given ≡ old.given + length got
   pub same : new ≡ record old { buffer = new.buffer; given = new.given; moved = new.moved }

@@ -161,7 +161,7 @@ abbrev pub IsFlushed : Startup → LinkView → Type 0
 IsFlushed s link = s.flushed ≡ true → (s.unsent ≡ []) × IsTrue link.flushed
 
 -- What the link gave and took since the startup began, and where the startup stands. Nothing was read before
--- the frame was flushed.
+-- the frame was flushed, and the link wasn't shut down.
 pub record Opening (name nonce : List ℕ) (begin now : LinkView) (s : Startup) : Type 0 where
   pub got : List ℕ
   pub sent : List ℕ
@@ -174,10 +174,12 @@ pub record Opening (name nonce : List ℕ) (begin now : LinkView) (s : Startup) 
   pub leads : Leads name nonce read (phase_of s.phase)
   pub flushed : IsFlushed s now
   pub behind : (got ≡ []) ⊎ (s.flushed ≡ true)
+  pub shut : now.shut ≡ begin.shut
   pub count : s.given ≡ length got
   pub link : Keeps begin now
 
--- The startup is done: the frame was taken and flushed, and the messages up to ReadyForQuery were read.
+-- The startup is done: the frame was taken and flushed, and the messages up to ReadyForQuery were read. The link
+-- wasn't shut down.
 pub record Opened (name nonce : List ℕ) (begin now : LinkView) (s : Startup) : Type 0 where
   pub got : List ℕ
   pub read : List RawMessage
@@ -186,6 +188,7 @@ pub record Opened (name nonce : List ℕ) (begin now : LinkView) (s : Startup) :
   pub came : Came read got s.buffer.items
   pub frame : frame_of name ≡ Ok s.opening.items
   pub flushed : IsTrue now.flushed
+  pub shut : now.shut ≡ begin.shut
   pub done : Ends name nonce read (startups.Done (length read))
   pub count : s.given ≡ length got
   pub within : s.given ≤ s.max_bytes
@@ -208,7 +211,8 @@ abbrev pub IsWithinStart : Error → (given limit : ℕ) → Type 0
 IsWithinStart (error.LimitReached counted most) given limit = Unit {0}
 IsWithinStart _ given limit = given ≤ limit
 
--- It failed: what the link gave and took, and why. Nothing was read before the frame was flushed.
+-- It failed: what the link gave and took, and why. Nothing was read before the frame was flushed, and the link wasn't
+-- shut down.
 pub record Failed (name nonce : List ℕ) (begin now : LinkView) (s : Startup) (e : Error) : Type 0 where
   pub got : List ℕ
   pub sent : List ℕ
@@ -216,6 +220,7 @@ pub record Failed (name nonce : List ℕ) (begin now : LinkView) (s : Startup) (
   pub taken : Grew begin.taken now.taken sent
   pub front : (rest : List ℕ) × (sent ++ rest ≡ s.opening.items)
   pub behind : (got ≡ []) ⊎ ((sent ≡ s.opening.items) × IsTrue now.flushed)
+  pub shut : now.shut ≡ begin.shut
   pub frame : frame_of name ≡ Ok s.opening.items
   pub link : Keeps begin now
   pub fails : FailsBy name nonce begin now got s e

@@ -4,7 +4,7 @@ ghost use Rattle.pg_wire.specs.LinkCalls.{Keeps};
 ghost use Rattle.std.specs.Prelude.{IsTrue};
 ghost use Rattle.pg_connect.specs.Calm.{MissesNone, MissesOne, StaysCalm};
 ghost use Rattle.pg_connect.specs.Passes.{Untouched};
-ghost use Rattle.pg_connect.specs.Polls.{FlushEnds};
+ghost use Rattle.pg_connect.specs.Polls.{FlushEnds, Shuts, is_shut_down};
 
 use crate::{ConnectionFault, FlushEnd};
 use pg_wire::{Link, LinkStep};
@@ -13,6 +13,7 @@ use pg_wire::{Link, LinkStep};
 #[tactic(auto, using(crate::proofs::Calm::no_lulls))]
 pub(crate) fn flush_step<L: Link>(link: &mut L, closing: bool) -> Result<FlushEnd, ConnectionFault>
     ensures end { FlushEnds closing (L.view link.old) (L.view link.new) result }
+    ensures shut { Shuts (is_shut_down result) (L.view link.old) (L.view link.new) }
     ensures untouched { Untouched (L.view link.old) (L.view link.new) }
     ensures keeps { Keeps (L.view link.old) (L.view link.new) }
     ensures no_lull { StaysCalm (L.view link.old) (L.view link.new) }

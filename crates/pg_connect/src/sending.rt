@@ -33,6 +33,7 @@ impl Streams {
         ensures end { OfferEnds self.new (L.view link.old) (L.view link.new) result }
         ensures closing { self.new.closing ≡ self.old.closing }
         ensures only { OnlySends self.old self.new (L.view link.old) (L.view link.new) }
+        ensures shut { (L.view link.new).shut ≡ (L.view link.old).shut }
         ensures no_lull { StaysCalm (L.view link.old) (L.view link.new) }
         ensures quiet { MissesOne (L.view link.old) (L.view link.new) }
         ensures ready { result ≡ Ok true → MissesNone (L.view link.old) (L.view link.new) }
@@ -70,6 +71,7 @@ impl Streams {
             (PartsEnds self.new (L.view link.old) (L.view link.new) result) }
         ensures closing { self.new.closing ≡ false }
         ensures only { OnlySends self.old self.new (L.view link.old) (L.view link.new) }
+        ensures shut { (L.view link.new).shut ≡ (L.view link.old).shut }
         ensures no_lull { StaysCalm (L.view link.old) (L.view link.new) }
         ensures quiet { MissesOne (L.view link.old) (L.view link.new) }
         ensures waits { result ≡ Ok PartsEnd.Waits → MissesNone (L.view link.old) (L.view link.new) }
@@ -107,6 +109,7 @@ impl Streams {
         ensures end { Written self.old self.new (L.view link.old) (L.view link.new) false result [] }
         ensures closing { self.new.closing ≡ true }
         ensures only { OnlySends self.old self.new (L.view link.old) (L.view link.new) }
+        ensures shut { (L.view link.new).shut ≡ (L.view link.old).shut }
         ensures no_lull { StaysCalm (L.view link.old) (L.view link.new) }
         ensures quiet { MissesOne (L.view link.old) (L.view link.new) }
         ensures ready { result ≡ Ok WriteEnd.AllTaken → MissesNone (L.view link.old) (L.view link.new) }
@@ -132,6 +135,7 @@ impl Streams {
         ensures goes { Goes E.becomes hub.old hub.new self.old self.new (L.view link.old) (L.view link.new) []
             (Written self.old self.new (L.view link.old) (L.view link.new) may_close result) }
         ensures only { OnlySends self.old self.new (L.view link.old) (L.view link.new) }
+        ensures shut { (L.view link.new).shut ≡ (L.view link.old).shut }
         ensures no_lull { StaysCalm (L.view link.old) (L.view link.new) }
         ensures quiet { MissesOne (L.view link.old) (L.view link.new) }
         ensures ready { result ≡ Ok WriteEnd.AllTaken → MissesNone (L.view link.old) (L.view link.new) }

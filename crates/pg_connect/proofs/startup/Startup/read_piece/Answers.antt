@@ -10,6 +10,7 @@ returns-then-is_err-clause-reads g c =
       given = grew_same link.given link.given refl;
       taken = refl;
       flushed = refl;
+      shut = refl;
       buffer = c.reserve.ensures.items ∙ sym (append-nil c.args.self.now.buffer.items);
       count = omega arith;
       same = refl;

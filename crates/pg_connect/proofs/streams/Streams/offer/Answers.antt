@@ -10,6 +10,7 @@ pub loop-link-init : goal.loop-link-init
 loop-link-init g c = record {
   passes = passes_nothing c.args.self.now (g.L.Link.view c.args.link.now) (g.L.Link.view c.args.link.now) [] c.requires (untouched_same _) (keeps_same _) refl refl refl;
   only = record { given = refl; count = refl; buffer = refl; held = refl; delayed = refl; unread = refl; at_end = refl };
+  shut = refl;
   closing = refl;
   unread = c.requires;
   calm = calm_same _;
@@ -35,6 +36,7 @@ loop-link-preserved g c =
         unread = ap (λ (x : Streams). x.unread) c.took.ensures ∙ was.only.unread;
         at_end = ap (λ (x : Streams). x.at_end) c.took.ensures ∙ was.only.at_end;
       };
+      shut = c.in-Took.ensures.answer.0.shut ∙ was.shut;
       closing = ap (λ (x : Streams). x.closing) c.took.ensures ∙ was.closing;
       unread = ap (λ (x : Streams). x.unread) c.took.ensures ∙ was.unread;
       calm = calm_more _ _ _ _ was.calm c.in-Took.ensures.keeps c.in-Took.ensures.promise;

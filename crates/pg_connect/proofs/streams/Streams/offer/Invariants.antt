@@ -7,6 +7,7 @@ abbrev pub invariant-loop-link : goal.invariant-loop-link
 invariant-loop-link g l = record {
   passes : Passes l.initial.self l.self (g.L.Link.view l.initial.link) (g.L.Link.view l.link) [] [];
   only : OnlySends l.initial.self l.self (g.L.Link.view l.initial.link) (g.L.Link.view l.link);
+  shut : (g.L.Link.view l.link).shut ≡ (g.L.Link.view l.initial.link).shut;
   closing : l.self.closing ≡ l.initial.self.closing;
   unread : l.self.unread ≡ None;
   calm : StaysCalm (g.L.Link.view l.initial.link) (g.L.Link.view l.link);

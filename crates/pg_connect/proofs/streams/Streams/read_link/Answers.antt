@@ -20,7 +20,7 @@ pieces-init g c =
     let v = g.L.Link.view c.args.link.now in
     record {
       goes = paced-start _ _ (g.met.E.Desk.stays c.args.hub.now) c.args.self.now v c.requires.unread;
-      only = record { taken = refl; closing = refl };
+      only = record { taken = refl; closing = refl; shut = refl };
       at_end = refl;
       held = c.requires.held;
       delayed = c.requires.delayed;
@@ -116,6 +116,7 @@ pieces-preserved g c =
       only = record {
         taken = c.in-Ok-true.ensures.only.taken ∙ c.pieces.invariant.only.taken;
         closing = c.in-Ok-true.ensures.only.closing ∙ all.ensures.closing ∙ c.pieces.invariant.only.closing;
+        shut = c.in-Ok-true.ensures.only.shut ∙ c.pieces.invariant.only.shut;
       };
       at_end = c.in-Ok-true.ensures.at_end ∙ all.ensures.at_end ∙ c.pieces.invariant.at_end;
       held = c.in-Ok-true.ensures.held ∙ i.held;

@@ -22,6 +22,7 @@ parts-init g c = record {
     ended = tt;
   };
   only = record { given = refl; count = refl; buffer = refl; held = refl; delayed = refl; unread = refl; at_end = refl };
+  shut = refl;
   closing = c.requires.active;
   unread = c.requires.unread;
   calm = calm_same _;
@@ -60,6 +61,7 @@ parts-preserved g c =
         unread = ap (λ (x : Streams). x.unread) queued ∙ only.unread ∙ was.only.unread;
         at_end = ap (λ (x : Streams). x.at_end) queued ∙ only.at_end ∙ was.only.at_end;
       };
+      shut = c.in-Ok-true.ensures.shut ∙ was.shut;
       closing = ap (λ (x : Streams). x.closing) queued ∙ active;
       unread = ap (λ (x : Streams). x.unread) queued ∙ read;
       calm = calm_then _ _ _ was.calm c.in-Ok-true.ensures.no_lull;

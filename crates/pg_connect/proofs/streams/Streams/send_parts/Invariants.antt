@@ -8,6 +8,7 @@ abbrev pub invariant-parts : goal.invariant-parts
 invariant-parts g l = record {
   goes : Goes g.E.Desk.becomes l.initial.hub l.hub l.initial.self l.self (g.L.Link.view l.initial.link) (g.L.Link.view l.link) [] Anything;
   only : OnlySends l.initial.self l.self (g.L.Link.view l.initial.link) (g.L.Link.view l.link);
+  shut : (g.L.Link.view l.link).shut ≡ (g.L.Link.view l.initial.link).shut;
   closing : l.self.closing ≡ false;
   unread : l.self.unread ≡ None;
   calm : StaysCalm (g.L.Link.view l.initial.link) (g.L.Link.view l.link);

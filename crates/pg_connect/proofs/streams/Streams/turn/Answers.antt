@@ -21,7 +21,7 @@ returns-in-Ok-Waits-clause-turns g c =
 pub returns-in-Err-clause-turns : goal.returns-in-Err-clause-turns
 returns-in-Err-clause-turns g c =
     turned_read _ _ _ c.args.self.now c.read_step.new.self (g.L.Link.view c.args.link.now) (g.L.Link.view c.read_step.new.link) c.in-Err.e c.if-self.false c.in-Err.ensures.only.closing
-    c.in-Err.ensures.goes
+    c.in-Err.ensures.goes c.in-Err.ensures.only.shut
 
 pub returns-in-Err-send-clause-turns : goal.returns-in-Err-send-clause-turns
 returns-in-Err-send-clause-turns g c =
