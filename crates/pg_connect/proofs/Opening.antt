@@ -1,5 +1,5 @@
 -- Where a startup stands behind each step of a poll.
-use Rattle.std.proofs.Common.{◌≡◌, ◌≢◌, ◌⊎◌, inl, inr, ℕ, ◌+◌, ◌<◌, ◌≤◌, true, false, List, [], ◌∷◌, ◌++◌, length, Ok, Err, append-nil, append_assoc, length-append, arith, sym, ◌∙◌, ap, subst}
+use Rattle.std.proofs.Common.{◌≡◌, ◌≢◌, ◌⊎◌, inl, inr, ℕ, ◌+◌, ◌<◌, ◌≤◌, true, false, List, [], ◌∷◌, ◌++◌, length, Ok, Err, append-nil, append_assoc, length-append, arith, drop, refl, sym, ◌∙◌, ap, subst}
 use Rattle.pg_spec.specs.Links.{LinkView, Grew}
 use Rattle.pg_spec.specs.RawMessages.{RawMessage, messages, bytes_left, has_bad_header}
 use Rattle.pg_spec.proofs.MessageLaws.{messages-append, bytes_left-append}
@@ -10,9 +10,19 @@ use Rattle.pg_faults.specs.declared.error.Error.{Error}
 use Rattle.pg_faults.specs.declared.error.Error.TheVariants as error
 use Rattle.pg_connect.specs.declared.startup.Startup.{Startup}
 use Rattle.pg_connect.specs.declared.startup.Heard.TheVariants as heard
-use Rattle.pg_connect.specs.Startups.{phase_of, Leads, MeetsMore, MeetsRefused, HeardAll, HearsAll, Came, IsWithinStart, Opening, Opened, Failed, FailsBy}
+use Rattle.pg_connect.specs.Startups.{phase_of, Leads, MeetsMore, MeetsRefused, HeardAll, HearsAll, Came, IsUndecided, IsWithinStart, LastPiece, Opening, Opened, Failed, FailsBy, StillWaited}
 use Rattle.pg_connect.specs.StartupPolls.{Sends, OfferEnds, Reads, PieceEnds}
+use Rattle.pg_connect.specs.declared.startup.Phase.{Phase}
 use Rattle.pg_connect.proofs.Joining.{keeps_then, grew_then, rose_later}
+use Rattle.pg_connect.proofs.Starting.{leads-none}
+use Rattle.pg_spec.specs.Startup.{First}
+
+-- where all that came was heard, the dialogue waits for more
+pub undecided-at : (name nonce : List ℕ) (begin a : LinkView) (s : Startup) (o : Opening name nonce begin a s) → messages s.buffer.items ≡ [] → IsUndecided name nonce o.got
+undecided-at name nonce begin a s o none = (
+  phase_of s.phase,
+  subst (λ (l : List RawMessage). Leads name nonce l (phase_of s.phase)) (sym (o.came.messages ∙ ap (λ (l : List RawMessage). o.read ++ l) none ∙ append-nil o.read)) o.leads,
+)
 
 -- some of the frame was taken
 pub opening-sends : (name nonce : List ℕ) (begin a b : LinkView) (s t : Startup) → Opening name nonce begin a s → Sends s t a b → Opening name nonce begin b t
@@ -23,6 +33,7 @@ opening-sends name nonce begin a b s t o sends = record {
   given = sends.given ∙ o.given;
   taken = grew_then begin.taken a.taken b.taken o.sent sends.sent o.taken sends.taken;
   came = subst (λ (x : Startup). Came o.read o.got x.buffer.items) (sym sends.same) o.came;
+  last = o.last;
   out = append_assoc o.sent sends.sent t.unsent ∙ ap (λ (l : List ℕ). o.sent ++ l) (sym sends.out) ∙ o.out ∙ sym (ap (λ (x : Startup). x.opening.items) sends.same);
   frame = o.frame ∙ ap (λ (l : List ℕ). Ok l) (sym (ap (λ (x : Startup). x.opening.items) sends.same));
   leads = subst (λ (x : Startup). Leads name nonce o.read (phase_of x.phase)) (sym sends.same) o.leads;
@@ -34,8 +45,9 @@ opening-sends name nonce begin a b s t o sends = record {
 }
 
 -- a piece came
-pub opening-reads : (name nonce : List ℕ) (begin a b : LinkView) (s t : Startup) → Opening name nonce begin a s → s.flushed ≡ true → Reads s t a b → Opening name nonce begin b t
-opening-reads name nonce begin a b s t o passed reads = record {
+pub opening-reads : (name nonce : List ℕ) (begin a b : LinkView) (s t : Startup) → Opening name nonce begin a s → messages s.buffer.items ≡ [] → s.flushed ≡ true → Reads s t a b →
+    Opening name nonce begin b t
+opening-reads name nonce begin a b s t o none passed reads = record {
   got = o.got ++ reads.got;
   sent = o.sent;
   read = o.read;
@@ -49,6 +61,7 @@ opening-reads name nonce begin a b s t o passed reads = record {
     left = bytes_left-append o.got reads.got ∙ ap (λ (l : List ℕ). bytes_left (l ++ reads.got)) o.came.left
         ∙ sym (bytes_left-append s.buffer.items reads.got) ∙ ap bytes_left (sym reads.buffer);
   };
+  last = record { front = o.got; piece = reads.got; all = refl; fits = omega (arith, reads.count, reads.piece); needed = undecided-at name nonce begin a s o none };
   out = ap (λ (x : Startup). o.sent ++ x.unsent) reads.same ∙ o.out ∙ sym (ap (λ (x : Startup). x.opening.items) reads.same);
   frame = o.frame ∙ ap (λ (l : List ℕ). Ok l) (sym (ap (λ (x : Startup). x.opening.items) reads.same));
   leads = subst (λ (x : Startup). Leads name nonce o.read (phase_of x.phase)) (sym reads.same) o.leads;
@@ -72,6 +85,7 @@ opening-heard name nonce begin a s t o same h = record {
     messages = o.came.messages ∙ sym (append-nil (o.read ++ messages s.buffer.items)) ∙ ap (λ (l : List RawMessage). (o.read ++ messages s.buffer.items) ++ l) (sym h.none);
     left = o.came.left ∙ sym h.left;
   };
+  last = o.last;
   out = ap (λ (x : Startup). o.sent ++ x.unsent) same ∙ o.out ∙ sym (ap (λ (x : Startup). x.opening.items) same);
   frame = o.frame ∙ ap (λ (l : List ℕ). Ok l) (sym (ap (λ (x : Startup). x.opening.items) same));
   leads = h.leads;
@@ -99,6 +113,7 @@ opening-done name nonce begin a s t o same sent passed within h =
         messages = o.came.messages ∙ ap (λ (l : List RawMessage). o.read ++ l) h.1.1 ∙ sym (append_assoc o.read h.1.0 (messages t.buffer.items));
         left = o.came.left ∙ sym h.0;
       };
+      last = o.last;
       frame = o.frame ∙ ap (λ (l : List ℕ). Ok l) (sym (ap (λ (x : Startup). x.opening.items) same));
       flushed = (o.flushed passed).1;
       shut = o.shut;
@@ -110,8 +125,8 @@ opening-done name nonce begin a s t o same sent passed within h =
 
 -- it failed there
 pub opening-failed : (name nonce : List ℕ) (begin a : LinkView) (s t : Startup) (e : Error) → (o : Opening name nonce begin a s) →
-    t.opening.items ≡ s.opening.items → FailsBy name nonce begin a o.got t e → IsWithinStart e (length o.got) t.max_bytes → Failed name nonce begin a t e
-opening-failed name nonce begin a s t e o same fails within = record {
+    t.opening.items ≡ s.opening.items → FailsBy name nonce begin a o.got t e → IsWithinStart e (length o.got) t.max_bytes → StillWaited name nonce o.got e → Failed name nonce begin a t e
+opening-failed name nonce begin a s t e o same fails within waited = record {
   got = o.got;
   sent = o.sent;
   given = o.given;
@@ -127,6 +142,8 @@ opening-failed name nonce begin a s t e o same fails within = record {
   frame = o.frame ∙ ap (λ (l : List ℕ). Ok l) (sym same);
   link = o.link;
   fails = fails;
+  last = o.last;
+  waited = waited;
   within = within;
 }
 
@@ -171,7 +188,7 @@ not_none (x ∷ xs) some = λ e. absurd cc
 -- no piece could be read
 pub piece-fails : (name nonce : List ℕ) (begin a b : LinkView) (s t : Startup) (e : Error) → (o : Opening name nonce begin b t) → Keeps begin a →
     bytes_left s.buffer.items ≡ s.buffer.items → has_bad_header s.buffer.items ≡ false → PieceEnds s t a b (Err e) → FailsBy name nonce begin b o.got t e
-piece-fails name nonce begin a b s t (error.Io cause.Link) o keeps whole header was = rose_later begin.faults a.faults b.faults keeps.counts.faults was
+piece-fails name nonce begin a b s t (error.Io cause.Link) o keeps whole header was = rose_later begin.faults a.faults b.faults keeps.counts.faults was.0
 piece-fails name nonce begin a b s t error.Closed o keeps whole header was =
     (rose_later begin.ends a.ends b.ends keeps.counts.ends was.0, o.came.left ∙ ap bytes_left was.1)
 piece-fails name nonce begin a b s t (error.Io cause.Ended) o keeps whole header was =
@@ -193,6 +210,7 @@ opening-again name nonce begin a s o = record {
   given = o.given;
   taken = o.taken;
   came = o.came;
+  last = o.last;
   out = o.out;
   frame = o.frame;
   leads = o.leads;
@@ -202,3 +220,60 @@ opening-again name nonce begin a s o = record {
   count = o.count;
   link = o.link;
 }
+
+-- ---- while it waited for more
+
+-- a message that ended it isn't the link's
+pub heard-waited : (name nonce got : List ℕ) (read : List RawMessage) (old new : List ℕ) (at : Phase) (e : Error) → HearsAll name nonce read old new at (Err e) → StillWaited name nonce got e
+heard-waited name nonce got read old new at (error.Io cause.Link) h = absurd h.1
+heard-waited name nonce got read old new at (error.Io cause.Ended) h = absurd h.1
+heard-waited name nonce got read old new at error.Closed h = absurd h.1
+heard-waited name nonce got read old new at _ h = tt
+
+at_first : (name nonce got : List ℕ) (e : Error) → got ≡ [] → StillWaited name nonce got e
+at_first name nonce got (error.Io cause.Link) none = subst (λ (l : List ℕ). IsUndecided name nonce l) (sym none) (First, leads-none name nonce)
+at_first name nonce got (error.Io cause.Ended) none = subst (λ (l : List ℕ). IsUndecided name nonce l) (sym none) (First, leads-none name nonce)
+at_first name nonce got error.Closed none = subst (λ (l : List ℕ). IsUndecided name nonce l) (sym none) (First, leads-none name nonce)
+at_first name nonce got _ none = tt
+
+sends-got : (name nonce : List ℕ) (begin a b : LinkView) (s t : Startup) (o : Opening name nonce begin a s) (sends : Sends (record s { moved = false }) t a b) →
+    (opening-sends name nonce begin a b (record s { moved = false }) t (opening-again name nonce begin a s o) sends).got ≡ o.got
+unfolding opening-sends opening-again
+sends-got name nonce begin a b s t o sends = refl
+
+-- nothing was read where the frame had yet to be sent
+pub sends-waited : (name nonce : List ℕ) (begin a b : LinkView) (s t : Startup) (e : Error) (o : Opening name nonce begin a s) (sends : Sends (record s { moved = false }) t a b) →
+    (s.flushed ≡ true → s.unsent ≡ [] → ⊥) → StillWaited name nonce (opening-sends name nonce begin a b (record s { moved = false }) t (opening-again name nonce begin a s o) sends).got e
+sends-waited name nonce begin a b s t e o sends never =
+    subst (λ (l : List ℕ). StillWaited name nonce l e) (sym (sends-got name nonce begin a b s t o sends))
+    (elim o.behind [ inl none ↦ at_first name nonce o.got e none | inr is ↦ absurd (never is (o.flushed is).0) ])
+
+none_more : (x g : List ℕ) → x ++ g ≡ x → g ≡ []
+none_more [] g same = same
+none_more (b ∷ x) g same = none_more x g (ap (drop 1) same)
+
+none_there : (x g : List ℕ) → x ++ g ≡ [] → g ≡ []
+none_there [] g none = none
+none_there (b ∷ x) g none = absurd cc
+
+reads-got : (name nonce : List ℕ) (begin a b : LinkView) (s t : Startup) (o : Opening name nonce begin a s) (none : messages s.buffer.items ≡ []) (passed : s.flushed ≡ true) (reads : Reads s t a b) →
+    (opening-reads name nonce begin a b s t o none passed reads).got ≡ o.got ++ reads.got
+unfolding opening-reads
+reads-got name nonce begin a b s t o none passed reads = refl
+
+-- a read that failed, or gave the end, came while it waited for more
+pub reads-waited : (name nonce : List ℕ) (begin a b : LinkView) (s t : Startup) (e : Error) (o : Opening name nonce begin a s) (none : messages s.buffer.items ≡ []) (passed : s.flushed ≡ true) (reads : Reads s t a b) →
+    PieceEnds s t a b (Err e) → StillWaited name nonce (opening-reads name nonce begin a b s t o none passed reads).got e
+reads-waited name nonce begin a b s t e o none passed reads was = by e was
+  where
+    still : reads.got ≡ [] → IsUndecided name nonce (opening-reads name nonce begin a b s t o none passed reads).got
+    still nothing =
+        subst (λ (l : List ℕ). IsUndecided name nonce l)
+        (sym (reads-got name nonce begin a b s t o none passed reads ∙ ap (λ (l : List ℕ). o.got ++ l) nothing ∙ append-nil o.got))
+        (undecided-at name nonce begin a s o none)
+
+    by : (e : Error) → PieceEnds s t a b (Err e) → StillWaited name nonce (opening-reads name nonce begin a b s t o none passed reads).got e
+    by (error.Io cause.Link) is = still (none_more s.buffer.items reads.got (sym reads.buffer ∙ is.1))
+    by (error.Io cause.Ended) is = still (none_more s.buffer.items reads.got (sym reads.buffer ∙ is.2))
+    by error.Closed is = still (none_there s.buffer.items reads.got (sym reads.buffer ∙ is.1))
+    by _ is = tt

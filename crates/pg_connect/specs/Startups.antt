@@ -160,6 +160,25 @@ pub record Came (read : List RawMessage) (got buffer : List ℕ) : Type 0 where
 abbrev pub IsFlushed : Startup → LinkView → Type 0
 IsFlushed s link = s.flushed ≡ true → (s.unsent ≡ []) × IsTrue link.flushed
 
+-- behind the messages of these bytes the dialogue waits for more
+abbrev pub IsUndecided : (name nonce bytes : List ℕ) → Type 0
+IsUndecided name nonce bytes = (at : startups.Phase) × Leads name nonce (messages bytes) at
+
+-- The last piece was read only while the dialogue waited for more.
+pub record LastPiece (name nonce got : List ℕ) : Type 0 where
+  pub front : List ℕ
+  pub piece : List ℕ
+  pub all : got ≡ front ++ piece
+  pub fits : length piece ≤ piece_size
+  pub needed : IsUndecided name nonce front
+
+-- where the link failed or gave its end, the dialogue waited for more
+abbrev pub StillWaited : (name nonce got : List ℕ) → Error → Type 0
+StillWaited name nonce got (error.Io cause.Link) = IsUndecided name nonce got
+StillWaited name nonce got (error.Io cause.Ended) = IsUndecided name nonce got
+StillWaited name nonce got error.Closed = IsUndecided name nonce got
+StillWaited name nonce got _ = Unit {0}
+
 -- What the link gave and took since the startup began, and where the startup stands. Nothing was read before
 -- the frame was flushed, and the link wasn't shut down.
 pub record Opening (name nonce : List ℕ) (begin now : LinkView) (s : Startup) : Type 0 where
@@ -169,6 +188,7 @@ pub record Opening (name nonce : List ℕ) (begin now : LinkView) (s : Startup) 
   pub given : Grew begin.given now.given got
   pub taken : Grew begin.taken now.taken sent
   pub came : Came read got s.buffer.items
+  pub last : LastPiece name nonce got
   pub out : sent ++ s.unsent ≡ s.opening.items
   pub frame : frame_of name ≡ Ok s.opening.items
   pub leads : Leads name nonce read (phase_of s.phase)
@@ -186,6 +206,7 @@ pub record Opened (name nonce : List ℕ) (begin now : LinkView) (s : Startup) :
   pub given : Grew begin.given now.given got
   pub taken : Grew begin.taken now.taken s.opening.items
   pub came : Came read got s.buffer.items
+  pub last : LastPiece name nonce got
   pub frame : frame_of name ≡ Ok s.opening.items
   pub flushed : IsTrue now.flushed
   pub shut : now.shut ≡ begin.shut
@@ -224,4 +245,6 @@ pub record Failed (name nonce : List ℕ) (begin now : LinkView) (s : Startup) (
   pub frame : frame_of name ≡ Ok s.opening.items
   pub link : Keeps begin now
   pub fails : FailsBy name nonce begin now got s e
+  pub last : LastPiece name nonce got
+  pub waited : StillWaited name nonce got e
   pub within : IsWithinStart e (length got) s.max_bytes

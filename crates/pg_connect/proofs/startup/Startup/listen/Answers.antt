@@ -8,7 +8,7 @@ use Rattle.pg_connect.specs.declared.startup.Startup.{Startup}
 use Rattle.pg_connect.specs.declared.startup.Phase.{Phase}
 use Rattle.pg_connect.proofs.Calm.{calm_then}
 use Rattle.pg_connect.proofs.Joining.{keeps_then, promised_still, rose_later, untouched_then}
-use Rattle.pg_connect.proofs.Opening.{opening-reads, opening-heard, opening-done, opening-failed, heard-fails, piece-fails}
+use Rattle.pg_connect.proofs.Opening.{opening-reads, opening-heard, opening-done, opening-failed, heard-fails, heard-waited, piece-fails, reads-waited}
 use Rattle.pg_connect.proofs.Within.{start-within}
 use Rattle.pg_connect.proofs.startup.Startup.listen.Goals as goal
 
@@ -27,6 +27,7 @@ returns-in-Err-clause-answer g c name nonce begin at =
     opening-failed name nonce begin v c.pieces.self t c.in-Err.error o (ap (λ s. s.opening.items) c.in-Err.ensures.same)
     (heard-fails name nonce begin v c.pieces.self t c.in-Err.error o (c.in-Err.ensures.heard name nonce o.read o.leads))
     (start-within c.in-Err.error (length o.got) t.max_bytes (omega (arith, o.count, ap (λ s. s.max_bytes) c.in-Err.ensures.same, c.pieces.invariant.within)))
+    (heard-waited name nonce o.got o.read c.pieces.self.buffer.items t.buffer.items t.phase c.in-Err.error (c.in-Err.ensures.heard name nonce o.read o.leads))
 
 pub pieces-preserved : goal.pieces-preserved
 pieces-preserved g c = record {
@@ -49,7 +50,7 @@ pieces-preserved g c = record {
       let v = g.L.Link.view c.pieces.link in
       let h = rw c.in-Ok-More.field-0-is at (c.in-Ok-More.ensures.heard name nonce o.read o.leads) in
       opening-reads name nonce begin v _ t c.read_piece.new.self
-      (opening-heard name nonce begin v c.pieces.self t o c.hear_all.ensures.same h)
+      (opening-heard name nonce begin v c.pieces.self t o c.hear_all.ensures.same h) h.none
       (ap (λ (x : Startup). x.flushed) c.hear_all.ensures.same ∙ ap (λ (x : Startup). x.flushed) c.pieces.invariant.same ∙ c.requires.flushed) c.in-Ok-true.ensures.reads;
   calm = calm_then _ _ _ c.pieces.invariant.calm c.in-Ok-true.ensures.no_lull;
   quiet = c.in-Ok-true.ensures.ready (ap (λ (b : Bool). Ok b) c.in-Ok-true.field-0-test) ∙ c.pieces.invariant.quiet;
@@ -62,7 +63,7 @@ returns-in-Ok-false-clause-answer g c name nonce begin at =
     let v = g.L.Link.view c.pieces.link in
     let h = rw c.in-Ok-More.field-0-is at (c.in-Ok-More.ensures.heard name nonce o.read o.leads) in
     opening-reads name nonce begin v _ t c.read_piece.new.self
-    (opening-heard name nonce begin v c.pieces.self t o c.hear_all.ensures.same h)
+    (opening-heard name nonce begin v c.pieces.self t o c.hear_all.ensures.same h) h.none
     (ap (λ (x : Startup). x.flushed) c.hear_all.ensures.same ∙ ap (λ (x : Startup). x.flushed) c.pieces.invariant.same ∙ c.requires.flushed) c.in-Ok-false.ensures.reads
 
 pub returns-in-Err-read_piece-clause-answer : goal.returns-in-Err-read_piece-clause-answer
@@ -73,11 +74,13 @@ returns-in-Err-read_piece-clause-answer g c name nonce begin at =
     let v = g.L.Link.view c.pieces.link in
     let w = g.L.Link.view c.read_piece.new.link in
     let h = rw c.in-Ok-More.field-0-is at (c.in-Ok-More.ensures.heard name nonce o.read o.leads) in
-    let r = opening-reads name nonce begin v w t u (opening-heard name nonce begin v c.pieces.self t o c.hear_all.ensures.same h)
-    (ap (λ (x : Startup). x.flushed) c.hear_all.ensures.same ∙ ap (λ (x : Startup). x.flushed) c.pieces.invariant.same ∙ c.requires.flushed) c.in-Err-read_piece.ensures.reads in
+    let heard = opening-heard name nonce begin v c.pieces.self t o c.hear_all.ensures.same h in
+    let passed = ap (λ (x : Startup). x.flushed) c.hear_all.ensures.same ∙ ap (λ (x : Startup). x.flushed) c.pieces.invariant.same ∙ c.requires.flushed in
+    let r = opening-reads name nonce begin v w t u heard h.none passed c.in-Err-read_piece.ensures.reads in
     opening-failed name nonce begin w u u c.in-Err-read_piece.error r refl
     (piece-fails name nonce begin v w t u c.in-Err-read_piece.error r o.link h.whole h.header c.in-Err-read_piece.ensures.end)
     (subst (λ (n : ℕ). IsWithinStart c.in-Err-read_piece.error n u.max_bytes) r.count c.in-Err-read_piece.ensures.within)
+    (reads-waited name nonce begin v w t u c.in-Err-read_piece.error heard h.none passed c.in-Err-read_piece.ensures.reads c.in-Err-read_piece.ensures.end)
 
 pub returns-in-Ok-false-clause-moved : goal.returns-in-Ok-false-clause-moved
 returns-in-Ok-false-clause-moved g c none =

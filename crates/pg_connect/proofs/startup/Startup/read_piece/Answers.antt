@@ -13,6 +13,7 @@ returns-then-is_err-clause-reads g c =
       shut = refl;
       buffer = c.reserve.ensures.items ∙ sym (append-nil c.args.self.now.buffer.items);
       count = omega arith;
+      piece = omega arith;
       same = refl;
       link = keeps_same link;
       still = λ unmoved. (unmoved, untouched_same link);
