@@ -74,13 +74,13 @@ returns-in-Err-read_piece-clause-answer g c name nonce begin at =
     let v = g.L.Link.view c.pieces.link in
     let w = g.L.Link.view c.read_piece.new.link in
     let h = rw c.in-Ok-More.field-0-is at (c.in-Ok-More.ensures.heard name nonce o.read o.leads) in
-    let heard = opening-heard name nonce begin v c.pieces.self t o c.hear_all.ensures.same h in
+    let all = opening-heard name nonce begin v c.pieces.self t o c.hear_all.ensures.same h in
     let passed = ap (λ (x : Startup). x.flushed) c.hear_all.ensures.same ∙ ap (λ (x : Startup). x.flushed) c.pieces.invariant.same ∙ c.requires.flushed in
-    let r = opening-reads name nonce begin v w t u heard h.none passed c.in-Err-read_piece.ensures.reads in
+    let r = opening-reads name nonce begin v w t u all h.none passed c.in-Err-read_piece.ensures.reads in
     opening-failed name nonce begin w u u c.in-Err-read_piece.error r refl
     (piece-fails name nonce begin v w t u c.in-Err-read_piece.error r o.link h.whole h.header c.in-Err-read_piece.ensures.end)
     (subst (λ (n : ℕ). IsWithinStart c.in-Err-read_piece.error n u.max_bytes) r.count c.in-Err-read_piece.ensures.within)
-    (reads-waited name nonce begin v w t u c.in-Err-read_piece.error heard h.none passed c.in-Err-read_piece.ensures.reads c.in-Err-read_piece.ensures.end)
+    (reads-waited name nonce begin v w t u c.in-Err-read_piece.error all h.none passed c.in-Err-read_piece.ensures.reads c.in-Err-read_piece.ensures.end)
 
 pub returns-in-Ok-false-clause-moved : goal.returns-in-Ok-false-clause-moved
 returns-in-Ok-false-clause-moved g c none =
