@@ -16,7 +16,7 @@ sends-none s a b same flushed shut keeps = record {
   out = refl;
   same = refl;
   link = keeps;
-  flushed = λ was is. let before = was is in (before.0, flushed ∙ before.1);
+  flushed = λ was is. let before = was is in (before.0, λ open_. flushed ∙ before.1 (sym shut ∙ open_));
   shut = shut;
   flag = λ is. is;
   still = λ none. (none, same);

@@ -65,7 +65,7 @@ opening-reads name nonce begin a b s t o none passed reads = record {
   out = ap (λ (x : Startup). o.sent ++ x.unsent) reads.same ∙ o.out ∙ sym (ap (λ (x : Startup). x.opening.items) reads.same);
   frame = o.frame ∙ ap (λ (l : List ℕ). Ok l) (sym (ap (λ (x : Startup). x.opening.items) reads.same));
   leads = subst (λ (x : Startup). Leads name nonce o.read (phase_of x.phase)) (sym reads.same) o.leads;
-  flushed = λ is. (ap (λ (x : Startup). x.unsent) reads.same ∙ (o.flushed passed).0, reads.flushed ∙ (o.flushed passed).1);
+  flushed = λ is. (ap (λ (x : Startup). x.unsent) reads.same ∙ (o.flushed passed).0, λ open_. reads.flushed ∙ (o.flushed passed).1 (sym reads.shut ∙ open_));
   behind = inr (ap (λ (x : Startup). x.flushed) reads.same ∙ passed);
   shut = reads.shut ∙ o.shut;
   count = reads.count ∙ ap (λ (n : ℕ). n + length reads.got) o.count ∙ sym (length-append o.got reads.got);
@@ -115,7 +115,7 @@ opening-done name nonce begin a s t o same sent passed within h =
       };
       last = o.last;
       frame = o.frame ∙ ap (λ (l : List ℕ). Ok l) (sym (ap (λ (x : Startup). x.opening.items) same));
-      flushed = (o.flushed passed).1;
+      flushed = λ open_. (o.flushed passed).1 (o.shut ∙ open_);
       shut = o.shut;
       done = h.1.2;
       count = ap (λ (x : Startup). x.given) same ∙ o.count;
@@ -136,7 +136,7 @@ opening-failed name nonce begin a s t e o same fails within waited = record {
     | inl none ↦ inl none
     | inr is ↦
         let was = o.flushed is in
-        inr (sym (append-nil o.sent) ∙ ap (λ (l : List ℕ). o.sent ++ l) (sym was.0) ∙ o.out ∙ sym same, was.1)
+        inr (sym (append-nil o.sent) ∙ ap (λ (l : List ℕ). o.sent ++ l) (sym was.0) ∙ o.out ∙ sym same, λ open_. was.1 (o.shut ∙ open_))
   ];
   shut = o.shut;
   frame = o.frame ∙ ap (λ (l : List ℕ). Ok l) (sym same);

@@ -22,7 +22,7 @@ use Rattle.pg_connect.specs.declared.ends.WriteEnd.TheVariants as writes
 use Rattle.pg_connect.specs.declared.streams.Held.{Held}
 use Rattle.pg_connect.specs.declared.streams.Streams.{Streams}
 use Rattle.pg_connect.specs.Passes.{Passes, Goes, Hands, OnlyReads, OnlySends, Untouched, waiting}
-use Rattle.pg_connect.specs.Ends.{WasBlocked, last_is, some_is, has_no_more, Closes, Written, WriteEnds}
+use Rattle.pg_connect.specs.Ends.{IsFlushedFrom, WasBlocked, last_is, some_is, has_no_more, Closes, Written, WriteEnds}
 use Rattle.pg_connect.specs.Reads.{EndsAt, Paced, ReadsOn, ReadStops, StopsAt, ReadEnds, LastGivesBack, NothingDue, WasDry, AllDecoded, IsCleared, EndsInside, Carries, HandedBy, is_full}
 use Rattle.pg_connect.specs.Polls.{Shuts, SomeGivesBack, TurnStops, is_last_turn, is_over_sent, is_shut_down, ClosesThen, FlushEnds, SendEnds, SendWaits, Sends, StopsWriting, TurnEnds, TurnFails, ClosesBy, Turns, HandedTurn, Waits, ReadDry, BeganToClose, NothingDueBefore}
 use Rattle.pg_connect.proofs.Clearing.{still_cleared}
@@ -62,17 +62,17 @@ flush_blocked t l m n closing f es is ends keeps still =
 not_both : (b : Bool) → b ≡ true → b ≡ false → ⊥
 not_both b one other = let e : true ≡ false = sym one ∙ other in cc
 
-pub flush_done : (t : Streams) (l m n : LinkView) (f : FlushEnd) (es : List Event) → f ≡ flushing.Flushed → FlushEnds t.closing m n (Ok f) →
+pub flush_done : (t : Streams) (l m n : LinkView) (f : FlushEnd) (es : List Event) → f ≡ flushing.Flushed → FlushEnds t.closing m n (Ok f) → m.shut ≡ l.shut →
     WriteEnds t l m (Ok writes.AllTaken) es → SendEnds t l n (Ok sending.Waits) es
-flush_done t l m n f es is ends was =
-    let done : (t.closing ≡ false) × IsTrue n.flushed = subst (λ (x : FlushEnd). FlushEnds t.closing m n (Ok x)) is ends in
-    record { writing = inr (was.0, was.1 done.0, done.1); closing = λ x. absurd (not_both t.closing x done.0) }
+flush_done t l m n f es is ends same was =
+    let done : (t.closing ≡ false) × IsFlushedFrom m n = subst (λ (x : FlushEnd). FlushEnds t.closing m n (Ok x)) is ends in
+    record { writing = inr (was.0, was.1 done.0, λ open_. done.1 (same ∙ open_)); closing = λ x. absurd (not_both t.closing x done.0) }
 
-pub flush_over : (t : Streams) (l m n : LinkView) (f : FlushEnd) (es : List Event) → f ≡ flushing.ShutDown → FlushEnds t.closing m n (Ok f) →
+pub flush_over : (t : Streams) (l m n : LinkView) (f : FlushEnd) (es : List Event) → f ≡ flushing.ShutDown → FlushEnds t.closing m n (Ok f) → m.shut ≡ l.shut →
     WriteEnds t l m (Ok writes.AllTaken) es → SendEnds t l n (Ok sending.Over) es
-flush_over t l m n f es is ends was =
-    let done : (t.closing ≡ true) × IsTrue n.flushed = subst (λ (x : FlushEnd). FlushEnds t.closing m n (Ok x)) is ends in
-    (done.0, was.0, done.1)
+flush_over t l m n f es is ends same was =
+    let done : (t.closing ≡ true) × IsFlushedFrom m n = subst (λ (x : FlushEnd). FlushEnds t.closing m n (Ok x)) is ends in
+    (done.0, was.0, λ open_. done.1 (same ∙ open_))
 
 -- what a flush step says of the shutdown, at the arm's own value, and what the whole sending says then
 pub flush_shuts : (l m n : LinkView) (x y : FlushEnd) (r : Result SendEnd ConnectionFault) → y ≡ x → m.shut ≡ l.shut → is_shut_down (Ok x) ≡ is_over_sent r → Shuts (is_shut_down (Ok y)) m n → Shuts (is_over_sent r) l n
@@ -119,11 +119,11 @@ due_before l m n taken given plan is =
     (subst (λ (g : Option (List ℕ)). due n.plan g m.taken) (sym given)
     (subst (λ (p : Option Plan). due p m.given m.taken) (sym plan) is))
 
-written_later : (t : Streams) (l m n : LinkView) (es fs : List Event) → Keeps l m → (t.moved ≡ false → Untouched l m) → StopsWriting t m n fs →
+written_later : (t : Streams) (l m n : LinkView) (es fs : List Event) → Keeps l m → m.shut ≡ l.shut → (t.moved ≡ false → Untouched l m) → StopsWriting t m n fs →
     StopsWriting t l n (es ++ fs)
-written_later t l m n es fs keeps still was = elim was [
+written_later t l m n es fs keeps same still was = elim was [
   | inl blocked ↦ inl (blocked_later t.moved l m n keeps still blocked)
-  | inr none ↦ inr (none.0, last_behind _ es fs none.1, none.2)
+  | inr none ↦ inr (none.0, last_behind _ es fs none.1, λ open_. none.2 (same ∙ open_))
 ]
 
 -- what the read step says of the link, at the end of the turn
@@ -277,7 +277,7 @@ turned_handed becomes joins h i k a b c l m n message active reads sends first m
     (λ es fs e f. record {
       active = active;
       stays = stays_open a b c fs active reads.closing f.closes;
-      writing = written_later c l m n es fs first.hands.goes.passes.link (untouched_first a b c l m n _ _ _ _ first.hands.goes.passes more.passes) f.end.writing;
+      writing = written_later c l m n es fs first.hands.goes.passes.link reads.shut (untouched_first a b c l m n _ _ _ _ first.hands.goes.passes more.passes) f.end.writing;
     }) (λ got was. handed_stops a b c message got sends.buffer sends.held was) (more.ended.shut ∙ reads.shut)
 
 pub turned_full : {H : Type 0} (becomes : H → List Event → H → Type 0) → Joins becomes → (h i k : H) (a b c : Streams) (l m n : LinkView) →
@@ -288,7 +288,7 @@ turned_full becomes joins h i k a b c l m n active reads sends first more =
     (λ es fs e f. record {
       reading = inr (inl (some_of_last is_full es fs e.0.0, subst (λ (x : Option Held). SomeGivesBack (waiting x) (es ++ fs)) (sym sends.held) (back_of_last (waiting b.held) es fs e.0.1)));
       no_delayed = λ x. sends.delayed ∙ e.1;
-      writing = written_later c l m n es fs first.hands.goes.passes.link (untouched_first a b c l m n _ _ _ _ first.hands.goes.passes more.passes) f.end.writing;
+      writing = written_later c l m n es fs first.hands.goes.passes.link reads.shut (untouched_first a b c l m n _ _ _ _ first.hands.goes.passes more.passes) f.end.writing;
       closing = λ x. absurd (not_both c.closing x (stays_open a b c fs active reads.closing f.closes));
       began = λ x. absurd (not_both c.closing x (stays_open a b c fs active reads.closing f.closes));
       must = λ allowed none. absurd (not_full (some_is is_full (es ++ fs)) (some_of_last is_full es fs e.0.0) allowed);
@@ -305,7 +305,7 @@ turned_dry becomes joins h i k a b c l m n active reads sends first more =
     record {
       reading = inr (inr dry);
       no_delayed = λ x. dry.cleared.delayed;
-      writing = written_later c l m n es fs first.hands.goes.passes.link (untouched_first a b c l m n _ _ _ _ first.hands.goes.passes more.passes) f.end.writing;
+      writing = written_later c l m n es fs first.hands.goes.passes.link reads.shut (untouched_first a b c l m n _ _ _ _ first.hands.goes.passes more.passes) f.end.writing;
       closing = λ x. blocked_later c.moved l m n first.hands.goes.passes.link (untouched_first a b c l m n _ _ _ _ first.hands.goes.passes more.passes) (f.end.closing x);
       began = closes_dry a b c l n es fs reads.closing dry f.closes;
       must = λ allowed none. must_close c l m n es fs first.hands.goes.passes.link (untouched_first a b c l m n _ _ _ _ first.hands.goes.passes more.passes) f.end.writing f.must none;
@@ -320,7 +320,7 @@ turned_over becomes joins h i k a b c l m n active reads sends first more =
     (λ es fs e f. record {
       closing = f.end.0;
       sent = f.end.1;
-      flushed = f.end.2;
+      flushed = λ open_. f.end.2 (reads.shut ∙ open_);
       shut = f.shut;
       began = closes_dry a b c l n es fs reads.closing (dry_turn a b c l m n more.events more.passes reads sends e) f.closes;
       still = λ x. absurd (not_both a.closing x active);

@@ -12,7 +12,7 @@ use Rattle.pg_wire.specs.declared.message.Message.{Message}
 use Rattle.pg_desk.specs.declared.event.Event.{Event}
 use Rattle.pg_connect.specs.declared.streams.Streams.{Streams}
 use Rattle.pg_connect.specs.Answers.{fresh, left_open}
-use Rattle.pg_connect.specs.Ends.{last_is, some_is, has_none}
+use Rattle.pg_connect.specs.Ends.{IsFlushedFrom, last_is, some_is, has_none}
 use Rattle.pg_connect.specs.Kept.{keep, keep_all}
 use Rattle.pg_connect.specs.Passed.{delivered_by, bytes_out_by}
 use Rattle.pg_connect.specs.Passes.{Passes, waiting, delayed_in, IsUnread, goodbye, risen}
@@ -80,7 +80,7 @@ is_open false never = refl
 
 pub settled : (s t : Streams) (l m : LinkView) (es : List Event) → Waits s t l m es → IsTrue l.steady → s.closing ≡ false → some_is is_full es ≡ false → Settled t l m es
 settled s t l m es waits steady active not_full =
-    let writes : (t.unsent ≡ []) × (last_is has_none es ≡ true) × IsTrue m.flushed =
+    let writes : (t.unsent ≡ []) × (last_is has_none es ≡ true) × IsFlushedFrom l m =
     elim waits.writing [ inl blocked ↦ absurd (blocked.not_steady steady) | inr done ↦ done ] in
     let reads : ReadDry t l m =
     elim waits.reading [

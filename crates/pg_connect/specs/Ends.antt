@@ -1,5 +1,5 @@
 -- How a write step may end, and why.
-use Rattle.std.specs.Prelude.{◌≡◌, ◌⊎◌, ◌||◌, Bool, true, false, IsTrue, List, [], ◌∷◌, Result, Ok, Err}
+use Rattle.std.specs.Prelude.{◌≡◌, ◌⊎◌, ◌||◌, Bool, true, false, IsTrue, IsFalse, List, [], ◌∷◌, Result, Ok, Err}
 use Rattle.pg_spec.specs.Links.{LinkView, Rose}
 use Rattle.pg_desk.specs.declared.event.Event.{Event}
 use Rattle.pg_desk.specs.declared.event.Event.TheVariants.{NextOut}
@@ -20,6 +20,10 @@ pub record WasBlocked (moved : Bool) (before after : LinkView) : Type 0 where
   pub quiet : Rose before.quiet after.quiet
   pub not_steady : IsTrue before.steady → ⊥
   pub lulls : moved ≡ false → IsTrue before.promised → Rose before.lulls after.lulls
+
+-- a link that wasn't shut down before is flushed now
+abbrev pub IsFlushedFrom : (before after : LinkView) → Type 0
+IsFlushedFrom before after = IsFalse before.shut → IsTrue after.flushed
 
 -- the last of the events passes the test
 abbrev pub last_is : (Event → Bool) → List Event → Bool

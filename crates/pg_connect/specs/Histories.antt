@@ -9,7 +9,7 @@ use Rattle.pg_spec.specs.RawMessages.{RawMessage, messages, bytes_left, sync_of,
 use Rattle.pg_wire.specs.LinkCalls.{Keeps}
 use Rattle.pg_desk.specs.declared.event.Event.{Event}
 use Rattle.pg_connect.specs.declared.streams.Streams.{Streams}
-use Rattle.pg_connect.specs.Ends.{last_is, has_none}
+use Rattle.pg_connect.specs.Ends.{IsFlushedFrom, last_is, has_none}
 use Rattle.pg_connect.specs.Kept.{keep_all}
 use Rattle.pg_connect.specs.Passed.{delivered_by, bytes_out_by}
 use Rattle.pg_connect.specs.Passes.{held_bytes, waiting, delayed_in, IsUnread, goodbye, risen}
@@ -60,6 +60,6 @@ pub record Settled (s : Streams) (before after : LinkView) (events : List Event)
   pub active : s.closing ≡ false
   pub sent : s.unsent ≡ []
   pub none_left : last_is has_none events ≡ true
-  pub flushed : IsTrue after.flushed
+  pub flushed : IsFlushedFrom before after
   pub decoded : AllDecoded s
   pub nothing_due : NothingDueBefore before after

@@ -12,7 +12,7 @@ use Rattle.pg_connect.specs.declared.ends.SendEnd.TheVariants as send
 use Rattle.pg_connect.specs.declared.ends.TurnEnd.{TurnEnd}
 use Rattle.pg_connect.specs.declared.ends.TurnEnd.TheVariants as turn
 use Rattle.pg_connect.specs.declared.streams.Streams.{Streams}
-use Rattle.pg_connect.specs.Ends.{WasBlocked, last_is, some_is, has_none, has_no_more, is_closed_out, Closes}
+use Rattle.pg_connect.specs.Ends.{IsFlushedFrom, WasBlocked, last_is, some_is, has_none, has_no_more, is_closed_out, Closes}
 use Rattle.pg_connect.specs.Passes.{waiting, delayed_in, Goes, OnlySends}
 use Rattle.pg_connect.specs.Reads.{AllDecoded, BreaksHeader, BreaksLayout, Carries, EndsInside, GivesBack, IsCleared, IsOnePastLimit, IsUnasked, LastGivesBack, LeavesDelayed, LeavesUnread, Paced, StopsAt, is_full, has_no_request}
 
@@ -39,14 +39,14 @@ is_last_turn _ = false
 -- how a flush step ended, where nothing is unsent; `closing`: Terminate is queued
 abbrev pub FlushEnds : Bool → LinkView → LinkView → Result FlushEnd ConnectionFault → Type 0
 FlushEnds closing before after (Ok flush.Blocked) = WasBlocked false before after
-FlushEnds closing before after (Ok flush.Flushed) = (closing ≡ false) × IsTrue after.flushed
-FlushEnds closing before after (Ok flush.ShutDown) = (closing ≡ true) × IsTrue after.flushed
+FlushEnds closing before after (Ok flush.Flushed) = (closing ≡ false) × IsFlushedFrom before after
+FlushEnds closing before after (Ok flush.ShutDown) = (closing ≡ true) × IsFlushedFrom before after
 FlushEnds closing before after (Err fault.Link) = Rose before.faults after.faults
 FlushEnds closing before after (Err _) = ⊥
 
 -- Why no more was written: the link wasn't ready, or it took all that went out and was flushed, and the hub has no part.
 abbrev pub StopsWriting : Streams → LinkView → LinkView → List Event → Type 0
-StopsWriting new before after events = WasBlocked new.moved before after ⊎ ((new.unsent ≡ []) × (last_is has_none events ≡ true) × IsTrue after.flushed)
+StopsWriting new before after events = WasBlocked new.moved before after ⊎ ((new.unsent ≡ []) × (last_is has_none events ≡ true) × IsFlushedFrom before after)
 
 -- Why sending has to wait.
 pub record SendWaits (new : Streams) (before after : LinkView) (events : List Event) : Type 0 where
@@ -56,7 +56,7 @@ pub record SendWaits (new : Streams) (before after : LinkView) (events : List Ev
 -- how the write step and the flush step ended
 abbrev pub SendEnds : Streams → LinkView → LinkView → Result SendEnd ConnectionFault → List Event → Type 0
 SendEnds new before after (Ok send.Waits) events = SendWaits new before after events
-SendEnds new before after (Ok send.Over) events = (new.closing ≡ true) × (new.unsent ≡ []) × IsTrue after.flushed
+SendEnds new before after (Ok send.Over) events = (new.closing ≡ true) × (new.unsent ≡ []) × IsFlushedFrom before after
 SendEnds new before after (Err fault.Link) events = Rose before.faults after.faults
 SendEnds new before after (Err fault.Closed) events = last_is is_closed_out events ≡ true
 SendEnds new before after (Err fault.OutOfMemory) events = Unit {0}
@@ -121,7 +121,7 @@ pub record HandsOut (old new : Streams) (before after : LinkView) (events : List
 pub record IsOver (old new : Streams) (before after : LinkView) (events : List Event) : Type 0 where
   pub closing : new.closing ≡ true
   pub sent : new.unsent ≡ []
-  pub flushed : IsTrue after.flushed
+  pub flushed : IsFlushedFrom before after
   pub shut : IsTrue after.shut
   pub began : BeganToClose old new before after events
   pub still : old.closing ≡ true → OnlySends old new before after

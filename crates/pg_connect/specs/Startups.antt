@@ -16,6 +16,7 @@ use Rattle.pg_faults.specs.declared.fault.WireFault.TheVariants as wire
 use Rattle.pg_faults.specs.declared.cause.Cause.TheVariants as cause
 use Rattle.pg_faults.specs.declared.error.Error.{Error}
 use Rattle.pg_faults.specs.declared.error.Error.TheVariants as error
+use Rattle.pg_connect.specs.Ends.{IsFlushedFrom}
 use Rattle.pg_connect.specs.Reads.{piece_size}
 use Rattle.pg_connect.specs.declared.startup.Phase.{Phase}
 use Rattle.pg_connect.specs.declared.startup.Phase.TheVariants as phase
@@ -158,7 +159,7 @@ pub record Came (read : List RawMessage) (got buffer : List ℕ) : Type 0 where
 
 -- a frame that is said to be flushed was taken whole, and the link was flushed behind it
 abbrev pub IsFlushed : Startup → LinkView → Type 0
-IsFlushed s link = s.flushed ≡ true → (s.unsent ≡ []) × IsTrue link.flushed
+IsFlushed s link = s.flushed ≡ true → (s.unsent ≡ []) × IsFlushedFrom link link
 
 -- behind the messages of these bytes the dialogue waits for more
 abbrev pub IsUndecided : (name nonce bytes : List ℕ) → Type 0
@@ -208,7 +209,7 @@ pub record Opened (name nonce : List ℕ) (begin now : LinkView) (s : Startup) :
   pub came : Came read got s.buffer.items
   pub last : LastPiece name nonce got
   pub frame : frame_of name ≡ Ok s.opening.items
-  pub flushed : IsTrue now.flushed
+  pub flushed : IsFlushedFrom begin now
   pub shut : now.shut ≡ begin.shut
   pub done : Ends name nonce read (startups.Done (length read))
   pub count : s.given ≡ length got
@@ -240,7 +241,7 @@ pub record Failed (name nonce : List ℕ) (begin now : LinkView) (s : Startup) (
   pub given : Grew begin.given now.given got
   pub taken : Grew begin.taken now.taken sent
   pub front : (rest : List ℕ) × (sent ++ rest ≡ s.opening.items)
-  pub behind : (got ≡ []) ⊎ ((sent ≡ s.opening.items) × IsTrue now.flushed)
+  pub behind : (got ≡ []) ⊎ ((sent ≡ s.opening.items) × IsFlushedFrom begin now)
   pub shut : now.shut ≡ begin.shut
   pub frame : frame_of name ≡ Ok s.opening.items
   pub link : Keeps begin now

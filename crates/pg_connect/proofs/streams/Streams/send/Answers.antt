@@ -26,7 +26,7 @@ returns-in-Ok-Flushed-clause-goes g c =
     let w = c.in-Ok-Flushed in
     flushed _ _ _ c.args.self.now t l m n c.args.may_close all.field-0 (Ok sending.Waits) (all.ensures.only.unread ∙ c.requires) all.field-0-is all.ensures.goes w.ensures.untouched w.ensures.keeps
     (flush_shuts l m n flush.Flushed w.field-0 (Ok sending.Waits) w.field-0-is all.ensures.shut refl w.ensures.shut)
-    (λ es keeps still was. flush_done t l m n w.field-0 es w.field-0-is w.ensures.end was)
+    (λ es keeps still was. flush_done t l m n w.field-0 es w.field-0-is w.ensures.end all.ensures.shut was)
 
 pub returns-in-Ok-ShutDown-clause-goes : goal.returns-in-Ok-ShutDown-clause-goes
 returns-in-Ok-ShutDown-clause-goes g c =
@@ -38,7 +38,7 @@ returns-in-Ok-ShutDown-clause-goes g c =
     let w = c.in-Ok-ShutDown in
     flushed _ _ _ c.args.self.now t l m n c.args.may_close all.field-0 (Ok sending.Over) (all.ensures.only.unread ∙ c.requires) all.field-0-is all.ensures.goes w.ensures.untouched w.ensures.keeps
     (flush_shuts l m n flush.ShutDown w.field-0 (Ok sending.Over) w.field-0-is all.ensures.shut refl w.ensures.shut)
-    (λ es keeps still was. flush_over t l m n w.field-0 es w.field-0-is w.ensures.end was)
+    (λ es keeps still was. flush_over t l m n w.field-0 es w.field-0-is w.ensures.end all.ensures.shut was)
 
 pub returns-in-Err-flush_step-clause-goes : goal.returns-in-Err-flush_step-clause-goes
 returns-in-Err-flush_step-clause-goes g c =
