@@ -14,8 +14,6 @@ use Rattle.pg_connect.specs.Startups.{phase_of, Leads, MeetsMore, MeetsRefused, 
 use Rattle.pg_connect.specs.StartupPolls.{Sends, OfferEnds, Reads, PieceEnds}
 use Rattle.pg_connect.specs.declared.startup.Phase.{Phase}
 use Rattle.pg_connect.proofs.Joining.{keeps_then, grew_then, rose_later}
-use Rattle.pg_connect.proofs.Starting.{leads-none}
-use Rattle.pg_spec.specs.Startup.{First}
 
 -- where all that came was heard, the dialogue waits for more
 pub undecided-at : (name nonce : List ℕ) (begin a : LinkView) (s : Startup) (o : Opening name nonce begin a s) → messages s.buffer.items ≡ [] → IsUndecided name nonce o.got
@@ -188,7 +186,7 @@ not_none (x ∷ xs) some = λ e. absurd cc
 -- no piece could be read
 pub piece-fails : (name nonce : List ℕ) (begin a b : LinkView) (s t : Startup) (e : Error) → (o : Opening name nonce begin b t) → Keeps begin a →
     bytes_left s.buffer.items ≡ s.buffer.items → has_bad_header s.buffer.items ≡ false → PieceEnds s t a b (Err e) → FailsBy name nonce begin b o.got t e
-piece-fails name nonce begin a b s t (error.Io cause.Link) o keeps whole header was = rose_later begin.faults a.faults b.faults keeps.counts.faults was.0
+piece-fails name nonce begin a b s t (error.Io cause.Link) o keeps whole header was = rose_later begin.faults a.faults b.faults keeps.counts.faults was
 piece-fails name nonce begin a b s t error.Closed o keeps whole header was =
     (rose_later begin.ends a.ends b.ends keeps.counts.ends was.0, o.came.left ∙ ap bytes_left was.1)
 piece-fails name nonce begin a b s t (error.Io cause.Ended) o keeps whole header was =
@@ -225,28 +223,15 @@ opening-again name nonce begin a s o = record {
 
 -- a message that ended it isn't the link's
 pub heard-waited : (name nonce got : List ℕ) (read : List RawMessage) (old new : List ℕ) (at : Phase) (e : Error) → HearsAll name nonce read old new at (Err e) → StillWaited name nonce got e
-heard-waited name nonce got read old new at (error.Io cause.Link) h = absurd h.1
 heard-waited name nonce got read old new at (error.Io cause.Ended) h = absurd h.1
 heard-waited name nonce got read old new at error.Closed h = absurd h.1
 heard-waited name nonce got read old new at _ h = tt
 
-at_first : (name nonce got : List ℕ) (e : Error) → got ≡ [] → StillWaited name nonce got e
-at_first name nonce got (error.Io cause.Link) none = subst (λ (l : List ℕ). IsUndecided name nonce l) (sym none) (First, leads-none name nonce)
-at_first name nonce got (error.Io cause.Ended) none = subst (λ (l : List ℕ). IsUndecided name nonce l) (sym none) (First, leads-none name nonce)
-at_first name nonce got error.Closed none = subst (λ (l : List ℕ). IsUndecided name nonce l) (sym none) (First, leads-none name nonce)
-at_first name nonce got _ none = tt
-
-sends-got : (name nonce : List ℕ) (begin a b : LinkView) (s t : Startup) (o : Opening name nonce begin a s) (sends : Sends (record s { moved = false }) t a b) →
-    (opening-sends name nonce begin a b (record s { moved = false }) t (opening-again name nonce begin a s o) sends).got ≡ o.got
-unfolding opening-sends opening-again
-sends-got name nonce begin a b s t o sends = refl
-
--- nothing was read where the frame had yet to be sent
-pub sends-waited : (name nonce : List ℕ) (begin a b : LinkView) (s t : Startup) (e : Error) (o : Opening name nonce begin a s) (sends : Sends (record s { moved = false }) t a b) →
-    (s.flushed ≡ true → s.unsent ≡ [] → ⊥) → StillWaited name nonce (opening-sends name nonce begin a b (record s { moved = false }) t (opening-again name nonce begin a s o) sends).got e
-sends-waited name nonce begin a b s t e o sends never =
-    subst (λ (l : List ℕ). StillWaited name nonce l e) (sym (sends-got name nonce begin a b s t o sends))
-    (elim o.behind [ inl none ↦ at_first name nonce o.got e none | inr is ↦ absurd (never is (o.flushed is).0) ])
+-- nor is a frame that couldn't be sent
+pub offer-waited : (name nonce got : List ℕ) (a b : LinkView) (t : Startup) (e : Error) → OfferEnds t a b (Err e) → StillWaited name nonce got e
+offer-waited name nonce got a b t (error.Io cause.Ended) was = absurd was
+offer-waited name nonce got a b t error.Closed was = absurd was
+offer-waited name nonce got a b t _ was = tt
 
 none_more : (x g : List ℕ) → x ++ g ≡ x → g ≡ []
 none_more [] g same = same
@@ -261,7 +246,7 @@ reads-got : (name nonce : List ℕ) (begin a b : LinkView) (s t : Startup) (o : 
 unfolding opening-reads
 reads-got name nonce begin a b s t o none passed reads = refl
 
--- a read that failed, or gave the end, came while it waited for more
+-- a read that gave the end came while it waited for more
 pub reads-waited : (name nonce : List ℕ) (begin a b : LinkView) (s t : Startup) (e : Error) (o : Opening name nonce begin a s) (none : messages s.buffer.items ≡ []) (passed : s.flushed ≡ true) (reads : Reads s t a b) →
     PieceEnds s t a b (Err e) → StillWaited name nonce (opening-reads name nonce begin a b s t o none passed reads).got e
 reads-waited name nonce begin a b s t e o none passed reads was = by e was
@@ -273,7 +258,6 @@ reads-waited name nonce begin a b s t e o none passed reads was = by e was
         (undecided-at name nonce begin a s o none)
 
     by : (e : Error) → PieceEnds s t a b (Err e) → StillWaited name nonce (opening-reads name nonce begin a b s t o none passed reads).got e
-    by (error.Io cause.Link) is = still (none_more s.buffer.items reads.got (sym reads.buffer ∙ is.1))
     by (error.Io cause.Ended) is = still (none_more s.buffer.items reads.got (sym reads.buffer ∙ is.2))
     by error.Closed is = still (none_there s.buffer.items reads.got (sym reads.buffer ∙ is.1))
     by _ is = tt

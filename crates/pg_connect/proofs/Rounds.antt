@@ -76,8 +76,8 @@ flush_over t l m n f es is ends same was =
 
 -- what a flush step says of the shutdown, at the arm's own value, and what the whole sending says then
 pub flush_shuts : (l m n : LinkView) (x y : FlushEnd) (r : Result SendEnd ConnectionFault) → y ≡ x → m.shut ≡ l.shut → is_shut_down (Ok x) ≡ is_over_sent r → Shuts (is_shut_down (Ok y)) m n → Shuts (is_over_sent r) l n
-flush_shuts l m n x y r is same as shuts =
-    subst (λ (b : Bool). Shuts b l n) (ap (λ (z : FlushEnd). is_shut_down (Ok z)) is ∙ as) (by (is_shut_down (Ok y)) shuts)
+flush_shuts l m n x y r is same told shuts =
+    subst (λ (b : Bool). Shuts b l n) (ap (λ (z : FlushEnd). is_shut_down (Ok z)) is ∙ told) (by (is_shut_down (Ok y)) shuts)
   where
     by : (b : Bool) → Shuts b m n → Shuts b l n
     by true shut = shut
@@ -343,13 +343,13 @@ turned_error becomes joins h i k a b c l m n may W E S e active reads sends firs
 pub turned_closing : {H : Type 0} (becomes : H → List Event → H → Type 0) (h i : H) (s t : Streams) (l m : LinkView) (x : SendEnd) (r : Result TurnEnd ConnectionFault) →
     ((handed : List RawMessage) → handed ≡ [] → HandedTurn r handed) → ((got : List ℕ) → TurnStops s t r got) → OnlySends s t l m → Goes becomes h i s t l m [] (Sends s t l m false (Ok x)) →
     ((es : List Event) → Sends s t l m false (Ok x) es → TurnEnds s t l m r es) → is_over_sent (Ok x) ≡ is_last_turn r → Turns becomes h i s t l m r
-turned_closing becomes h i s t l m x r none stops only goes ends as = record {
+turned_closing becomes h i s t l m x r none stops only goes ends told = record {
   handed = [];
   which = none [] refl;
   goes = record { events = goes.events; calls = goes.calls; became = goes.became; passes = goes.passes; ended = ends goes.events goes.ended };
   paced = paced_none s goes.passes.got goes.events (no_more s t l m goes.events [] goes.passes only.count);
   stops = stops goes.passes.got;
-  shut = subst (λ (b : Bool). Shuts b l m) as goes.ended.shut;
+  shut = subst (λ (b : Bool). Shuts b l m) told goes.ended.shut;
 }
 
 pub closing_waits : (s t : Streams) (l m : LinkView) (es : List Event) → s.closing ≡ true → t.closing ≡ true → OnlySends s t l m → Sends s t l m false (Ok sending.Waits) es → TurnEnds s t l m (Ok turn.Waits) es

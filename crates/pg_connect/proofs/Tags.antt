@@ -246,15 +246,15 @@ no_report raw other = by (message_of raw) refl
 pub readable_by : (raw : RawMessage) (m : Message) → message_of raw ≡ Ok m → aside_fault m ≡ None → is_readable raw ≡ true
 readable_by raw m means well = ap (λ (r : Result Message faults.WireFault). elim r [ Ok message ↦ is_none (aside_fault message) | Err fault ↦ not (is_aside raw) ]) means ∙ ap (λ (o : Option faults.Cause). is_none o) well
 
--- no tag of a message aside
-abbrev pub none_of : ℕ → Bool
-none_of tag = (tag == byte "N" || tag == byte "A") || tag == byte "S"
+-- the tag of a message aside
+abbrev is_aside_tag : ℕ → Bool
+is_aside_tag tag = (tag == byte "N" || tag == byte "A") || tag == byte "S"
 
-tag_apart : (tag own : ℕ) → none_of own ≡ true → none_of tag ≡ false → (own ≡ tag) ⊎ (own ≡ 0) → ⊥
-tag_apart tag own is other (inl same) = let no : true ≡ false = sym is ∙ ap none_of same ∙ other in cc
-tag_apart tag own is other (inr plain) = let no : true ≡ false = sym is ∙ ap none_of plain in cc
+tag_apart : (tag own : ℕ) → is_aside_tag own ≡ true → is_aside_tag tag ≡ false → (own ≡ tag) ⊎ (own ≡ 0) → ⊥
+tag_apart tag own is other (inl same) = let no : true ≡ false = sym is ∙ ap is_aside_tag same ∙ other in cc
+tag_apart tag own is other (inr plain) = let no : true ≡ false = sym is ∙ ap is_aside_tag plain in cc
 
-well_apart : (m : Message) → (none_of (own_tag m) ≡ true → ⊥) → aside_fault m ≡ None
+well_apart : (m : Message) → (is_aside_tag (own_tag m) ≡ true → ⊥) → aside_fault m ≡ None
 well_apart (spec.NoticeResponse fields) never = absurd (never refl)
 well_apart (spec.NotificationResponse process_id channel payload) never = absurd (never refl)
 well_apart (spec.ParameterStatus name value) never = absurd (never refl)

@@ -60,7 +60,7 @@ pub record Reads (old new : Startup) (before after : LinkView) : Type 0 where
 abbrev pub PieceEnds : Startup → Startup → LinkView → LinkView → Result Bool Error → Type 0
 PieceEnds old new before after (Ok true) = (old.given < new.given) × (new.given ≤ new.max_bytes)
 PieceEnds old new before after (Ok false) = WasDry new.moved before after × (new.given ≡ old.given) × (new.buffer.items ≡ old.buffer.items) × (new.moved ≡ old.moved)
-PieceEnds old new before after (Err (error.Io cause.Link)) = Rose before.faults after.faults × (new.buffer.items ≡ old.buffer.items)
+PieceEnds old new before after (Err (error.Io cause.Link)) = Rose before.faults after.faults
 PieceEnds old new before after (Err error.Closed) = Rose before.ends after.ends × (new.buffer.items ≡ [])
 PieceEnds old new before after (Err (error.Io cause.Ended)) = Rose before.ends after.ends × (0 < length new.buffer.items) × (new.buffer.items ≡ old.buffer.items)
 PieceEnds old new before after (Err (error.LimitReached given limit)) = (given ≡ new.given) × (limit ≡ new.max_bytes) × (limit < given) × (given ≤ limit + piece_size)

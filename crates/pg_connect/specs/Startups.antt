@@ -173,9 +173,8 @@ pub record LastPiece (name nonce got : List ℕ) : Type 0 where
   pub fits : length piece ≤ piece_size
   pub needed : IsUndecided name nonce front
 
--- where the link failed or gave its end, the dialogue waited for more
+-- where the link gave its end, the dialogue waited for more
 abbrev pub StillWaited : (name nonce got : List ℕ) → Error → Type 0
-StillWaited name nonce got (error.Io cause.Link) = IsUndecided name nonce got
 StillWaited name nonce got (error.Io cause.Ended) = IsUndecided name nonce got
 StillWaited name nonce got error.Closed = IsUndecided name nonce got
 StillWaited name nonce got _ = Unit {0}

@@ -227,7 +227,6 @@ impl Startup {
     fn send<L: Link>(&mut self, link: &mut L) -> Result<bool, Error>
         ensures sends { Sends self.old self.new (L.view link.old) (L.view link.new) }
         ensures end { SentEnds self.new (L.view link.old) (L.view link.new) result }
-        ensures done { self.old.flushed ≡ true → self.old.unsent ≡ [] → result ≡ Ok true }
         ensures no_lull { StaysCalm (L.view link.old) (L.view link.new) }
         ensures quiet { MissesOne (L.view link.old) (L.view link.new) }
         ensures ready { result ≡ Ok true → MissesNone (L.view link.old) (L.view link.new) }

@@ -7,7 +7,7 @@ use Rattle.futures.specs.declared.task.Poll.TheVariants.{Ready, Pending}
 use Rattle.pg_connect.specs.Ends.{WasBlocked}
 use Rattle.pg_connect.specs.StartupPolls.{SentEnds, Sends, start_left}
 use Rattle.pg_connect.proofs.Joining.{keeps_then, promised_still, rose_later}
-use Rattle.pg_connect.proofs.Opening.{opening-again, opening-sends, opening-failed, offer-fails, sends-waited}
+use Rattle.pg_connect.proofs.Opening.{opening-again, opening-sends, opening-failed, offer-fails, offer-waited}
 use Rattle.pg_connect.proofs.Within.{start-within}
 use Rattle.pg_connect.proofs.startup.Startup.poll.Goals as goal
 
@@ -24,7 +24,7 @@ returns-in-Err-clause-answer g c name nonce begin at =
     (offer-fails name nonce begin v w o.got c.send.new.self c.send.new.self c.in-Err.error at.link c.in-Err.ensures.end)
     (start-within c.in-Err.error (length o.got) c.send.new.self.max_bytes
     (omega (arith, o.count, ap (λ (x : Startup). x.given) c.in-Err.ensures.sends.same, ap (λ (x : Startup). x.max_bytes) c.in-Err.ensures.sends.same, c.requires.given)))
-    (sends-waited name nonce begin v w c.args.self.now c.send.new.self c.in-Err.error at c.in-Err.ensures.sends (λ flushed sent. absurd (let no = c.in-Err.ensures.done flushed sent in cc)))
+    (offer-waited name nonce o.got v w c.send.new.self c.in-Err.error c.in-Err.ensures.end)
 
 pub returns-clause-answer : goal.returns-clause-answer
 returns-clause-answer g c name nonce begin at =

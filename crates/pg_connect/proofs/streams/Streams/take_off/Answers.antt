@@ -2,6 +2,7 @@ use Rattle.std.proofs.Common.{ℕ, List, [], refl, sym, ap, subst, ◌∙◌, ma
 use Rattle.pg_wire.specs.Decode.{Decodes}
 use Rattle.pg_wire.specs.declared.codec.BackendMessage.{BackendMessage}
 use Rattle.pg_faults.specs.declared.fault.WireFault.{WireFault}
+use Rattle.pg_spec.specs.RawMessages.{has_bad_header, messages}
 use Rattle.pg_connect.specs.declared.streams.Streams.{Streams}
 use Rattle.pg_connect.specs.Passes.{Passes, waiting, notice_of}
 use Rattle.pg_connect.proofs.Joining.{keeps_same, untouched_same}
@@ -101,3 +102,13 @@ returns-in-Err c = record {
   closing = refl;
   at_end = refl;
 }
+
+pub returns-in-Err-BadLength-clause-end : goal.returns-in-Err-BadLength-clause-end
+returns-in-Err-BadLength-clause-end c =
+    let cut = subst (λ (r : WireFault). Decodes c.args.self.now.buffer.items c.decode.new.buf.items (Err r)) c.in-Err-BadLength.field-0-is c.in-Err-BadLength.ensures in
+    record { header = ap has_bad_header cut.same ∙ cut.header; held = ap waiting c.requires.held }
+
+pub returns-in-Err-Layout-clause-end : goal.returns-in-Err-Layout-clause-end
+returns-in-Err-Layout-clause-end c =
+    let cut = subst (λ (r : WireFault). Decodes c.args.self.now.buffer.items c.decode.new.buf.items (Err r)) c.in-Err-Layout.field-0-is c.in-Err-Layout.ensures in
+    record { raw = cut.raw; rest = cut.rest; front = ap messages cut.same ∙ cut.front; aside = cut.aside; broken = cut.broken; held = ap waiting c.requires.held }
