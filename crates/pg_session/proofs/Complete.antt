@@ -1,5 +1,5 @@
 -- Over a link that conforms a session with valid input fails for nothing but want of memory.
-use Rattle.std.proofs.Common.{◌≡◌, ◌<◌, ◌≤◌, ◌+◌, ◌-◌, ℕ, zero, suc, List, [], ◌∷◌, ◌++◌, length, take, drop, Bool, true, false, not, ◌||◌, Option, Some, None, Result, Ok, Err, inl, inr, refl, sym, ap, subst, ◌∙◌, append_assoc, append-nil, arith}
+use Rattle.std.proofs.Common.{◌≡◌, ◌⊎◌, ◌<◌, ◌≤◌, ◌+◌, ◌-◌, ℕ, zero, suc, List, [], ◌∷◌, ◌++◌, length, take, drop, Bool, true, false, not, ◌||◌, Option, Some, None, Result, Ok, Err, inl, inr, refl, sym, ap, subst, ◌∙◌, append_assoc, append-nil, arith}
 use Rattle.std.specs.Prelude.{IfSome, IsTrue, IsOk, count_by, is_none, slice_get, if◌then◌else◌}
 use Rattle.std.specs.List.{concat, list_all, AllByRecursion}
 use Rattle.std.proofs.lemmas.List.{length-append, length-drop, length-take, take-append-le, drop-append-le}
@@ -285,6 +285,16 @@ module _ (call : Call) (user : List ℕ) (plan : Plan) (g t : List ℕ) (means :
   no-tls : (cause : faults.Cause) → HasCause call (faults.Tls cause) → ⊥
   no-tls cause h = v.no_tls (dialogue-says _ h.1).0
 
+  -- nothing is wrong with the bytes
+  no-fault : (fault : WireFault) → OfDialogue call (λ s g t.
+      ((fault ≡ faults.BadLength) × IsTrue (has_bad_header (bytes_left g)))
+      ⊎ InStartup (faults.Io (faults.Wire fault)) call s g ⊎ Behind call s g (AsideBreaks fault)) → ⊥
+  no-fault fault h = elim (dialogue-says _ h) [
+    | inl header ↦ bad-header header.1
+    | inr (inl start) ↦ refused (faults.Io (faults.Wire fault)) start
+    | inr (inr later) ↦ breaks fault later
+  ]
+
   -- a session that fails fails for want of memory
   pub ends-well : (f : Failure) → HasCause call f → EndsWell (Err f)
   ends-well (faults.ConfigParse cause) h = h.1 s means
@@ -297,7 +307,9 @@ module _ (call : Call) (user : List ℕ) (plan : Plan) (g t : List ℕ) (means :
   ends-well (faults.Config faults.NoPassword) h = refused (faults.Config faults.NoPassword) (dialogue-says _ h)
   ends-well (faults.Config _) h = absurd h
   ends-well (faults.Tls cause) h = no-tls cause h
-  ends-well (faults.Encode (faults.Frame fault)) h = refused (faults.Encode (faults.Frame fault)) (dialogue-says _ h)
+  ends-well (faults.Encode (faults.Frame faults.ZeroByte)) h = refused (faults.Encode (faults.Frame faults.ZeroByte)) (dialogue-says _ h)
+  ends-well (faults.Encode (faults.Frame faults.TooMany)) h = refused (faults.Encode (faults.Frame faults.TooMany)) (dialogue-says _ h)
+  ends-well (faults.Encode (faults.Frame faults.TooLong)) h = refused (faults.Encode (faults.Frame faults.TooLong)) (dialogue-says _ h)
   ends-well (faults.Encode _) h = absurd h
   ends-well (faults.Authentication cause) h = refused (faults.Authentication cause) (dialogue-says _ h.1)
   ends-well (faults.Db error) h = elim (dialogue-says _ h) [
@@ -315,11 +327,10 @@ module _ (call : Call) (user : List ℕ) (plan : Plan) (g t : List ℕ) (means :
   ]
   ends-well (faults.Io faults.Link) h = k.no_fault h
   ends-well (faults.Io faults.Ended) h = k.no_end h.0
-  ends-well (faults.Io (faults.Wire fault)) h = elim (dialogue-says _ h) [
-    | inl header ↦ bad-header header.1
-    | inr (inl start) ↦ refused (faults.Io (faults.Wire fault)) start
-    | inr (inr later) ↦ breaks fault later
-  ]
+  ends-well (faults.Io (faults.Wire faults.BadLength)) h = no-fault faults.BadLength h
+  ends-well (faults.Io (faults.Wire faults.UnknownTag)) h = no-fault faults.UnknownTag h
+  ends-well (faults.Io (faults.Wire faults.Layout)) h = no-fault faults.Layout h
+  ends-well (faults.Io (faults.Wire faults.NotUtf8)) h = no-fault faults.NotUtf8 h
   ends-well (faults.Io _) h = absurd h
   ends-well faults.Closed h = k.no_end h.0
   ends-well (faults.Stalled before after) h =
