@@ -18,3 +18,4 @@ pub mod Texts
 pub mod UrlFronts
 pub mod UrlReading
 pub mod Urls
+pub mod Views
