@@ -67,10 +67,10 @@ no_session : (P : SessionResult → Type 0) (result : Option SessionResult) → 
 no_session P result none = subst (λ r. IfSome r P) (sym none) tt
 
 -- other words
-pub run_usage : (run : Run) → run.link_after ≡ run.link_before → run.words ≢ play → run.result ≡ None → Written run.sink_before run.sink_after usage 2 run.status → RunContract run
-run_usage run unused other none w = record {
+pub run_usage : (run : Run) → run.link_after ≡ run.link_before → run.source_after ≡ run.source_before → run.words ≢ play → run.result ≡ None → Written run.sink_before run.sink_after usage 2 run.status → RunContract run
+run_usage run unused unread other none w = record {
   link = unused;
-  status = subst (λ r. StatusSays run r) (sym none) (inl (other, w.ends));
+  status = subst (λ r. StatusSays run r) (sym none) (inl (other, unread, w.ends));
   source_failed = λ is. absurd (ends_not_3 _ _ _ 2 run.status w.ends (λ e. cc e) is);
   sink_failed = w.sink_failed (λ e. cc e);
   session = no_session _ run.result none;
@@ -85,8 +85,8 @@ text_status : (run : Run) (bytes : List ℕ) (result : Option SessionResult) →
     PlayedText bytes run.sink_before run.sink_after run.status result → StatusSays run result
 text_status run bytes (Some result) words all within played = played.2.answered.says
 text_status run bytes None words all within (inl refused) =
-    inr (inl (words, refused.0, of_left (λ text. IsRefused text refused.0) run.source_before.left bytes all (refused_so bytes refused.0 within refused.1), refused.2.ends))
-text_status run bytes None words all within (inr nothing) = inr (inr (inr nothing.0, nothing.1))
+    inr (words, inl (refused.0, of_left (λ text. IsRefused text refused.0) run.source_before.left bytes all (refused_so bytes refused.0 within refused.1), refused.2.ends))
+text_status run bytes None words all within (inr nothing) = inr (words, inr (inr nothing.0, nothing.1))
 
 text_session : (run : Run) (bytes : List ℕ) (result : Option SessionResult) → run.words ≡ play → ReadWhole run.source_before bytes →
     PlayedText bytes run.sink_before run.sink_after run.status result →

@@ -95,9 +95,9 @@ pub record Written (old new : SinkView) (text : List ℕ) (due status : ℕ) : T
   pub ends : EndsWith old new text due status
   pub sink_failed : due ≢ 4 → status ≡ 4 → Rose old.faults new.faults
 
--- want of memory, and nothing was written
+-- want of memory, before anything was written
 abbrev pub WroteNothing : SinkView → SinkView → ℕ → Type 0
-WroteNothing old new status = (status ≡ 5) × Grew old.written new.written []
+WroteNothing old new status = (status ≡ 5) × (new ≡ old)
 
 -- what is written of a session's result, and the status
 abbrev pub SaysResult : SinkView → SinkView → ℕ → SessionResult → Type 0
@@ -154,21 +154,22 @@ PlayedText bytes old new status None = NotPlayed bytes old new status
 PlayedText bytes old new status (Some result) =
     (text : SessionText) × IsSessionText bytes text × PlayedSession text old new status result
 
--- the text was written whole, and nothing else
-abbrev pub Wrote : Run → List ℕ → Type 0
-Wrote run text = Grew run.sink_before.written run.sink_after.written text
-
 -- the status where the text due was written whole, else 4 or 5, and a front of it was written
 abbrev pub Ends : Run → ℕ → List ℕ → Type 0
 Ends run status text = EndsWith run.sink_before run.sink_after text status run.status
 
+-- why no session was played with `play`: the text is refused, or nothing was written since the source failed or memory ran out
+abbrev pub PlaysNothing : Run → Type 0
+PlaysNothing run =
+    ((why : Option ℕ) × IfSome run.source_before.left (λ text. IsRefused text why) × Ends run 2 (refusal why))
+    ⊎ (((run.status ≡ 3) ⊎ (run.status ≡ 5)) × (run.sink_after ≡ run.sink_before))
+
 -- what each exit status says
 abbrev pub StatusSays : Run → Option SessionResult → Type 0
 StatusSays run (Some result) = SaysResult run.sink_before run.sink_after run.status result
--- no session was played: for other words, for a text that is refused, or since the source failed or memory ran out
-StatusSays run None = ((run.words ≢ play) × Ends run 2 usage)
-    ⊎ ((run.words ≡ play) × (why : Option ℕ) × IfSome run.source_before.left (λ text. IsRefused text why) × Ends run 2 (refusal why))
-    ⊎ (((run.status ≡ 3) ⊎ (run.status ≡ 5)) × Wrote run [])
+-- no session was played: with other words the usage line is due, and nothing is read
+StatusSays run None = ((run.words ≢ play) × (run.source_after ≡ run.source_before) × Ends run 2 usage)
+    ⊎ ((run.words ≡ play) × PlaysNothing run)
 
 -- The text's session is valid input, and its plan is what a server that conforms gives it: an answer to the
 -- startup's frame, and one to each request, however many of them were sent.

@@ -7,7 +7,7 @@ use Rattle.pg_tool.proofs.program.run.Goals as goal
 
 pub returns-then-not-is_play : goal.returns-then-not-is_play
 returns-then-not-is_play g c =
-    run_usage _ refl (λ e. cc (c.if-not-is_play.ensures.1 e)) (ap (option_map result_of) c.refuse.ensures.none)
+    run_usage _ refl refl (λ e. cc (c.if-not-is_play.ensures.1 e)) (ap (option_map result_of) c.refuse.ensures.none)
     (subst (λ (t : List ℕ). Written (g.K.Sink.state c.args.sink.now) (g.K.Sink.state c.refuse.new.sink) t 2 c.refuse.result.status) c.as_bytes.ensures.value c.refuse.ensures.status)
 
 pub returns-in-Ok : goal.returns-in-Ok
