@@ -19,6 +19,7 @@ use Rattle.pg_hub.specs.Fits.{HubBecomes}
 use Rattle.pg_connect.specs.declared.streams.Streams.{Streams}
 use Rattle.pg_connect.specs.Answers.{Failed, PollAnswers, StaysClosed, fresh, left_open}
 use Rattle.pg_connect.specs.Calm.{MissesFew}
+use Rattle.pg_connect.proofs.Calm.{calm_then}
 use Rattle.pg_connect.proofs.Joining.{rose_later}
 use Rattle.pg_text.specs.Views.{scripts_of}
 use Rattle.pg_text.specs.declared.command.Command.{Command}
@@ -90,7 +91,7 @@ module _ (call : Call) (user : List ℕ) (scripts : List (List Command)) (e : Er
         stalled-round call user b.opening b.opened.read scripts out.state out.link out.last out.passed out.waited before after means
         (b.opened.frame ∙ ap (λ (l : List ℕ). Ok l) (sym b.fresh.frame)) b.opened.done
         (open-last out.turns out.state out.link out.before).keeps (open-last turns out.last out.passed all-made).keeps
-        (stood-last turns out.last out.passed all-made) (asks-last turns out.last out.passed all-made)
+        (calm_then call.before b.link out.passed b.calm out.calm).no_lull (stood-last turns out.last out.passed all-made) (asks-last turns out.last out.passed all-made)
         (quiet-round scripts out.turns b.new b.link out.state out.link out.last out.passed b.is_new b.fresh.active b.fresh.delivered out.before out.round) out.promised fails
     pause-cause _ fails = absurd fails
 

@@ -104,9 +104,9 @@ of-read None = tt
 of-read (Some message) = of-message message
 
 of-row : (body : List ℕ) (row : Option (ℕ × (List ℕ → Option Message))) → IsOfAnswer (elim (elim row as (λ _. Result Message faults.WireFault) [
-    | None ↦ Err faults.UnknownTag
-    | Some row ↦ elim (row.1 body) [ None ↦ Err faults.Layout | Some message ↦ Ok message ]
-    ]) as (λ _. faults.Failure) [ Err fault ↦ faults.Parse (faults.Wire fault) | Ok message ↦ unasked message ])
+  | None ↦ Err faults.UnknownTag
+  | Some row ↦ elim (row.1 body) [ None ↦ Err faults.Layout | Some message ↦ Ok message ]
+]) as (λ _. faults.Failure) [ Err fault ↦ faults.Parse (faults.Wire fault) | Ok message ↦ unasked message ])
 of-row body None = tt
 of-row body (Some row) = of-read (row.1 body)
 
@@ -304,22 +304,22 @@ cause-of user call former now s t l f fault.Ended ends =
           (inl (subst (λ (x : List ℕ). x ≢ []) (sym left) (not-none t.buffer.items ends.some), ap has_bad_header left ∙ ends.decoded.no_bad_header)),
     )
 cause-of user call former now s t l f fault.BadLength ends =
-    of-dialogue user call former now t l f _ (inl (refl, ap has_bad_header f.broke.rest ∙ bad-left t.buffer.items ends))
+    of-dialogue user call former now t l f _ (inl (refl, ap has_bad_header f.broke.rest ∙ bad-left t.buffer.items ends.header))
 cause-of user call former now s t l f fault.Layout ends =
     of-dialogue user call former now t l f _ (inr (inr (behind user call former now t l f (AsideBreaks faults.Layout)
-    (layout-breaks user call former now t l f (record { raw = ends.raw; rest = ends.rest; front = ends.front; aside = ends.aside; broken = ends.broken })))))
+    (layout-breaks user call former now t l f (record { raw = ends.raw; rest = ends.rest; front = ends.front; aside = ends.aside; broken = ends.broken; held = ends.held })))))
 cause-of user call former now s t l f (fault.Unreadable c) ends = (
   aside-body c ends,
   of-dialogue user call former now t l f _ (inr (inl (aside-stands user call former now t l f c (aside-in c ends)))),
 )
   where
-    aside-in : (c : Cause) → LeavesUnread (left_open t) c ⊎ LeavesDelayed (left_open t) c → LeavesUnread t c ⊎ LeavesDelayed t c
-    aside-in c (inl h) = inl (record { message = h.message; unread = h.unread; means = h.means })
-    aside-in c (inr h) = inr (record { notice = h.notice; others = h.others; first = h.first; means = h.means })
+    aside-in : (c : Cause) → LeavesUnread (left_open t) c ⊎ (LeavesDelayed (left_open t) c × (now ≡ [])) → LeavesUnread t c ⊎ LeavesDelayed t c
+    aside-in c (inl h) = inl (record { message = h.message; unread = h.unread; means = h.means; held = h.held })
+    aside-in c (inr h) = inr (record { notice = h.0.notice; others = h.0.others; first = h.0.first; means = h.0.means })
 
-    aside-body : (c : Cause) → LeavesUnread (left_open t) c ⊎ LeavesDelayed (left_open t) c → IsOfBody c
+    aside-body : (c : Cause) → LeavesUnread (left_open t) c ⊎ (LeavesDelayed (left_open t) c × (now ≡ [])) → IsOfBody c
     aside-body c (inl h) = of-body (message_view h.message) c h.means
-    aside-body c (inr h) = of-body (spec.NoticeResponse h.notice.fields) c h.means
+    aside-body c (inr h) = of-body (spec.NoticeResponse h.0.notice.fields) c h.0.means
 cause-of user call former now s t l f fault.OutOfMemory ends = tt
 cause-of user call former now s t l f fault.Closed ends = closed-cause user call former now t l f s ends
 cause-of user call former now s t l f (fault.Unasked e) ends = unasked-cause user call former now t l f e ends.1 ends.0 ends.2

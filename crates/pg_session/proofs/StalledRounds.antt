@@ -5,11 +5,11 @@ use Rattle.std.specs.List.{list_any}
 use Rattle.std.proofs.lemmas.Bool.Decides.{nat_tests}
 use Rattle.pg_spec.specs.Causes.{Call, IsAwaited as Awaited, IsStalled, whole_groups}
 use Rattle.pg_spec.specs.ConnectionStrings.{Means, only_user}
-use Rattle.pg_spec.specs.Links.{LinkView, Rose}
+use Rattle.pg_spec.specs.Links.{LinkView, Rose, next_count}
 use Rattle.pg_spec.specs.RawMessages.{RawMessage, messages, cut_after, is_ready, is_whole_group, sync_of}
 use Rattle.pg_spec.specs.Sent.{whole_units}
 use Rattle.pg_spec.specs.Startup.{Done}
-use Rattle.pg_wire.specs.LinkCalls.{Keeps}
+use Rattle.pg_wire.specs.LinkCalls.{Keeps, NoLull}
 use Rattle.pg_desk.specs.declared.event.Event.{Event}
 use Rattle.pg_desk.specs.declared.event.Event.TheVariants.{NextOut}
 use Rattle.pg_desk.specs.declared.event.Out.{Out}
@@ -43,7 +43,7 @@ use Rattle.pg_session.proofs.LivesReached.{state_of}
 use Rattle.pg_session.proofs.QuietPolls.{IsAwaited, none-moved, still-all}
 use Rattle.pg_session.proofs.QuietRounds.{QuietRound}
 use Rattle.pg_session.proofs.StalledGroups.{groups-ended, units-sent}
-use Rattle.pg_session.proofs.StalledStart.{last-so, lulls-so, rests-so}
+use Rattle.pg_session.proofs.StalledStart.{exact-so, last-so, lulls-so, rests-so}
 
 -- ---- the connection's poll
 
@@ -218,9 +218,9 @@ module _ (call : Call) (user opening : List ℕ) (first : List RawMessage) (t : 
 
 pub stalled-round : (call : Call) (user opening : List ℕ) (first : List RawMessage) (scripts : List (List Command)) (s : SessionState) (l : LinkView) (t : SessionState) (m : LinkView)
     (waited : Bool) (before after : ℕ) → Means call.config (only_user user) → frame_of user ≡ Ok opening → Ends user call.nonce first (Done (length first)) →
-    Keeps call.before l → Keeps call.before m → (h : StoodIn opening first call.before t m) → AsksQueries t → QuietRound scripts s l t m →
+    Keeps call.before l → Keeps call.before m → NoLull call.before m → (h : StoodIn opening first call.before t m) → AsksQueries t → QuietRound scripts s l t m →
     (waited ≡ true → IsTrue l.promised) → PauseFails l.quiet m.quiet waited m call.after (error.Stalled before after) → IsStalled call before after
-stalled-round call user opening first scripts s l t m waited before after means frame done keeps-l keeps-m h asks q promised fails =
+stalled-round call user opening first scripts s l t m waited before after means frame done keeps-l keeps-m calm h asks q promised fails =
     let rests = rests-so waited m call.after fails.2 in
     let from : before ≡ l.quiet = fails.0 in
     let to : after ≡ m.quiet = fails.1 in
@@ -236,6 +236,8 @@ stalled-round call user opening first scripts s l t m waited before after means 
         λ steady. let few = q.misses.steady (keeps-l.steady steady) in omega (arith, few, from, to),
       );
       last = omega (arith, last-so waited m call.after fails.2, to);
+      exact = λ steady low. subst (λ (n : ℕ). call.after.quiet ≡ next_count n) (sym to)
+          (exact-so waited call.before l m call.after keeps-l.counts.lulls (calm steady) low promised went.lulls fails.2);
       awaited = λ steady.
           let is_steady = keeps-l.steady steady in
           let settled = went.settled is_steady in

@@ -1,11 +1,11 @@
 -- Why a startup may be stalled.
-use Rattle.std.proofs.Common.{◌≡◌, ◌≤◌, ◌+◌, ℕ, zero, suc, Bool, true, List, [], ◌++◌, length, Result, Ok, inl, inr, append-nil, refl, sym, ◌∙◌, ap, subst, arith}
+use Rattle.std.proofs.Common.{◌≡◌, ◌≤◌, ◌<◌, ◌+◌, ◌-◌, ◌^◌, ℕ, zero, suc, Bool, true, List, [], ◌++◌, length, Result, Ok, inl, inr, append-nil, refl, sym, ◌∙◌, ap, subst, arith}
 use Rattle.std.specs.Prelude.{IsTrue}
 use Rattle.std.specs.List.{concat}
 use Rattle.pg_spec.specs.Causes.{Call, IsAwaited, IsStalled}
 use Rattle.pg_spec.specs.ConnectionStrings.{Means, only_user}
 use Rattle.pg_spec.specs.Faults.{FrameFault}
-use Rattle.pg_spec.specs.Links.{LinkView, Rose}
+use Rattle.pg_spec.specs.Links.{LinkView, Rose, next_count}
 use Rattle.pg_spec.specs.RawMessages.{RawMessage, messages}
 use Rattle.pg_spec.specs.Startup.{Startup as Dialogue, More, Phase, begun_by, dialogue, startup, plain_login}
 use Rattle.pg_faults.specs.declared.error.Error.TheVariants as error
@@ -34,6 +34,13 @@ lulls-so waited base l m n before after promised lulls (inr round) =
 pub last-so : (waited : Bool) (m n : LinkView) → GivesUp waited m n → n.quiet ≤ m.quiet + 1
 last-so waited m n (inl wait) = omega (arith, wait.quiet)
 last-so waited m n (inr round) = omega (arith, ap (λ (x : LinkView). x.quiet) round.1)
+
+-- On a steady link a round behind a wait is a lull, and up to its end there was none: so it was the wait that was in vain.
+pub exact-so : (waited : Bool) (base l m n : LinkView) → base.lulls ≤ l.lulls → m.lulls ≡ base.lulls → base.lulls < 2 ^ 64 - 1 → (waited ≡ true → IsTrue l.promised) →
+    (IsTrue l.promised → Rose l.lulls m.lulls) → GivesUp waited m n → n.quiet ≡ next_count m.quiet
+exact-so waited base l m n before calm low promised lulls (inl wait) = wait.quiet
+exact-so waited base l m n before calm low promised lulls (inr round) =
+    absurd (let rose : Rose l.lulls m.lulls = lulls (promised round.0) in omega (arith, before, calm, low, rose))
 
 -- the dialogue writes nothing behind messages that no frame answers
 silent-behind : (n : ℕ) (d : Dialogue) → (behind n d).frames ≡ d.frames
@@ -82,6 +89,8 @@ stalled-start call user s before after means h =
       rose = subst (λ (n : ℕ). Rose n after) (sym from) (subst (λ (n : ℕ). Rose h.link.quiet n) (sym to) h.goes_on.quiet);
       round = (omega (arith, h.misses, from, to), λ steady. omega (arith, h.misses, from, to));
       last = omega (arith, last-so h.waited h.polled call.after h.fails.2, to);
+      exact = λ steady low. subst (λ (n : ℕ). call.after.quiet ≡ next_count n) (sym to)
+          (exact-so h.waited call.before h.link h.polled call.after h.keeps.counts.lulls (h.calm.no_lull steady) low h.promised (h.goes_on.lulls h.unmoved) h.fails.2);
       awaited = λ steady.
           let idle = h.goes_on.idle (h.keeps.steady steady) in (
             rests.bytes.due ∙ idle.empty,

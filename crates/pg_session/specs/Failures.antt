@@ -4,7 +4,7 @@ use Rattle.futures.specs.declared.task.Poll.{Poll}
 use Rattle.futures.specs.declared.task.Poll.TheVariants.{Ready}
 use Rattle.pg_spec.specs.Links.{LinkView, Rose, next_count}
 use Rattle.pg_connect.specs.Answers.{IsWithinPoll, PollAnswers}
-use Rattle.pg_connect.specs.Calm.{MissesFew, MissesOne}
+use Rattle.pg_connect.specs.Calm.{MissesFew, MissesOne, StaysCalm}
 use Rattle.pg_wire.specs.LinkCalls.{Keeps, SameBytes}
 use Rattle.pg_connect.specs.Startups.{Opened, Opening}
 use Rattle.pg_connect.specs.StartupPolls.{IsFresh, GoesOn}
@@ -67,7 +67,8 @@ PauseFails from to waited before after (error.Stalled a b) = (a ≡ from) × (b 
 PauseFails from to waited before after (error.Io cause.Link) = Rose before.faults after.faults
 PauseFails from to waited before after _ = ⊥
 
--- A poll of the startup moved nothing, and the pause behind it failed. The poll came behind a wait, or not.
+-- A poll of the startup moved nothing, and the pause behind it failed. The poll came behind a wait, or not; up to its end
+-- no call was a lull on a steady link.
 pub record StopsOpening (user nonce : List ℕ) (begin now : LinkView) (s : Startup) (e : Error) : Type 0 where
   pub link : LinkView
   pub keeps : Keeps begin link
@@ -76,6 +77,7 @@ pub record StopsOpening (user nonce : List ℕ) (begin now : LinkView) (s : Star
   pub within : s.given ≤ s.max_bytes
   pub goes_on : GoesOn s link polled
   pub misses : MissesOne link polled
+  pub calm : StaysCalm begin polled
   pub unmoved : s.moved ≡ false
   pub waited : Bool
   pub promised : waited ≡ true → IsTrue link.promised
@@ -98,7 +100,7 @@ pub record BreaksOff (scripts : List (List Command)) (s : SessionState) (l m : L
   pub fails : PollFails state link m e
 
 -- Some turns were made, and then a whole round in which nothing moved, and the pause behind it failed. The round came
--- behind a wait, or not.
+-- behind a wait, or not; up to its end no call was a lull on a steady link.
 pub record GivesOut (scripts : List (List Command)) (s : SessionState) (l m : LinkView) (e : Error) : Type 0 where
   pub turns : List ℕ
   pub state : SessionState
@@ -107,6 +109,7 @@ pub record GivesOut (scripts : List (List Command)) (s : SessionState) (l m : Li
   pub last : SessionState
   pub passed : LinkView
   pub round : StaysAll scripts (numbers (length scripts + 1)) state link last passed
+  pub calm : StaysCalm l passed
   pub within : last.streams.given ≤ last.streams.max_bytes
   pub bytes : SameBytes passed m
   pub waited : Bool
@@ -122,6 +125,7 @@ pub record HasBroken (user nonce : List ℕ) (scripts : List (List Command)) (be
   pub startup : Startup
   pub link : LinkView
   pub opened : Opened user nonce before link startup
+  pub calm : StaysCalm before link
   pub opening : List ℕ
   pub new : SessionState
   pub fresh : IsFresh startup opening new.streams
