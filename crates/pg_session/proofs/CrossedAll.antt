@@ -1,9 +1,11 @@
 -- What crossed the link in a session that ended, both ways.
-use Rattle.std.proofs.Common.{◌≡◌, ◌<◌, ◌≤◌, ℕ, suc, ◌+◌, ◌^◌, List, [], ◌∷◌, ◌++◌, length, map, Bool, true, false, if◌then◌else◌, Option, Some, refl, sym, ap, subst, ◌∙◌, arith, append-nil, length-append}
+use Rattle.std.proofs.Common.{◌≡◌, ◌<◌, ◌≤◌, ℕ, suc, ◌+◌, ◌^◌, List, [], ◌∷◌, ◌++◌, length, map, Bool, true, false, ◌&&◌, if◌then◌else◌, Option, Some, refl, sym, ap, subst, ◌∙◌, arith, append-nil, length-append}
 use Rattle.std.specs.Prelude.{filter, slice_get, option_map, unwrap_or, pos, ℤ}
 use Rattle.std.specs.List.{list_all}
 use Rattle.std.proofs.lemmas.List.{map-append, length_push, length-map}
 use Rattle.std.proofs.lemmas.List.Elements.{filter-append, filter_map-append}
+use Rattle.std.proofs.lemmas.List.Folds.{list_all-append}
+use Rattle.pg_spec.specs.Causes.{is_readable}
 use Rattle.pg_spec.specs.ConnectionStrings.{only_user}
 use Rattle.pg_spec.specs.Links.{LinkView, added}
 use Rattle.pg_spec.specs.Parameters.{parameter_reports, AreLastValues}
@@ -188,6 +190,8 @@ all-crossed user nonce scripts given before after report p g t e d =
       whole_groups = ap (λ (x : List RawMessage). list_all is_whole_group (groups x)) later ∙ whole.whole;
       delivered_all = told-count report.trace p.plays.ends.state.trace (record { turn = f.is_last.turn; delivered = p.last.streams.delivered }) h.read
           (session_part (only_user user) nonce (messages g)) (p.reports.trace ∙ f.is_last.trace) (passed.count p.counted) later;
+      readable = ap (λ (x : List RawMessage). list_all is_readable x) all ∙ list_all-append is_readable p.opened.read h.read
+          ∙ ap (λ (b : Bool). b && list_all is_readable h.read) bare.readable ∙ h.readable;
       asynchronous = told-asides report.asynchronous p.last.asynchronous h.read
           (startup_part (only_user user) nonce (messages g) ++ session_part (only_user user) nonce (messages g)) p.reports.asynchronous passed.shows aside;
       parameters = subst (λ (x : List (List ℕ × List ℕ)). AreLastValues (parameter_reports (messages g)) x) (sym (p.reports.parameters ∙ passed.kept))

@@ -1,12 +1,12 @@
 -- What stands where a session begins, and what its startup was.
 use Rattle.std.proofs.Common.{◌≡◌, ℕ, ◌==◌, List, [], ◌∷◌, ◌++◌, length, map, take, drop, Bool, true, false, ◌&&◌, ◌||◌, if◌then◌else◌, Option, None, Result, Ok, Err, refl, sym, ap, subst, ◌∙◌, append-nil}
-use Rattle.std.specs.Prelude.{filter_map, pos, ℤ, unwrap_or}
+use Rattle.std.specs.Prelude.{filter_map, is_none, not, pos, ℤ, unwrap_or}
 use Rattle.std.proofs.Math.Seq.{take-append_seam, drop-append_seam}
 use Rattle.std.specs.List.{cons_option, concat, list_all, last_or}
 use Rattle.std.specs.Str.{byte, is_utf8}
-use Rattle.pg_spec.specs.Causes.{is_built, is_built_message}
+use Rattle.pg_spec.specs.Causes.{aside_fault, is_built, is_built_message, is_readable}
 use Rattle.pg_spec.specs.ConnectionStrings.{only_user}
-use Rattle.pg_spec.specs.Faults.{FrameFault, WireFault, Parse, NotText, Io, Wire}
+use Rattle.pg_spec.specs.Faults.{Cause, FrameFault, WireFault, Parse, NotText, Io, Wire}
 use Rattle.pg_spec.specs.Frames.{startup_frame}
 use Rattle.pg_spec.specs.Links.{LinkView, Grew}
 use Rattle.pg_spec.specs.Messages.{Message, message_of}
@@ -51,6 +51,7 @@ stood-start user nonce scripts before link startup opening new o fresh is =
       out = ap (λ (c : Bool). (opening ++ []) ++ goodbye false c) fresh.active ∙ append-nil (opening ++ []) ∙ ap (λ (l : List ℕ). opening ++ l) (sym fresh.unsent);
       delivered = sym (ap waiting fresh.held);
       handed_out = sym (ap (map notice_of) fresh.delayed);
+      readable = refl;
       kept = fresh.parameters;
       count = fresh.given ∙ o.count;
       counted = fresh.delivered;
@@ -149,27 +150,30 @@ is-started user nonce opening first more ms frame ends is =
 abbrev report_in : RawMessage → Option (List ℕ × List ℕ)
 report_in raw = elim (message_of raw) [ Ok message ↦ report_of message | Err fault ↦ None ]
 
--- it is no notice, notification or report, and tells no key
+-- it is no notice, notification or report, tells no key, and can be read
 record IsBare (raw : RawMessage) : Type 0 where
   key : key_of_raw raw ≡ None
   report : report_in raw ≡ None
   async : is_async raw ≡ false
+  readable : is_readable raw ≡ true
 
 -- the messages are so
 pub record AreBare (ms : List RawMessage) : Type 0 where
   pub keys : filter_map key_of_raw ms ≡ []
   pub reports : parameter_reports ms ≡ []
   pub async : async_of ms ≡ []
+  pub readable : list_all is_readable ms ≡ true
 
 -- a message that is known
 record IsKnown (m : Message) : Type 0 where
   kind : kind m ≡ 0
   key : key_of m ≡ None
   report : report_of m ≡ None
+  readable : aside_fault m ≡ None
 
 known : (m : Message) → is_built_message m ≡ true → IsKnown m
-known spec.AuthenticationOk e = record { kind = refl; key = refl; report = refl }
-known (spec.ReadyForQuery status) e = record { kind = refl; key = refl; report = refl }
+known spec.AuthenticationOk e = record { kind = refl; key = refl; report = refl; readable = refl }
+known (spec.ReadyForQuery status) e = record { kind = refl; key = refl; report = refl; readable = refl }
 known _ e = absurd cc
 
 no_aside : (raw : RawMessage) (b : Bool) → is_async raw ≡ b → (b ≡ true → raw.tag ≡ 0) → is_async raw ≡ false
@@ -184,10 +188,12 @@ bare-of raw (Ok m) is e =
       key = ap (λ (r : Result Message WireFault). elim r [ Ok message ↦ key_of message | Err fault ↦ None ]) is ∙ k.key;
       report = ap (λ (r : Result Message WireFault). elim r [ Ok message ↦ report_of message | Err fault ↦ None ]) is ∙ k.report;
       async = no_aside raw (is_async raw) refl (λ t. sym (aside_kind raw m (ap (λ (b : Bool). b || is_parameter raw) t) is) ∙ k.kind);
+      readable = ap (λ (r : Result Message WireFault). elim r [ Ok message ↦ is_none (aside_fault message) | Err fault ↦ not (is_async raw || is_parameter raw) ]) is
+          ∙ ap (λ (o : Option Cause). is_none o) k.readable;
     }
 
 pub are-bare : (ms : List RawMessage) → list_all is_built ms ≡ true → AreBare ms
-are-bare [] e = record { keys = refl; reports = refl; async = refl }
+are-bare [] e = record { keys = refl; reports = refl; async = refl; readable = refl }
 are-bare (m ∷ ms) e =
     let b = both-true (is_built m) (list_all is_built ms) e in
     let one = bare-of m (message_of m) refl b.0 in
@@ -196,6 +202,7 @@ are-bare (m ∷ ms) e =
       keys = ap (λ (o : Option (ℤ × ℤ)). cons_option o (filter_map key_of_raw ms)) one.key ∙ rest.keys;
       reports = ap (λ (o : Option (List ℕ × List ℕ)). cons_option o (parameter_reports ms)) one.report ∙ rest.reports;
       async = ap (λ (b : Bool). if b then m ∷ async_of ms else async_of ms) one.async ∙ rest.async;
+      readable = ap (λ (b : Bool). b && list_all is_readable ms) one.readable ∙ rest.readable;
     }
 
 pub no-key : (ms : List RawMessage) → AreBare ms → cancel_key ms ≡ (pos 0, pos 0)

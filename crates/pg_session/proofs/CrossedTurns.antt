@@ -1,8 +1,11 @@
 -- What passed through the connection and its hub, carried from turn to turn of a session.
-use Rattle.std.proofs.Common.{◌≡◌, inl, inr, ℕ, List, [], ◌++◌, length, map, true, false, IsTrue, Option, Some, None, sym, ap, subst, ◌∙◌, arith, append_assoc, append-nil, length-append}
+use Rattle.std.proofs.Common.{◌≡◌, inl, inr, ℕ, List, [], ◌++◌, length, map, true, false, IsTrue, Option, Some, None, sym, ap, subst, ◌∙◌, arith, append_assoc, append-nil, length-append, ◌&&◌, Bool}
 use Rattle.std.proofs.lemmas.List.{map-append}
 use Rattle.std.proofs.lemmas.List.Elements.{filter-append, filter_map-append}
+use Rattle.std.proofs.lemmas.List.Folds.{list_all-append}
 use Rattle.std.proofs.lemmas.List.Sums.{fold-append}
+use Rattle.std.specs.List.{list_all}
+use Rattle.pg_spec.specs.Causes.{is_readable}
 use Rattle.pg_spec.specs.Links.{LinkView, Grew}
 use Rattle.pg_spec.specs.Parameters.{parameter_reports}
 use Rattle.pg_spec.specs.RawMessages.{RawMessage, messages, bytes_left, has_bad_header, sync_of, async_of}
@@ -72,6 +75,7 @@ pub record Stood (opening : List ℕ) (startup : List RawMessage) (base : LinkVi
   pub out : (opening ++ bytes_out_by events) ++ goodbye false s.closing ≡ taken ++ s.unsent
   pub delivered : sync_of read ≡ delivered_by events ++ waiting s.held
   pub handed_out : async_of read ≡ handed ++ delayed_in s
+  pub readable : list_all is_readable read ≡ true
   pub kept : s.parameters ≡ keep_all [] (parameter_reports read)
   pub count : s.given ≡ length given
   pub counted : s.delivered ≡ risen 0 (length (delivered_by events))
@@ -111,6 +115,7 @@ stood-quiet opening startup base l a b s asides es h moves q =
       out = ap (λ (x : List ℕ). (opening ++ x) ++ goodbye false s.closing) (same-out h.events es q) ∙ h.out;
       delivered = h.delivered ∙ ap (λ (x : List RawMessage). x ++ waiting s.held) (sym (same-in h.events es q));
       handed_out = h.handed_out;
+      readable = h.readable;
       kept = h.kept;
       count = h.count;
       counted = h.counted ∙ ap (λ (x : List RawMessage). risen 0 (length x)) (sym (same-in h.events es q));
@@ -139,6 +144,7 @@ stood-rests opening startup base l m a s asides given taken h = record {
   out = h.out;
   delivered = h.delivered;
   handed_out = h.handed_out;
+  readable = h.readable;
   kept = h.kept;
   count = h.count;
   counted = h.counted;
@@ -229,6 +235,7 @@ stood-passing opening startup base l m a b s t old new h turn =
           ∙ ap (λ x. x ++ waiting t.held) (sym (delivered_by-append h.events es));
       handed_out = filter-append _ h.read p.read
           ∙ relay [] (async_of h.read) h.handed (delayed_in s) (async_of p.read) hs (delayed_in t) h.handed_out p.handed_out;
+      readable = list_all-append is_readable h.read p.read ∙ ap (λ (b : Bool). b && list_all is_readable p.read) h.readable ∙ p.readable;
       kept = p.kept ∙ ap (λ x. keep_all x (parameter_reports p.read)) h.kept
           ∙ sym (fold-append keep [] (parameter_reports h.read) (parameter_reports p.read))
           ∙ ap (keep_all []) (sym (filter_map-append _ h.read p.read));

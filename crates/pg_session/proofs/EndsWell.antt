@@ -124,6 +124,7 @@ ended user nonce scripts given before after report p g t e d =
       delivered_all = c.delivered_all;
       answers = ran.well.answers;
       answers_in_turn = ran.well.answers_in_turn;
+      readable = c.readable;
       asynchronous = c.asynchronous;
       parameters = c.parameters;
       key = c.key;

@@ -2,6 +2,7 @@
 use Rattle.std.specs.Prelude.{◌≡◌, ◌≢◌, ℕ, ◌≤◌, ◌++◌, IsTrue, IsFalse, List, length, map, Some, EachIndex}
 use Rattle.std.specs.List.{concat, list_all}
 use Rattle.pg_spec.specs.Book.{wire}
+use Rattle.pg_spec.specs.Causes.{is_readable}
 use Rattle.pg_spec.specs.ConnectionStrings.{only_user}
 use Rattle.pg_spec.specs.EndedWell.{Session, received, startup_of, startup_messages, later_messages, replies}
 use Rattle.pg_spec.specs.Frames.{terminate_frame}
@@ -41,6 +42,7 @@ pub record Crossed (s : Session) (taken : List ℕ) : Type 0 where
   pub whole_groups : IsTrue (list_all is_whole_group (replies s))
   pub no_bad_header : IsFalse (has_bad_header (bytes_left s.given))
   pub delivered_all : delivered_before s.report.trace (length s.report.trace) ≡ length (sync_of (later_messages s))
+  pub readable : IsTrue (list_all is_readable (received s))
   pub asynchronous : map (λ m. Some m) s.report.asynchronous ≡ map async_of_raw (async_of (startup_messages s ++ later_messages s))
   pub parameters : AreLastValues (parameter_reports (received s)) s.report.parameters
   pub key : (s.report.process_id, s.report.secret_key) ≡ cancel_key (startup_messages s)
