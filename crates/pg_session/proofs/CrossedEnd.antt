@@ -58,7 +58,7 @@ by_answer turn s t l m (Ready None) h hands trace = record { closing = h.turns.g
 by_answer turn s t l m (Ready (Some (Ok message))) h hands trace = not_over hands.1
 by_answer turn s t l m (Ready (Some (Err e))) h hands trace = absurd hands
 
-is-last : (scripts : List (List Command)) (turn : ℕ) (s t : SessionState) (l m : LinkView) → Makes scripts turn s t l m true → IsLast s t
+pub is-last : (scripts : List (List Command)) (turn : ℕ) (s t : SessionState) (l m : LinkView) → Makes scripts turn s t l m true → IsLast s t
 is-last scripts turn s t l m (inl made) = not_over made.goes_on
 is-last scripts turn s t l m (inr made) = by_answer turn s t l m made.made.answer made.made.polled made.made.hands made.made.trace
 

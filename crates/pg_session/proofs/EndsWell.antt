@@ -8,15 +8,7 @@ use Rattle.pg_spec.specs.Links.{LinkView, added}
 use Rattle.pg_spec.specs.RawMessages.{RawMessage, is_aside, is_whole_group, messages, sync_of}
 use Rattle.pg_spec.specs.Report as told
 use Rattle.pg_spec.specs.Turns.{IsTrace, Times, delivered_before}
-use Rattle.futures.specs.declared.task.Poll.{Poll}
-use Rattle.futures.specs.declared.task.Poll.TheVariants.{Ready, Pending}
-use Rattle.pg_connect.specs.Answers.{PollAnswers}
 use Rattle.pg_connect.specs.Passed.{delivered_by}
-use Rattle.pg_connect.specs.declared.streams.Streams.{Streams}
-use Rattle.pg_errors.specs.declared.async_message.AsyncMessage.{AsyncMessage}
-use Rattle.pg_faults.specs.declared.error.Error.{Error}
-use Rattle.pg_hub.specs.Fits.{HubBecomes}
-use Rattle.pg_hub.specs.Standing.{Standing}
 use Rattle.pg_desk.specs.History.{IsFrontOf}
 use Rattle.pg_text.specs.Views.{command_of, mark_of, report_of, scripts_of}
 use Rattle.pg_text.specs.declared.command.Command.{Command}
@@ -31,11 +23,9 @@ use Rattle.pg_session.proofs.LivesLink.{came-behind}
 use Rattle.pg_session.proofs.LivesWhole.{ran-and-answered, said-so, has-run}
 use Rattle.pg_session.proofs.OrderHolds.{turns_are_in_order}
 use Rattle.pg_session.specs.Crossed.{session_of}
-use Rattle.pg_session.specs.WholeSession.{EndsWell, IsClosed}
+use Rattle.pg_session.specs.WholeSession.{EndsWell}
 use Rattle.pg_session.specs.Lives.{calls_of}
 use Rattle.pg_session.specs.Sessions.{HasPlayed}
-use Rattle.pg_session.specs.States.{SessionState}
-use Rattle.pg_session.specs.Turns.{HandsOn, Makes}
 
 -- ---- no reply came before its request
 
@@ -154,25 +144,3 @@ has-ended user nonce scripts given before after report p =
           (answers-at-once (scripts_of scripts) told.answers told.book told.trace said.schedule
           (delivered_by (calls_of scripts given p.new p.link p.last after p.plays)) said.ran said.follow),
     )
-
--- ---- the link
-
--- the poll that answered the end
-over-closed : (a b : Standing) (s t : Streams) (l m : LinkView) (answer : Poll (Option (Result AsyncMessage Error))) (was now : List AsyncMessage) →
-    PollAnswers HubBecomes a b s t l m answer → HandsOn answer was now true → IsClosed m
-over-closed a b s t l m Pending was now p hands = absurd (let no : true ≡ false = hands.1 in cc)
-over-closed a b s t l m (Ready None) was now p hands = record { flushed = p.turns.goes.ended.flushed; shut = p.turns.goes.ended.shut }
-over-closed a b s t l m (Ready (Some (Ok message))) was now p hands = absurd (let no : true ≡ false = hands.1 in cc)
-over-closed a b s t l m (Ready (Some (Err e))) was now p hands = absurd hands
-
-turn-closed : (scripts : List (List Command)) (turn : ℕ) (s t : SessionState) (l m : LinkView) → Makes scripts turn s t l m true → IsClosed m
-turn-closed scripts turn s t l m (inl handle) = absurd (let no : true ≡ false = handle.goes_on in cc)
-turn-closed scripts turn s t l m (inr connection) =
-    let made = connection.made in
-    over-closed s.hub t.hub s.streams t.streams l m made.answer s.asynchronous t.asynchronous made.polled made.hands
-
--- a session that was played to its end leaves the link flushed and shut down
-pub is-closed : (user nonce : List ℕ) (scripts : List (List Command)) (given : List ℕ) (before after : LinkView) (report : Report) →
-    HasPlayed user nonce scripts given before after report → IsClosed after
-is-closed user nonce scripts given before after report p =
-    turn-closed scripts p.plays.last p.plays.ends.state p.last p.plays.ends.link after p.plays.ends.over

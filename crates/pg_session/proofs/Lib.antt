@@ -40,6 +40,7 @@ pub mod CrossedFront
 pub mod CrossedEnd
 pub mod CrossedAll
 pub mod EndsWell
+pub mod Closing
 pub mod EventsMoves
 pub mod EventsOf
 pub mod StartCausesSent

@@ -11,13 +11,17 @@ use Rattle.pg_session.specs.Sessions.{Rests, MakesAll}
 -- ---- the link between two turns
 
 pub rests_none : (l : LinkView) → Rests l l
-rests_none l = record { bytes = record { given = refl; taken = refl; due = refl }; keeps = keeps_same l }
+rests_none l = record { bytes = record { given = refl; taken = refl; due = refl }; writing = record { flushed = refl; shut = refl }; keeps = keeps_same l }
 
 bytes_then : (a b c : LinkView) → SameBytes a b → SameBytes b c → SameBytes a c
 bytes_then a b c p q = record { given = q.given ∙ p.given; taken = q.taken ∙ p.taken; due = q.due ∙ p.due }
 
 pub rests_then : (a b c : LinkView) → Rests a b → Rests b c → Rests a c
-rests_then a b c p q = record { bytes = bytes_then a b c p.bytes q.bytes; keeps = keeps_then a b c p.keeps q.keeps }
+rests_then a b c p q = record {
+  bytes = bytes_then a b c p.bytes q.bytes;
+  writing = record { flushed = q.writing.flushed ∙ p.writing.flushed; shut = q.writing.shut ∙ p.writing.shut };
+  keeps = keeps_then a b c p.keeps q.keeps;
+}
 
 -- ---- turns behind others
 

@@ -5,7 +5,7 @@ use Rattle.futures.specs.declared.task.Poll.TheVariants.{Ready}
 use Rattle.pg_spec.specs.Links.{LinkView, Rose, next_count}
 use Rattle.pg_connect.specs.Answers.{IsWithinPoll, PollAnswers}
 use Rattle.pg_connect.specs.Calm.{MissesFew, MissesOne, StaysCalm}
-use Rattle.pg_wire.specs.LinkCalls.{Keeps, SameBytes}
+use Rattle.pg_wire.specs.LinkCalls.{Keeps, SameBytes, SameWriting}
 use Rattle.pg_connect.specs.Startups.{Opened, Opening}
 use Rattle.pg_connect.specs.StartupPolls.{IsFresh, GoesOn}
 use Rattle.pg_connect.specs.declared.startup.Startup.{Startup}
@@ -112,6 +112,7 @@ pub record GivesOut (scripts : List (List Command)) (s : SessionState) (l m : Li
   pub calm : StaysCalm l passed
   pub within : last.streams.given ≤ last.streams.max_bytes
   pub bytes : SameBytes passed m
+  pub writing : SameWriting passed m
   pub waited : Bool
   pub promised : waited ≡ true → IsTrue link.promised
   pub fails : PauseFails link.quiet passed.quiet waited passed m e

@@ -1,7 +1,7 @@
 -- A whole session: the startup, the turns one after another, and the report.
 use Rattle.std.specs.Prelude.{◌≡◌, ◌<◌, ◌≤◌, ◌+◌, ◌^◌, ◌⊎◌, ℕ, zero, suc, true, false, List, [], ◌∷◌, ◌++◌, length, Some}
 use Rattle.pg_spec.specs.Links.{LinkView}
-use Rattle.pg_wire.specs.LinkCalls.{SameBytes, Keeps}
+use Rattle.pg_wire.specs.LinkCalls.{SameBytes, SameWriting, Keeps}
 use Rattle.pg_desk.specs.History.{start, IsFrontOf}
 use Rattle.pg_hub.specs.Fits.{Fits}
 use Rattle.pg_hub.specs.Standing.{Standing}
@@ -17,6 +17,7 @@ use Rattle.pg_session.specs.Turns.{Closes, Makes, Turns}
 -- between two turns the link may be waited for
 pub record Rests (before after : LinkView) : Type 0 where
   pub bytes : SameBytes before after
+  pub writing : SameWriting before after
   pub keeps : Keeps before after
 
 -- these turns were made one after another, and the connection wasn't shut down in any of them

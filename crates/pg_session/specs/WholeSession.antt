@@ -1,6 +1,9 @@
--- The main theorem, of a session that was played.
-use Rattle.std.specs.Prelude.{ℕ, IsTrue, List}
+-- The main theorem, of a session that was played, and how sessions leave their link.
+use Rattle.std.specs.Prelude.{◌≡◌, ◌⊎◌, ℕ, IsFalse, IsTrue, List, ◌++◌}
+use Rattle.pg_faults.specs.declared.error.Error.{Error}
+use Rattle.pg_faults.specs.declared.error.Error.TheVariants.{OutOfMemory}
 use Rattle.pg_spec.specs.EndedWell.{EndedWell}
+use Rattle.pg_spec.specs.Frames.{terminate_frame}
 use Rattle.pg_spec.specs.Links.{LinkView, OfBytes}
 use Rattle.pg_text.specs.declared.command.Command.{Command}
 use Rattle.pg_text.specs.declared.report.Report.{Report}
@@ -10,7 +13,16 @@ use Rattle.pg_session.specs.Crossed.{session_of}
 abbrev pub EndsWell : (user nonce : List ℕ) (scripts : List (List Command)) (given : List ℕ) (before after : LinkView) → Report → Type 0
 EndsWell user nonce scripts given before after report = OfBytes before after (λ g t. EndedWell (session_of user nonce scripts given report g) t)
 
--- all that the link took is flushed, and it is shut down
-pub record IsClosed (link : LinkView) : Type 0 where
-  pub flushed : IsTrue link.flushed
-  pub shut : IsTrue link.shut
+-- All that the link took is flushed, and it is shut down. Of a link that was shut down before nothing is known of flushes.
+pub record IsClosed (before after : LinkView) : Type 0 where
+  pub flushed : IsFalse before.shut → IsTrue after.flushed
+  pub shut : IsTrue after.shut
+
+-- The same, and where the link tells its bytes, the last that it took are Terminate.
+pub record WasClosed (before after : LinkView) : Type 0 where
+  pub closed : IsClosed before after
+  pub sent : OfBytes before after (λ g t. (front : List ℕ) × (t ≡ front ++ terminate_frame))
+
+-- A session that fails doesn't shut the link down, but where memory lacked behind its end.
+abbrev pub LeavesOpen : (before after : LinkView) → Error → Type 0
+LeavesOpen before after e = (after.shut ≡ before.shut) ⊎ ((e ≡ OutOfMemory) × WasClosed before after)

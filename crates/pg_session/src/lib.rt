@@ -21,6 +21,9 @@ pub use handle_turn::Polling;
 pub use lives::{what_came, what_commands_answered, what_handles_did, what_was_answered};
 pub use main_theorem::every_session_ends_well;
 pub use measure::{each_turn_is_nearer, turns_leave_no_more};
-pub use sent::{what_was_asked_where_it_stalled, what_was_sent_where_it_failed};
+pub use sent::{
+    the_link_stays_open_where_it_failed, what_was_asked_where_it_stalled,
+    what_was_sent_where_it_failed,
+};
 pub use turn_order::turns_in_order;
 pub use turns_given::what_was_sent_gives_few_turns;

@@ -11,13 +11,13 @@ ghost use Rattle.pg_session.specs.WholeSession.{EndsWell, IsClosed};
 ghost use Rattle.pg_session.specs.Sessions.{HasPlayed};
 
 /// Where the link tells its bytes, a session that was played to its end ended well. Also where it tells
-/// nothing, all that it took is flushed, it is shut down, and the turns, the book and the answers are those of
-/// the scripts.
+/// nothing, all that it took is flushed and it is shut down, which it isn't before the last turn; and the turns, the
+/// book and the answers are those of the scripts.
 pub fn every_session_ends_well()
     ensures ended_well { (user nonce : List ℕ) (scripts : List (List Command)) (given : List ℕ) (before after : LinkView) (report : Report) →
         HasPlayed user nonce scripts given before after report → EndsWell user nonce scripts given before after report }
     ensures closed { (user nonce : List ℕ) (scripts : List (List Command)) (given : List ℕ) (before after : LinkView) (report : Report) →
-        HasPlayed user nonce scripts given before after report → IsClosed after }
+        HasPlayed user nonce scripts given before after report → IsClosed before after }
     ensures has_run { (user nonce : List ℕ) (scripts : List (List Command)) (given : List ℕ) (before after : LinkView) (report : Report) →
         HasPlayed user nonce scripts given before after report → (schedule : List (List Times)) × HasRun (scripts_of scripts) given (report_of report) schedule }
 {}

@@ -1,16 +1,18 @@
-//! What was sent where a session failed. Each body does nothing.
+//! What was sent where a session failed, and how the link stands then. Each body does nothing.
 
 ghost use Rattle.std.specs.Prelude.{◌≡◌, ℕ, List, Err};
 ghost use Rattle.pg_spec.specs.Causes.{Call, OfDialogue};
 ghost use Rattle.pg_spec.specs.ConnectionStrings.{only_user, Means};
 ghost use Rattle.pg_spec.specs.Faults as faults;
+ghost use Rattle.pg_spec.specs.Links.{LinkView};
 ghost use Rattle.pg_spec.specs.Promises.{NoneKeptBack, SentInOrder};
 ghost use Rattle.pg_connect.specs.Startups.{Failed};
 ghost use Rattle.pg_connect.specs.declared.startup.Startup.{Startup};
 ghost use Rattle.pg_faults.specs.declared.error.Error.{Error};
 ghost use Rattle.pg_text.specs.Views.{scripts_of};
 ghost use Rattle.pg_text.specs.declared.command.Command.{Command};
-ghost use Rattle.pg_session.specs.Failures.{HasBroken, StopsOpening};
+ghost use Rattle.pg_session.specs.Failures.{HasBroken, StopsOpening, WasOver};
+ghost use Rattle.pg_session.specs.WholeSession.{LeavesOpen, WasClosed};
 
 /// Where a session failed in its startup, a front of the startup's frame was sent; where it failed behind it, the
 /// frame and then a front of requests and Terminate, each handle's requests in the order of its script.
@@ -32,4 +34,13 @@ pub fn what_was_asked_where_it_stalled()
     ensures later { (call : Call) (user : List ℕ) (scripts : List (List Command)) (before after : ℕ) → Means call.config (only_user user) → call.scripts ≡ scripts_of scripts →
         (b : HasBroken user call.nonce scripts call.before call.after (Error.Stalled before after)) → b.startup.max_bytes ≡ call.limit →
         NoneKeptBack call (Err (faults.Stalled before after)) }
+{}
+
+/// Where a session failed behind its startup, the link isn't shut down, unless memory lacked behind its end: then
+/// Terminate was taken and flushed, and the link is shut down.
+pub fn the_link_stays_open_where_it_failed()
+    ensures later { (user nonce : List ℕ) (scripts : List (List Command)) (before after : LinkView) (e : Error) →
+        HasBroken user nonce scripts before after e → LeavesOpen before after e }
+    ensures over { (user nonce : List ℕ) (scripts : List (List Command)) (before after : LinkView) →
+        WasOver user nonce scripts before after → WasClosed before after }
 {}

@@ -1,4 +1,5 @@
-use Rattle.pg_session.proofs.EndsWell.{ends-well, has-ended, is-closed}
+use Rattle.pg_session.proofs.Closing.{is-closed}
+use Rattle.pg_session.proofs.EndsWell.{ends-well, has-ended}
 use Rattle.pg_session.proofs.main_theorem.every_session_ends_well.Goals as goal
 
 pub returns-clause-ended_well : goal.returns-clause-ended_well

@@ -1,0 +1,8 @@
+use Rattle.pg_session.proofs.Closing.{broken-open, over-closed}
+use Rattle.pg_session.proofs.sent.the_link_stays_open_where_it_failed.Goals as goal
+
+pub returns-clause-later : goal.returns-clause-later
+returns-clause-later c = broken-open
+
+pub returns-clause-over : goal.returns-clause-over
+returns-clause-over c = over-closed
