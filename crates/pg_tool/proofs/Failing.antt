@@ -8,6 +8,8 @@ use Rattle.pg_faults.specs.declared.error.Error.{Error}
 use Rattle.pg_faults.specs.declared.error.Error.TheVariants as error
 use Rattle.pg_spec.specs.Links.{LinkView}
 use Rattle.pg_wire.specs.LinkCalls.{SameBytes}
+use Rattle.pg_connect.proofs.Calm.{calm_then}
+use Rattle.pg_connect.specs.Calm.{StaysCalm}
 use Rattle.pg_session.specs.Failures.{BreaksOff, GivesOut, HasFailed, IsFine, PauseFails, RunsShort, TurnFails}
 use Rattle.pg_session.specs.Sessions.{MakesAll, rounds}
 use Rattle.pg_session.specs.States.{SessionState}
@@ -63,9 +65,9 @@ rounds_fail scripts s l mid k m e before fails = elim fails [
 
 -- the pause behind a round in which nothing moved failed
 pub pause_fails : (scripts : List (List Command)) (s : SessionState) (l : LinkView) (mid : SessionState) (k : LinkView) (t : SessionState) (n m : LinkView) (moved waited : Bool) (e : Error) →
-    RoundsMade scripts s l mid k → RoundWhole scripts mid k t n moved → t.streams.given ≤ t.streams.max_bytes → SameBytes n m → moved ≡ false → (waited ≡ true → IsTrue k.promised) → PauseFails k.quiet n.quiet waited n m e →
+    RoundsMade scripts s l mid k → RoundWhole scripts mid k t n moved → StaysCalm l n → t.streams.given ≤ t.streams.max_bytes → SameBytes n m → moved ≡ false → (waited ≡ true → IsTrue k.promised) → PauseFails k.quiet n.quiet waited n m e →
     HasFailed scripts s l m e
-pause_fails scripts s l mid k t n m moved waited e before round within bytes none promised fails = inr (inr (record {
+pause_fails scripts s l mid k t n m moved waited e before round calm within bytes none promised fails = inr (inr (record {
   turns = rounds (length scripts) before.count;
   state = mid;
   link = k;
@@ -73,6 +75,7 @@ pause_fails scripts s l mid k t n m moved waited e before round within bytes non
   last = t;
   passed = n;
   round = round.stays none;
+  calm = calm;
   within = within;
   bytes = bytes;
   waited = waited;
@@ -81,8 +84,8 @@ pause_fails scripts s l mid k t n m moved waited e before round within bytes non
 }))
 
 gives_behind : (scripts : List (List Command)) (turns : List ℕ) (s : SessionState) (l : LinkView) (mid : SessionState) (k m : LinkView) (e : Error) →
-    MakesAll scripts turns s l mid k → GivesOut scripts mid k m e → GivesOut scripts s l m e
-gives_behind scripts turns s l mid k m e before b = record {
+    MakesAll scripts turns s l mid k → StaysCalm l k → GivesOut scripts mid k m e → GivesOut scripts s l m e
+gives_behind scripts turns s l mid k m e before calm b = record {
   turns = turns ++ b.turns;
   state = b.state;
   link = b.link;
@@ -90,6 +93,7 @@ gives_behind scripts turns s l mid k m e before b = record {
   last = b.last;
   passed = b.passed;
   round = b.round;
+  calm = calm_then l k b.passed calm b.calm;
   within = b.within;
   bytes = b.bytes;
   waited = b.waited;
@@ -98,20 +102,20 @@ gives_behind scripts turns s l mid k m e before b = record {
 }
 
 fails_behind : (scripts : List (List Command)) (turns : List ℕ) (s : SessionState) (l : LinkView) (mid : SessionState) (k m : LinkView) (e : Error) →
-    MakesAll scripts turns s l mid k → HasFailed scripts mid k m e → HasFailed scripts s l m e
-fails_behind scripts turns s l mid k m e before fails = elim fails [
+    MakesAll scripts turns s l mid k → StaysCalm l k → HasFailed scripts mid k m e → HasFailed scripts s l m e
+fails_behind scripts turns s l mid k m e before calm fails = elim fails [
   | inl short ↦ inl (short_behind scripts turns s l mid k m e before short)
   | inr other ↦ elim other [
     | inl breaks ↦ inr (inl (breaks_behind scripts turns s l mid k m e before breaks))
-    | inr gives ↦ inr (inr (gives_behind scripts turns s l mid k m e before gives))
+    | inr gives ↦ inr (inr (gives_behind scripts turns s l mid k m e before calm gives))
   ]
 ]
 
 -- the rounds failed behind the given turns
 pub run_fails : (scripts : List (List Command)) (turns : List ℕ) (s : SessionState) (l : LinkView) (mid : SessionState) (k m : LinkView) (r : Result (Unit {0}) Error) →
-    MakesAll scripts turns s l mid k → IfErr r (HasFailed scripts mid k m) → IfErr r (HasFailed scripts s l m)
-run_fails scripts turns s l mid k m (Ok x) before fails = tt
-run_fails scripts turns s l mid k m (Err e) before fails = fails_behind scripts turns s l mid k m e before fails
+    MakesAll scripts turns s l mid k → StaysCalm l k → IfErr r (HasFailed scripts mid k m) → IfErr r (HasFailed scripts s l m)
+run_fails scripts turns s l mid k m (Ok x) before calm fails = tt
+run_fails scripts turns s l mid k m (Err e) before calm fails = fails_behind scripts turns s l mid k m e before calm fails
 
 -- ---- want of memory
 

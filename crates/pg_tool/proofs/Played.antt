@@ -1,5 +1,6 @@
 -- A session that was opened, played and reported.
 use Rattle.std.proofs.Common.{◌≡◌, ℕ, ◌<◌, ◌^◌, List, IfErr, IfOk, Result, Ok, Err, inl, inr, sym, ap, subst, arith}
+use Rattle.pg_connect.specs.Calm.{StaysCalm}
 use Rattle.pg_connect.specs.Startups.{Opened}
 use Rattle.pg_connect.specs.StartupPolls.{IsFresh}
 use Rattle.pg_connect.specs.declared.startup.Startup.{Startup}
@@ -51,13 +52,14 @@ played_as config user nonce scripts given limit before after (Err e) means playe
 played_as config user nonce scripts given limit before after (Ok report) means played = (user, means, played.0)
 
 pub breaks_later : (user nonce : List ℕ) (scripts : List (List Command)) (limit : ℕ) (before link after : LinkView) (startup : Startup) (opening : List ℕ) (streams : Streams) (p : Play) (e : Error) →
-    startup.max_bytes ≡ limit → Opened user nonce before link startup → IsFresh startup opening streams → p.streams ≡ streams → IsNewSession scripts (state_of p) →
+    startup.max_bytes ≡ limit → Opened user nonce before link startup → StaysCalm before link → IsFresh startup opening streams → p.streams ≡ streams → IsNewSession scripts (state_of p) →
     HasFailed scripts (state_of p) link after e → BreaksLater user nonce scripts limit before after e
-breaks_later user nonce scripts limit before link after startup opening streams p e limited opened fresh same new fails = record {
+breaks_later user nonce scripts limit before link after startup opening streams p e limited opened calm fresh same new fails = record {
   broken = record {
     startup = startup;
     link = link;
     opened = opened;
+    calm = calm;
     opening = opening;
     new = state_of p;
     fresh = subst (λ s. IsFresh startup opening s) (sym same) fresh;

@@ -3,7 +3,7 @@ use Rattle.std.proofs.Common.{◌≡◌, ◌≤◌, ◌<◌, ℕ, ◌+◌, ◌*�
 use Rattle.std.specs.Prelude.{IsTrue}
 use Rattle.pg_spec.specs.Links.{LinkView}
 use Rattle.pg_wire.specs.LinkCalls.{Keeps, SameBytes, SameWriting, Continues}
-use Rattle.pg_connect.specs.Calm.{MissesOne}
+use Rattle.pg_connect.specs.Calm.{MissesOne, StaysCalm}
 use Rattle.pg_faults.specs.declared.cause.Cause.TheVariants as cause
 use Rattle.pg_faults.specs.declared.error.Error.{Error}
 use Rattle.pg_faults.specs.declared.error.Error.TheVariants as error
@@ -38,9 +38,9 @@ open_fails name nonce begin now s (error.Stalled before after) f = absurd f.fail
 open_fails name nonce begin now s _ f = f
 
 -- behind a poll that moved nothing, a pause ended it
-pub open_stops : (name nonce : List ℕ) (begin l a b : LinkView) (s : Startup) (waited : Bool) (e : Error) → Keeps begin l → Opening name nonce begin a s → s.given ≤ s.max_bytes → GoesOn s l a → MissesOne l a → s.moved ≡ false →
+pub open_stops : (name nonce : List ℕ) (begin l a b : LinkView) (s : Startup) (waited : Bool) (e : Error) → Keeps begin l → Opening name nonce begin a s → s.given ≤ s.max_bytes → GoesOn s l a → MissesOne l a → StaysCalm begin a → s.moved ≡ false →
     (waited ≡ true → IsTrue l.promised) → SameBytes a b → SameWriting a b → Keeps a b → PauseFails l.quiet a.quiet waited a b e → OpenEnds name nonce begin b s (Err e)
-open_stops name nonce begin l a b s waited (error.Stalled x y) keeps-l o within goes_on misses unmoved promised bytes writing keeps fails = record {
+open_stops name nonce begin l a b s waited (error.Stalled x y) keeps-l o within goes_on misses calm unmoved promised bytes writing keeps fails = record {
   link = l;
   keeps = keeps-l;
   polled = a;
@@ -48,15 +48,17 @@ open_stops name nonce begin l a b s waited (error.Stalled x y) keeps-l o within 
   within = within;
   goes_on = goes_on;
   misses = misses;
+  calm = calm;
   unmoved = unmoved;
   waited = waited;
   promised = promised;
   fails = fails;
 }
-open_stops name nonce begin l a b s waited (error.Io cause.Link) keeps-l o within goes_on misses unmoved promised bytes writing keeps fails =
+open_stops name nonce begin l a b s waited (error.Io cause.Link) keeps-l o within goes_on misses calm unmoved promised bytes writing keeps fails =
     opening-failed name nonce begin b s s (error.Io cause.Link) (opening_waits name nonce begin a b s o bytes writing keeps) refl
     (rose_later begin.faults a.faults b.faults o.link.counts.faults fails) (subst (λ (n : ℕ). n ≤ s.max_bytes) (opening_waits name nonce begin a b s o bytes writing keeps).count within)
-open_stops name nonce begin l a b s waited _ keeps-l o within goes_on misses unmoved promised bytes writing keeps fails = absurd fails
+    tt
+open_stops name nonce begin l a b s waited _ keeps-l o within goes_on misses calm unmoved promised bytes writing keeps fails = absurd fails
 
 -- however it ends, the link goes on from where it stood
 pub open_continues : (name nonce : List ℕ) (begin now : LinkView) (s : Startup) (r : Result (Unit {0}) Error) → OpenEnds name nonce begin now s r → Continues begin now

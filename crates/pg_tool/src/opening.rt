@@ -81,7 +81,7 @@ pub(crate) fn open<L: Link>(startup: &mut Startup, link: &mut L) -> Result<(), E
     requires limit { startup.old.max_bytes < 2 ^ 63 }
     requires given { startup.old.given ≤ startup.old.max_bytes }
     ensures answer { (name nonce : List ℕ) (begin : LinkView) → Opening name nonce begin (L.view link.old) startup.old →
-        OpenEnds name nonce begin (L.view link.new) startup.new result }
+        StaysCalm begin (L.view link.old) → OpenEnds name nonce begin (L.view link.new) startup.new result }
     ensures same { SameStart startup.old startup.new }
     ensures calm { OnOk result (StaysCalm (L.view link.old) (L.view link.new)) }
 {

@@ -7,21 +7,24 @@ use Rattle.pg_tool.proofs.Waiting.{counted_so, fewer_left, open_fails, open_stop
 use Rattle.pg_tool.proofs.opening.open.Goals as goal
 
 pub returns-in-Ok-None-clause-answer : goal.returns-in-Ok-None-clause-answer
-returns-in-Ok-None-clause-answer g c name nonce begin at =
+returns-in-Ok-None-clause-answer g c name nonce begin at calm =
     rw c.in-Ok-None.field-0-is at (c.in-Ok-None.ensures.answer name nonce begin (c.polls.invariant.opening name nonce begin at))
 
 pub returns-in-Err-clause-answer : goal.returns-in-Err-clause-answer
-returns-in-Err-clause-answer g c name nonce begin at =
+returns-in-Err-clause-answer g c name nonce begin at calm =
     open_fails name nonce begin (g.L.Link.view c.poll_once.new.link) c.poll_once.new.startup c.in-Err.error
     (c.in-Err.ensures.answer name nonce begin (c.polls.invariant.opening name nonce begin at))
 
 pub returns-in-Err-pause-clause-answer : goal.returns-in-Err-pause-clause-answer
-returns-in-Err-pause-clause-answer g c name nonce begin at =
+returns-in-Err-pause-clause-answer g c name nonce begin at calm =
+    let l = g.L.Link.view c.args.link.now in
+    let k = g.L.Link.view c.polls.link in
+    let n = g.L.Link.view c.poll_once.new.link in
     let o = rw c.in-Ok-Some.field-0-is at (c.in-Ok-Some.ensures.answer name nonce begin (c.polls.invariant.opening name nonce begin at)) in
     let w = rw c.in-Ok-Some.field-0-is at c.in-Ok-Some.ensures.waits in
     let end = c.in-Err-pause.ensures.end in
     open_stops name nonce begin (g.L.Link.view c.polls.link) (g.L.Link.view c.poll_once.new.link) (g.L.Link.view c.pause.new.link) c.poll_once.new.startup
-    c.polls.waited c.in-Err-pause.error (keeps_then begin (g.L.Link.view c.args.link.now) (g.L.Link.view c.polls.link) at.link c.polls.invariant.link) o w.within w.goes_on w.misses (sym w.says ∙ end.0) c.polls.invariant.promised
+    c.polls.waited c.in-Err-pause.error (keeps_then begin (g.L.Link.view c.args.link.now) (g.L.Link.view c.polls.link) at.link c.polls.invariant.link) o w.within w.goes_on w.misses (calm_then begin l n calm (calm_then l k n c.polls.invariant.calm c.poll_once.ensures.calm)) (sym w.says ∙ end.0) c.polls.invariant.promised
     c.in-Err-pause.ensures.bytes c.in-Err-pause.ensures.writing c.in-Err-pause.ensures.keeps (counted_so c.quiet-before.result (g.L.Link.view c.polls.link).quiet c.quiet-after.result (g.L.Link.view c.poll_once.new.link).quiet c.polls.waited
     (g.L.Link.view c.poll_once.new.link) (g.L.Link.view c.pause.new.link) c.in-Err-pause.error c.quiet-before.ensures c.quiet-after.ensures end.1)
 

@@ -45,12 +45,14 @@ rounds-smaller g c =
 
 pub returns-in-Err-pause-clause-fails : goal.returns-in-Err-pause-clause-fails
 returns-in-Err-pause-clause-fails g c =
+    let l = g.L.Link.view c.args.link.now in
     let k = g.L.Link.view c.rounds.link in
     let n = g.L.Link.view c.round.new.link in
     let m = g.L.Link.view c.pause.new.link in
     let end = c.in-Err-pause.ensures.end in
-    pause_fails c.args.scripts.now (state_of c.args.self.now) (g.L.Link.view c.args.link.now) (state_of c.rounds.self) k (state_of c.round.new.self) n m
-    c.in-Ok-Some.moved c.rounds.waited c.in-Err-pause.error c.rounds.invariant.made (rw c.in-Ok-Some.field-0-is at c.in-Ok-Some.ensures.made) c.in-Ok-Some.ensures.leaves.limited.0 c.in-Err-pause.ensures.bytes end.0 c.rounds.invariant.promised
+    pause_fails c.args.scripts.now (state_of c.args.self.now) l (state_of c.rounds.self) k (state_of c.round.new.self) n m
+    c.in-Ok-Some.moved c.rounds.waited c.in-Err-pause.error c.rounds.invariant.made (rw c.in-Ok-Some.field-0-is at c.in-Ok-Some.ensures.made) (calm_then l k n c.rounds.invariant.calm c.in-Ok-Some.ensures.crosses.calm)
+    c.in-Ok-Some.ensures.leaves.limited.0 c.in-Err-pause.ensures.bytes end.0 c.rounds.invariant.promised
     (counted_so c.quiet-before.result k.quiet c.quiet-after.result n.quiet c.rounds.waited n m c.in-Err-pause.error c.quiet-before.ensures c.quiet-after.ensures end.1)
 
 pub returns-in-Ok-None-clause-limited : goal.returns-in-Ok-None-clause-limited

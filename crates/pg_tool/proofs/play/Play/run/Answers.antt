@@ -41,7 +41,7 @@ returns-in-Err-clause-fails g c =
 pub returns-clause-fails : goal.returns-clause-fails
 returns-clause-fails g c =
     run_fails c.args.scripts.now (take c.turns.turn-index c.args.turns.now) (state_of c.args.self.now) (g.L.Link.view c.args.link.now) (state_of c.turns.self) (g.L.Link.view c.turns.link)
-    (g.L.Link.view c.rounds.new.link) c.rounds.result c.turns.invariant.made c.rounds.ensures.fails
+    (g.L.Link.view c.rounds.new.link) c.rounds.result c.turns.invariant.made c.turns.invariant.calm c.rounds.ensures.fails
 
 pub returns-in-Ok-None-clause-limited : goal.returns-in-Ok-None-clause-limited
 returns-in-Ok-None-clause-limited g c = (c.in-Ok-None.ensures.leaves.limited.0, c.in-Ok-None.ensures.leaves.limited.1 ∙ c.turns.invariant.limited)
