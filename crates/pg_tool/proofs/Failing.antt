@@ -7,7 +7,7 @@ use Rattle.pg_errors.specs.declared.async_message.AsyncMessage.{AsyncMessage}
 use Rattle.pg_faults.specs.declared.error.Error.{Error}
 use Rattle.pg_faults.specs.declared.error.Error.TheVariants as error
 use Rattle.pg_spec.specs.Links.{LinkView}
-use Rattle.pg_wire.specs.LinkCalls.{SameBytes}
+use Rattle.pg_wire.specs.LinkCalls.{SameBytes, SameWriting}
 use Rattle.pg_connect.proofs.Calm.{calm_then}
 use Rattle.pg_connect.specs.Calm.{StaysCalm}
 use Rattle.pg_session.specs.Failures.{BreaksOff, GivesOut, HasFailed, IsFine, PauseFails, RunsShort, TurnFails}
@@ -65,9 +65,9 @@ rounds_fail scripts s l mid k m e before fails = elim fails [
 
 -- the pause behind a round in which nothing moved failed
 pub pause_fails : (scripts : List (List Command)) (s : SessionState) (l : LinkView) (mid : SessionState) (k : LinkView) (t : SessionState) (n m : LinkView) (moved waited : Bool) (e : Error) →
-    RoundsMade scripts s l mid k → RoundWhole scripts mid k t n moved → StaysCalm l n → t.streams.given ≤ t.streams.max_bytes → SameBytes n m → moved ≡ false → (waited ≡ true → IsTrue k.promised) → PauseFails k.quiet n.quiet waited n m e →
+    RoundsMade scripts s l mid k → RoundWhole scripts mid k t n moved → StaysCalm l n → t.streams.given ≤ t.streams.max_bytes → SameBytes n m → SameWriting n m → moved ≡ false → (waited ≡ true → IsTrue k.promised) → PauseFails k.quiet n.quiet waited n m e →
     HasFailed scripts s l m e
-pause_fails scripts s l mid k t n m moved waited e before round calm within bytes none promised fails = inr (inr (record {
+pause_fails scripts s l mid k t n m moved waited e before round calm within bytes writing none promised fails = inr (inr (record {
   turns = rounds (length scripts) before.count;
   state = mid;
   link = k;
@@ -78,6 +78,7 @@ pause_fails scripts s l mid k t n m moved waited e before round calm within byte
   calm = calm;
   within = within;
   bytes = bytes;
+  writing = writing;
   waited = waited;
   promised = promised;
   fails = fails;
@@ -96,6 +97,7 @@ gives_behind scripts turns s l mid k m e before calm b = record {
   calm = calm_then l k b.passed calm b.calm;
   within = b.within;
   bytes = b.bytes;
+  writing = b.writing;
   waited = b.waited;
   promised = b.promised;
   fails = b.fails;

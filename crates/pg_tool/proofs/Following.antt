@@ -88,8 +88,10 @@ opening_waits name nonce begin a b s o bytes writing keeps = record {
   out = o.out;
   frame = o.frame;
   leads = o.leads;
-  flushed = λ is. let was = o.flushed is in (was.0, subst IsTrue (sym writing.flushed) was.1);
+  flushed = λ is. let was = o.flushed is in (was.0, λ shut. subst IsTrue (sym writing.flushed) (was.1 (sym writing.shut ∙ shut)));
   behind = o.behind;
   count = o.count;
+  shut = writing.shut ∙ o.shut;
+  last = o.last;
   link = keeps_then begin a b o.link keeps;
 }

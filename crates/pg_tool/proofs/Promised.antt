@@ -16,7 +16,7 @@ use Rattle.pg_faults.specs.declared.error.Error.TheVariants as error
 use Rattle.pg_text.specs.Views.{report_of}
 use Rattle.pg_text.specs.declared.command.Command.{Command}
 use Rattle.pg_text.specs.declared.report.Report.{Report}
-use Rattle.pg_session.proofs.EndsWell.{is-closed}
+use Rattle.pg_session.proofs.Closing.{is-closed}
 use Rattle.pg_session.specs.WholeSession.{IsClosed}
 use Rattle.pg_tool.specs.Asked.{call_of, ConfigIsNotBuilt}
 use Rattle.pg_tool.specs.Fails.{PlaysWithin, SessionFails}
@@ -26,7 +26,7 @@ use Rattle.pg_tool.proofs.Completing.{must_all}
 use Rattle.pg_tool.proofs.Following.{continues_same}
 use Rattle.pg_tool.proofs.Limiting.{ended_within, holds_all, keeps_limit}
 use Rattle.pg_tool.proofs.Played.{ended_well, has_run}
-use Rattle.pg_tool.proofs.Sending.{asks_all, sends_all}
+use Rattle.pg_tool.proofs.Sending.{asks_all, leaves_all, sends_all}
 
 -- ---- what was asked isn't built
 
@@ -47,6 +47,7 @@ refuses config nonce scripts turns limit link tells asks sent =
       ended_well = tt;
       has_run = tt;
       closed = tt;
+      stays_open = inl refl;
       link = continues_same link;
       cause = inl asks;
       config = tt;
@@ -95,7 +96,8 @@ plays config user nonce scripts turns limit before after r means in_form told te
     record {
       ended_well = of_answer r (IsEndedWell call) (ended_well config user nonce scripts turns limit before after r means played);
       has_run = of_answer r (IsRun call) (has_run config user nonce scripts turns limit before after r played);
-      closed = closed_so r (PlaysWithin user nonce scripts turns limit before after) (IsClosed after) (λ report h. is-closed user nonce scripts turns before after report h.0) played;
+      closed = closed_so r (PlaysWithin user nonce scripts turns limit before after) (IsClosed before after) (λ report h. is-closed user nonce scripts turns before after report h.0) played;
+      stays_open = leaves_all user nonce scripts limit before after r fails;
       link = link;
       cause = of_error call r causes;
       config = no_other_config r config_is;

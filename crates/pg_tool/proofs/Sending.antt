@@ -1,5 +1,5 @@
--- What was sent where a session failed.
-use Rattle.std.proofs.Common.{◌≡◌, ℕ, List, IfErr, Result, Ok, Err, inl, inr, refl}
+-- What was sent where a session failed, and how the link stands then.
+use Rattle.std.proofs.Common.{◌≡◌, ℕ, List, IfErr, Result, Ok, Err, inl, inr, refl, ap, ◌∙◌}
 use Rattle.std.specs.Prelude.{OnOk}
 use Rattle.pg_spec.specs.Causes.{Call, OfDialogue}
 use Rattle.pg_spec.specs.ConnectionStrings.{Means, only_user}
@@ -10,8 +10,11 @@ use Rattle.pg_connect.specs.declared.startup.Startup.{Startup}
 use Rattle.pg_faults.specs.declared.error.Error.{Error}
 use Rattle.pg_faults.specs.declared.error.Error.TheVariants as error
 use Rattle.pg_session.proofs.Caused.{broken-kept, broken-sent}
+use Rattle.pg_session.proofs.Closing.{broken-open, over-closed}
 use Rattle.pg_session.proofs.NoneKept.{stopped-kept}
 use Rattle.pg_session.proofs.SentSoFar.{sent-failed, sent-opened, sent-over, sent-stopped, sent-untouched}
+use Rattle.pg_session.proofs.StalledStart.{rests-so}
+use Rattle.pg_session.specs.WholeSession.{LeavesOpen}
 use Rattle.pg_text.specs.declared.command.Command.{Command}
 use Rattle.pg_text.specs.declared.report.Report.{Report}
 use Rattle.pg_tool.specs.Asked.{call_of}
@@ -65,3 +68,23 @@ pub asks_all : (config user nonce : List ℕ) (scripts : List (List Command)) (t
     OnOk r (StaysCalm before after) → IfErr r (SessionFails user nonce scripts limit before after) → NoneKeptBack (call_of config nonce scripts turns limit before after) (result_of r)
 asks_all config user nonce scripts turns limit before after (Ok report) means calm fails = calm.no_lull
 asks_all config user nonce scripts turns limit before after (Err e) means calm fails = asks_by config user nonce scripts turns limit before after e means fails
+
+-- ---- the writing side
+
+start_open : (name nonce : List ℕ) (before after : LinkView) (s : Startup) (e : Error) → OpenEnds name nonce before after s (Err e) → after.shut ≡ before.shut
+start_open name nonce before after s (error.Stalled a b) ends = (rests-so ends.waited ends.polled after ends.fails.2).writing.shut ∙ ends.opening.shut
+start_open name nonce before after s _ ends = ends.shut
+
+leaves_by : (user nonce : List ℕ) (scripts : List (List Command)) (limit : ℕ) (before after : LinkView) (e : Error) → SessionFails user nonce scripts limit before after e → LeavesOpen before after e
+leaves_by user nonce scripts limit before after e (inl lacks) = elim lacks.crossed [
+  | inl opened ↦ inl opened.opened.shut
+  | inr over ↦ inr (lacks.memory, over-closed user nonce scripts before after over)
+]
+leaves_by user nonce scripts limit before after e (inr (inl made)) = inl (ap (λ (l : LinkView). l.shut) made.1)
+leaves_by user nonce scripts limit before after e (inr (inr (inl start))) = inl (start_open user nonce before after start.startup e start.ends)
+leaves_by user nonce scripts limit before after e (inr (inr (inr later))) = broken-open user nonce scripts before after e later.broken
+
+pub leaves_all : (user nonce : List ℕ) (scripts : List (List Command)) (limit : ℕ) (before after : LinkView) (r : Result Report Error) →
+    IfErr r (SessionFails user nonce scripts limit before after) → IfErr (result_of r) (LeavesOpen before after)
+leaves_all user nonce scripts limit before after (Ok report) fails = tt
+leaves_all user nonce scripts limit before after (Err e) fails = leaves_by user nonce scripts limit before after e fails

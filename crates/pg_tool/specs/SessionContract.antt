@@ -12,7 +12,7 @@ use Rattle.pg_spec.specs.Report.{Report}
 use Rattle.pg_spec.specs.Settings.{Settings}
 use Rattle.pg_spec.specs.Turns.{Times}
 use Rattle.pg_wire.specs.LinkCalls.{Continues}
-use Rattle.pg_session.specs.WholeSession.{IsClosed}
+use Rattle.pg_session.specs.WholeSession.{IsClosed, LeavesOpen}
 
 -- what a session answers
 abbrev pub SessionResult : Type 0
@@ -57,8 +57,9 @@ pub record SessionContract (call : Call) (result : SessionResult) : Type 0 where
   -- where it answers Ok, the main theorem
   pub ended_well : IfOk result (IsEndedWell call)
   pub has_run : IfOk result (IsRun call)
-  -- and all that the link took is flushed, and it is shut down
-  pub closed : IfOk result (λ report. IsClosed call.after)
+  -- and all that the link took is flushed, and it is shut down; where it fails, it isn't shut down before Terminate was flushed
+  pub closed : IfOk result (λ report. IsClosed call.before call.after)
+  pub stays_open : IfErr result (LeavesOpen call.before call.after)
   -- the link went on from where it stood
   pub link : Continues call.before call.after
   -- each failure has its cause

@@ -8,4 +8,4 @@ returns-in-Ready-clause-calm g c = calm_ready (g.L.Link.view c.args.link.now) (g
 pub returns-in-Idle-clause-end : goal.returns-in-Idle-clause-end
 returns-in-Idle-clause-end g c waited =
     let idle = c.in-Idle.ensures.answer in
-    (refl, refl, inl (record { lulls = idle.4; quiet = idle.3; rests = record { bytes = idle.0; keeps = c.in-Idle.ensures.keeps } }))
+    (refl, refl, inl (record { lulls = idle.4; quiet = idle.3; rests = record { bytes = idle.0; writing = idle.1; keeps = c.in-Idle.ensures.keeps } }))

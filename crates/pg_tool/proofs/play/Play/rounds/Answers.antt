@@ -20,7 +20,7 @@ rounds-preserved g c = record {
   ready = c.round.ensures.ready;
   made = rounds_more c.args.scripts.now (state_of c.args.self.now) (g.L.Link.view c.args.link.now) (state_of c.rounds.self) (g.L.Link.view c.rounds.link)
       (state_of c.round.new.self) (g.L.Link.view c.round.new.link) (g.L.Link.view c.pause.new.link) c.rounds.invariant.made
-      (rw c.in-Ok-Some.field-0-is at c.in-Ok-Some.ensures.made).made (record { bytes = c.pause.ensures.bytes; keeps = c.pause.ensures.keeps });
+      (rw c.in-Ok-Some.field-0-is at c.in-Ok-Some.ensures.made).made (record { bytes = c.pause.ensures.bytes; writing = c.pause.ensures.writing; keeps = c.pause.ensures.keeps });
   going = (rw c.in-Ok-Some.field-0-is at c.in-Ok-Some.ensures.leaves).going;
   limited = c.in-Ok-Some.ensures.leaves.limited.1 ∙ c.rounds.invariant.limited;
   promised = λ next. (c.in-Ok.ensures.end.1 next).1;
@@ -52,7 +52,7 @@ returns-in-Err-pause-clause-fails g c =
     let end = c.in-Err-pause.ensures.end in
     pause_fails c.args.scripts.now (state_of c.args.self.now) l (state_of c.rounds.self) k (state_of c.round.new.self) n m
     c.in-Ok-Some.moved c.rounds.waited c.in-Err-pause.error c.rounds.invariant.made (rw c.in-Ok-Some.field-0-is at c.in-Ok-Some.ensures.made) (calm_then l k n c.rounds.invariant.calm c.in-Ok-Some.ensures.crosses.calm)
-    c.in-Ok-Some.ensures.leaves.limited.0 c.in-Err-pause.ensures.bytes end.0 c.rounds.invariant.promised
+    c.in-Ok-Some.ensures.leaves.limited.0 c.in-Err-pause.ensures.bytes c.in-Err-pause.ensures.writing end.0 c.rounds.invariant.promised
     (counted_so c.quiet-before.result k.quiet c.quiet-after.result n.quiet c.rounds.waited n m c.in-Err-pause.error c.quiet-before.ensures c.quiet-after.ensures end.1)
 
 pub returns-in-Ok-None-clause-limited : goal.returns-in-Ok-None-clause-limited
