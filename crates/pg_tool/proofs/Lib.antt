@@ -20,3 +20,4 @@ pub mod Calming
 pub mod Crossing
 pub mod Completing
 pub mod WellMade
+pub mod Neither

@@ -12,7 +12,7 @@ mod report;
 mod session;
 mod writing;
 
-pub use laws::some_text_is_well_made;
+pub use laws::{no_text_is_neither, some_text_is_well_made};
 pub use pg_text::{
     Answer, Cells, Command, Pair, Report, Scripts, Session, SimpleMessage, TextFault, TurnMark,
     report_text, session_text,
