@@ -88,6 +88,12 @@ behind_at n i ds bytes behind d less are e =
     let same : n - i ≡ suc (n - (i + 1)) = omega arith in
     behind_dim (n - (i + 1)) ds bytes behind d (subst (λ (m : ℕ). AreDims m ds bytes) same are) e
 
+-- each of them
+pub all_at : (ds : List Dim) (i : ℕ) (d : Dim) → i < length ds → AllByRecursion IsDim ds → IsDim (get_or ds i d)
+all_at [] i d less all = absurd (omega (arith, less))
+all_at (e ∷ ds) zero d less (first, all) = first
+all_at (e ∷ ds) (suc i) d less (first, all) = all_at ds i d (omega (arith, less)) all
+
 -- one more
 pub all_more : (ds : List Dim) (d : Dim) → AllByRecursion IsDim ds → IsDim d → AllByRecursion IsDim (ds ++ d ∷ [])
 all_more [] d all is = (is, tt)

@@ -29,7 +29,7 @@ pub array_spells : (plain : Bool) (oid : ℕ) (e : PgType) (v : Datum) (bytes : 
 array_spells plain oid e v bytes = ap (λ (kind : k.Kind). SpellsKind plain oid kind v bytes) (array_is e)
 
 pub range_spells : (plain : Bool) (oid : ℕ) (e : PgType) (v : Datum) (bytes : List ℕ)
-    → SpellsKind plain oid (k.Range e) v bytes ≡ IsRange (SpellsKind plain e.oid e.kind) v bytes
+    → SpellsKind plain oid (k.Range e) v bytes ≡ IsRange plain (SpellsKind plain e.oid e.kind) v bytes
 range_spells plain oid e v bytes = ap (λ (kind : k.Kind). SpellsKind plain oid kind v bytes) (range_is e)
 
 pub domain_spells : (plain : Bool) (oid : ℕ) (e : PgType) (v : Datum) (bytes : List ℕ)

@@ -8,3 +8,12 @@ pub mod SingleValue
 pub mod ItemLaws
 pub mod PartLaws
 pub mod ArrayLaws
+pub mod ValueLaws
+pub mod WriteLaws
+pub mod FieldLaws
+pub mod GroupLaws
+pub mod PlainLaws
+pub mod FormLaws
+pub mod PartWritten
+pub mod Insides
+pub mod DatumWritten

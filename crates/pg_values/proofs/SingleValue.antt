@@ -23,7 +23,7 @@ use Rattle.pg_values.proofs.ArrayLaws.{front_only}
 
 -- ---- scalars
 
-value_only : (oid : ℕ) (v w : Datum) (bytes : List ℕ) → IsValue oid v bytes → IsValue oid w bytes → v ≡ w
+value_only : (oid : ℕ) (v w : Datum) (bytes : List ℕ) → IsValue false oid v bytes → IsValue false oid w bytes → v ≡ w
 value_only oid v w bytes a b =
     let e : Ok a.value ≡ Ok b.value = sym a.spelled ∙ b.spelled in
     let same : a.value ≡ b.value = cc e in
@@ -74,7 +74,7 @@ either_only false P Q p q v w x y = q v w x y
 
 scalar_only : (oid : ℕ) (v w : Datum) (bytes : List ℕ) → SpellsScalar false oid v bytes → SpellsScalar false oid w bytes → v ≡ w
 scalar_only oid v w bytes a b =
-    let value : Datum → Type 0 = λ x. IsValue oid x bytes in
+    let value : Datum → Type 0 = λ x. IsValue false oid x bytes in
     let id : Datum → Type 0 = λ x. MatchBool (oid == uuid) (IsUuid x bytes) (value x) in
     let stamp : Datum → Type 0 = λ x. MatchBool (is_timestamp oid) (IsTimestamp x bytes) (id x) in
     let day : Datum → Type 0 = λ x. MatchBool (oid == date) (IsDate x bytes) (stamp x) in
@@ -118,7 +118,7 @@ array_single element S only v w bytes a b =
 abbrev counted : ℕ → ℕ
 counted flags = values_of (lower_by flags) + values_of (upper_by flags)
 
-range_single : (S : Datum → List ℕ → Type 0) → Single S → Single (IsRange S)
+range_single : (S : Datum → List ℕ → Type 0) → Single S → Single (IsRange false S)
 range_single S only v w bytes a b =
     let both : a.flags ∷ a.rest ≡ b.flags ∷ b.rest = sym a.spelled ∙ b.spelled in
     let flags : a.flags ≡ b.flags = cc both in

@@ -2,6 +2,8 @@ pub mod Supported
 pub mod Numbers
 pub mod Scalars
 pub mod Numerics
+pub mod Groups
 pub mod Parts
 pub mod Spelling
 pub mod Reading
+pub mod Writing

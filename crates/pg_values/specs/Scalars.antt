@@ -1,9 +1,9 @@
 -- What bytes spell under a type whose values have no parts, numeric left out (PostgreSQL documentation, "Formats and Format Codes";
 -- the binary form of a value is that of its type's send function).
-use Rattle.std.specs.Prelude.{◌≡◌, ℕ, List, length, Ok, Contains}
+use Rattle.std.specs.Prelude.{◌≡◌, ℕ, Bool, IsTrue, List, length, Ok, Contains}
 use Rattle.std.specs.Int.{w32, w64}
-use Rattle.pg_types.specs.AnyValues.{value_in}
-use Rattle.pg_types.specs.Values.{int_in}
+use Rattle.pg_types.specs.AnyValues.{value_in, value_gives}
+use Rattle.pg_types.specs.Values.{int_in, bytes_given}
 use Rattle.pg_types.specs.declared.value.Value.{Value}
 use Rattle.pg_types.specs.declared.value.Value.TheVariants as value
 use Rattle.pg_values.specs.declared.datum.Datum as d
@@ -17,11 +17,12 @@ datum_of (value.Int z) = d.Int z
 datum_of (value.Text t) = d.Text t
 datum_of (value.Bytes b) = d.Bytes b
 
--- a value of the types that a `Value` is read from
-pub record IsValue (oid : ℕ) (v : Datum) (bytes : List ℕ) : Type 0 where
+-- a value of the types that a `Value` is read from; `plain` asks for the bytes that the `Value` is written in: true is 1
+pub record IsValue (plain : Bool) (oid : ℕ) (v : Datum) (bytes : List ℕ) : Type 0 where
   pub value : Value
   pub spelled : value_in oid bytes ≡ Ok value
   pub same : v ≡ datum_of value
+  pub given : IsTrue plain → value_gives value oid ≡ bytes_given bytes
 
 -- days from 2000-01-01, four bytes (date_send)
 pub record IsDate (v : Datum) (bytes : List ℕ) : Type 0 where

@@ -23,7 +23,7 @@ SpellsScalar plain oid v bytes =
     MatchBool (oid == numeric) (SpellsNumeric plain v bytes)
     (MatchBool (oid == date) (IsDate v bytes)
     (MatchBool (is_timestamp oid) (IsTimestamp v bytes)
-    (MatchBool (oid == uuid) (IsUuid v bytes) (IsValue oid v bytes))))
+    (MatchBool (oid == uuid) (IsUuid v bytes) (IsValue plain oid v bytes))))
 
 -- ---- arrays (array_send)
 
@@ -108,8 +108,24 @@ values_of Infinite = 0
 values_of Inclusive = 1
 values_of Exclusive = 1
 
--- a range: its flags, and a part for each finite bound, the lower first; none of them is null
-pub record IsRange (spells : Datum → List ℕ → Type 0) (v : Datum) (bytes : List ℕ) : Type 0 where
+-- the flags that are written: an empty range has no other, and an infinite bound isn't inclusive
+abbrev pub lower_flags : Bound → ℕ
+lower_flags Infinite = 8
+lower_flags Inclusive = 2
+lower_flags Exclusive = 0
+
+abbrev pub upper_flags : Bound → ℕ
+upper_flags Infinite = 16
+upper_flags Inclusive = 4
+upper_flags Exclusive = 0
+
+abbrev pub range_flags : (empty : Bool) → (lower upper : Bound) → ℕ
+range_flags true lower upper = 1
+range_flags false lower upper = lower_flags lower + upper_flags upper
+
+-- a range: its flags, and a part for each finite bound, the lower first; none of them is null. `plain` asks for the flags that are
+-- written
+pub record IsRange (plain : Bool) (spells : Datum → List ℕ → Type 0) (v : Datum) (bytes : List ℕ) : Type 0 where
   pub flags : ℕ
   pub bounds : List Datum
   pub rest : List ℕ
@@ -117,6 +133,7 @@ pub record IsRange (spells : Datum → List ℕ → Type 0) (v : Datum) (bytes :
   pub below : flags < 32
   pub are : AreItems false spells (values_of (lower_by flags) + values_of (upper_by flags)) bounds rest
   pub spelled : bytes ≡ flags ∷ rest
+  pub flagged : IsTrue plain → flags ≡ range_flags (has_flag 1 flags) (lower_by flags) (upper_by flags)
 
 -- ---- composites (record_send)
 
@@ -143,7 +160,7 @@ abbrev mutual
   SpellsKind plain oid (k.Enum labels) v bytes = IsLabel labels v bytes
   SpellsKind plain oid k.Pseudo v bytes = ⊥
   SpellsKind plain oid (k.Array' name element shape kind schema) v bytes = IsArray plain element (SpellsHeld plain element kind) v bytes
-  SpellsKind plain oid (k.Range' name element shape kind schema) v bytes = IsRange (SpellsHeld plain element kind) v bytes
+  SpellsKind plain oid (k.Range' name element shape kind schema) v bytes = IsRange plain (SpellsHeld plain element kind) v bytes
   SpellsKind plain oid (k.Domain' name base shape kind schema) v bytes = SpellsHeld plain base kind v bytes
   SpellsKind plain oid (k.Composite' shape fields) v bytes = IsComposite (count_fields fields) (SpellFields plain fields) v bytes
 

@@ -1,6 +1,6 @@
 //! The front of an array.
 
-ghost use Rattle.std.specs.Prelude.{◌≡◌, ◌++◌, ◌<◌, ◌≤◌, List, ℕ, length, flat_map, MatchOption, ◌*◌, ◌+◌, drop};
+ghost use Rattle.std.specs.Prelude.{◌≡◌, ◌↔◌, IsTrue, ◌++◌, ◌<◌, ◌≤◌, List, ℕ, length, flat_map, MatchOption, ◌*◌, ◌+◌, drop};
 ghost use Rattle.std.specs.List.{AllByRecursion};
 ghost use Rattle.pg_values.specs.Spelling.{IsDim, dim_bytes, count_of, product, IsFront, array_front, StandsInFront, AreDims};
 ghost use Rattle.pg_values.specs.Reading.{ReadsAs};
@@ -62,6 +62,25 @@ pub(crate) fn count_of(dims: &[Dim]) -> Option<usize>
         }
     }
     Some(count as usize)
+}
+
+/// Whether a dimension has an item.
+fn is_dim(dim: Dim) -> bool
+    ensures { IsTrue result ↔ IsDim dim }
+{
+    dim.len >= 1
+}
+
+/// Whether each dimension has an item.
+pub(crate) fn are_dims(dims: &[Dim]) -> bool
+    ensures { IsTrue result ↔ AllByRecursion IsDim dims.now }
+{
+    for dim in dims {
+        if !is_dim(*dim) {
+            return false;
+        }
+    }
+    true
 }
 
 /// The dimensions that the front of an array has.

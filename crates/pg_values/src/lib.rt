@@ -6,11 +6,16 @@ mod arrays;
 mod datum;
 mod lists;
 mod numeric;
+mod numeric_written;
 mod parts;
+mod put;
 mod ranges;
 mod reading;
 mod scalars;
+mod scalars_written;
 mod supported;
+mod writing;
 
 pub use datum::{Bound, Datum, Dim};
 pub use reading::read_datum;
+pub use writing::write_datum;

@@ -72,7 +72,7 @@ fn read_form(alloc: Global, raw: &[u8]) -> Result<Form, ValueFault>
 }
 
 /// Ten to a power.
-fn power(k: u32) -> u128
+pub(crate) fn power(k: u32) -> u128
     requires { k ≤ 38 }
     ensures { result ≡ 10 ^ k }
 {
@@ -148,13 +148,13 @@ fn unscaled(form: &Form) -> Option<u128>
 }
 
 /// The sign of a number that isn't below zero.
-const PLUS: u16 = 0;
+pub(crate) const PLUS: u16 = 0;
 
 /// The sign of a number that isn't above zero.
-const MINUS: u16 = 0x4000;
+pub(crate) const MINUS: u16 = 0x4000;
 
 /// The sign of NaN.
-const NAN: u16 = 0xc000;
+pub(crate) const NAN: u16 = 0xc000;
 
 /// The value of a numeric. None: it has none here.
 fn value_of(form: &Form) -> Option<Datum>

@@ -62,7 +62,7 @@ pub(crate) fn int(bytes: &[u8]) -> Option<(i32, &[u8])>
 }
 
 /// The length field of null.
-const NULL: u32 = 4_294_967_295;
+pub(crate) const NULL: u32 = 4_294_967_295;
 
 /// A part of some bytes.
 #[derive(Clone, Copy, Drop)]

@@ -1,7 +1,7 @@
 //! The flags of a range.
 
-ghost use Rattle.std.specs.Prelude.{◌≡◌, ◌<◌, ◌/◌, ◌%◌, ◌==◌};
-ghost use Rattle.pg_values.specs.Spelling.{has_flag, lower_by, upper_by, bound_by, values_of};
+ghost use Rattle.std.specs.Prelude.{◌≡◌, ◌<◌, ◌/◌, ◌%◌, ◌==◌, ℕ, MatchOption};
+ghost use Rattle.pg_values.specs.Spelling.{has_flag, lower_by, upper_by, bound_by, values_of, range_flags};
 
 use crate::datum::Bound;
 
@@ -47,5 +47,27 @@ pub(crate) fn values_of(bound: Bound) -> usize
         Bound::Infinite => 0,
         Bound::Inclusive => 1,
         Bound::Exclusive => 1,
+    }
+}
+
+/// The flags that a range with these bounds is written with. None: there is none, since an empty range has no bounds.
+pub(crate) fn flags_of(empty: bool, lower: Bound, upper: Bound) -> Option<u8>
+    ensures { MatchOption result
+        ((flags : ℕ) → empty ≡ has_flag 1 flags → lower ≡ lower_by flags → upper ≡ upper_by flags → ⊥)
+        (λ flags. (flags < 32) × (flags ≡ range_flags empty lower upper) × (has_flag 1 flags ≡ empty)
+        × (lower_by flags ≡ lower) × (upper_by flags ≡ upper)) }
+{
+    match (empty, lower, upper) {
+        (true, Bound::Infinite, Bound::Infinite) => Some(1),
+        (true, _, _) => None,
+        (false, Bound::Infinite, Bound::Infinite) => Some(24),
+        (false, Bound::Infinite, Bound::Inclusive) => Some(12),
+        (false, Bound::Infinite, Bound::Exclusive) => Some(8),
+        (false, Bound::Inclusive, Bound::Infinite) => Some(18),
+        (false, Bound::Inclusive, Bound::Inclusive) => Some(6),
+        (false, Bound::Inclusive, Bound::Exclusive) => Some(2),
+        (false, Bound::Exclusive, Bound::Infinite) => Some(16),
+        (false, Bound::Exclusive, Bound::Inclusive) => Some(4),
+        (false, Bound::Exclusive, Bound::Exclusive) => Some(0),
     }
 }

@@ -120,7 +120,7 @@ fn read_array(alloc: Global, element: &Type, raw: &[u8]) -> Result<Datum, ValueF
 /// A range between values of a type.
 #[cycle(reading)]
 fn read_range(alloc: Global, element: &Type, raw: &[u8]) -> Result<Datum, ValueFault>
-    ensures { ReadsAs (λ v. IsRange (SpellsKind false element.now.oid element.now.kind) v raw.now) result }
+    ensures { ReadsAs (λ v. IsRange false (SpellsKind false element.now.oid element.now.kind) v raw.now) result }
 {
     let [flags, rest @ ..] = raw else {
         return Err(ValueFault::BadValue);

@@ -1,6 +1,6 @@
 //! Values without parts, read.
 
-ghost use Rattle.std.specs.Prelude.{◌≡◌, ◌↔◌, IsTrue};
+ghost use Rattle.std.specs.Prelude.{◌≡◌, ◌↔◌, false, IsTrue};
 ghost use Rattle.pg_values.specs.Scalars.{datum_of, IsValue, IsDate, IsTimestamp, IsUuid, IsLabel};
 ghost use Rattle.pg_values.specs.Reading.{ReadsAs};
 
@@ -23,7 +23,7 @@ fn datum_of(value: Value) -> Datum
 
 /// A value of the types that a `Value` is read from.
 pub(crate) fn read_value(alloc: Global, ty: &Type, raw: &[u8]) -> Result<Datum, ValueFault>
-    ensures { ReadsAs (λ v. IsValue ty.now.oid v raw.now) result }
+    ensures { ReadsAs (λ v. IsValue false ty.now.oid v raw.now) result }
 {
     match Value::from_sql(alloc, ty, raw) {
         Ok(value) => Ok(datum_of(value)),
@@ -66,7 +66,7 @@ pub(crate) fn read_uuid(alloc: Global, raw: &[u8]) -> Result<Datum, ValueFault>
 }
 
 /// Whether these bytes are the label.
-fn is_label(label: &Text, raw: &[u8]) -> bool
+pub(crate) fn is_label(label: &Text, raw: &[u8]) -> bool
     ensures { IsTrue result ↔ (label.now ≡ raw.now) }
 {
     label.as_str().as_bytes() == raw
