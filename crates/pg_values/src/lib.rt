@@ -1,5 +1,5 @@
 //! Composed values: arrays, ranges, composites, enums, domains, numbers of any scale, dates, timestamps and uuids, read from their
-//! binary form.
+//! binary form and written in it.
 #![tactic(auto)]
 
 mod arrays;
