@@ -40,7 +40,8 @@ use Rattle.pg_login.specs.declared.phase.Phase.TheVariants as phase
 use Rattle.pg_login.specs.declared.phase.Step.{Step}
 use Rattle.pg_login.specs.declared.phase.Step.TheVariants as step
 use Rattle.pg_login.specs.declared.phase.Phase as code
-use Rattle.pg_login.specs.Steps.{IsMove, Made, Holds, phase_of, offered_behind, unreadable_error}
+use Rattle.pg_login.specs.Stages.{Holds, phase_of}
+use Rattle.pg_login.specs.Steps.{IsMove, Made, offered_behind, unreadable_error}
 
 -- whether the channel needn't be bound
 abbrev pub Skips : Mode → Bool → Type 0

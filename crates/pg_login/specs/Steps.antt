@@ -1,5 +1,5 @@
 -- What a message makes of a startup, in the words of its definition.
-use Rattle.std.specs.Prelude.{◌≡◌, ℕ, ◌||◌, Bool, List, [], ◌∷◌, Option, Some, None, Result, Ok, Err, unwrap_or, codes}
+use Rattle.std.specs.Prelude.{◌≡◌, ℕ, ◌||◌, Bool, List, [], ◌∷◌, Result, Ok, Err, codes}
 use Rattle.pg_spec.specs.Faults as spec
 use Rattle.pg_spec.specs.Frames.{startup_frame}
 use Rattle.pg_spec.specs.Settings.{Settings, startup_parameters}
@@ -12,33 +12,12 @@ use Rattle.pg_faults.specs.declared.fault.WireFault.TheVariants as wire
 use Rattle.pg_faults.specs.declared.cause.Cause.TheVariants as cause
 use Rattle.pg_faults.specs.declared.error.Error.{Error}
 use Rattle.pg_faults.specs.declared.error.Error.TheVariants as error
-use Rattle.pg_config.specs.Views.{settings_of}
-use Rattle.pg_scram.specs.Bindings.{binding_of}
-use Rattle.pg_login.specs.declared.phase.Login.{Login}
-use Rattle.pg_login.specs.declared.phase.Phase.{Phase}
-use Rattle.pg_login.specs.declared.phase.Phase.TheVariants as phase
+use Rattle.pg_login.specs.Stages.{Stage, Holds, phase_of}
 use Rattle.pg_login.specs.declared.phase.Step.{Step}
 use Rattle.pg_login.specs.declared.phase.Step.TheVariants as step
 use Rattle.pg_login.specs.declared.talk.Told.{Told}
 use Rattle.pg_login.specs.declared.talk.Told.TheVariants as told
 use Rattle.pg_spec.specs.Messages as said
-
--- what a login stands on
-abbrev pub login_of : Login → startups.Login
-login_of l = record { settings = settings_of l.config.now; nonce = l.nonce.now; channel = l.channel }
-
--- what the client waits for
-abbrev pub phase_of : Phase → startups.Phase
-phase_of phase.First = startups.First
-phase_of (phase.Continue scram) = startups.Continue (binding_of scram.binding)
-phase_of (phase.Final final) = startups.Final final.signature
-phase_of phase.Accepted = startups.Accepted
-phase_of phase.Info = startups.Info
-
--- a dialogue that was begun is that of the login
-abbrev pub Holds : startups.Login → Phase → Type 0
-Holds l (phase.Continue scram) = (scram.password ≡ unwrap_or l.settings.password []) × (scram.nonce ≡ l.nonce)
-Holds l _ = Unit {0}
 
 -- The answer is the move of the definition: it goes on, sends a frame, is done or refuses. Want of memory may
 -- stand in its place.
@@ -83,20 +62,13 @@ unreadable_error wire.OutOfMemory = error.OutOfMemory
 unreadable_error wire.NotUtf8 = error.Parse cause.NotUtf8
 unreadable_error fault = error.Parse (cause.Wire fault)
 
--- where a dialogue stands
-pub record Stage : Type 0 where
-  pub login : startups.Login
-  pub phase : startups.Phase
-
--- The answer is what the message does in this stage, and its next phase is kept. Want of memory may stand in its
--- place.
-abbrev pub MakesMove : startups.Move → (next : startups.Phase) → Result Told Error → Type 0
-MakesMove move next (Ok told.More) = move ≡ startups.Writes [] next
-MakesMove move next (Ok (told.Sends frame)) = move ≡ startups.Writes (frame.items ∷ []) next
-MakesMove move next (Ok told.Done) = move ≡ startups.Ends
-MakesMove move next (Err error.OutOfMemory) = Unit {0}
-MakesMove move next (Err e) = move ≡ startups.Refuses e
-
--- the same of a message; what the dialogue stands on stays
-abbrev pub Tells : Stage → Stage → said.Message → Result Told Error → Type 0
-Tells old new message result = MakesMove (startups.startup_message old.login old.phase message) new.phase result × (new.login ≡ old.login)
+-- The answer is what the message does in this stage. Want of memory may stand in its place. A dialogue that is done, or
+-- was refused, is no more.
+abbrev pub Tells : Stage → said.Message → Result Told Error → Type 0
+Tells old message (Ok (told.More new)) =
+    (startups.startup_message old.login old.phase message ≡ startups.Writes [] new.phase) × (new.login ≡ old.login)
+Tells old message (Ok (told.Sends frame new)) =
+    (startups.startup_message old.login old.phase message ≡ startups.Writes (frame.items ∷ []) new.phase) × (new.login ≡ old.login)
+Tells old message (Ok told.Done) = startups.startup_message old.login old.phase message ≡ startups.Ends
+Tells old message (Err error.OutOfMemory) = Unit {0}
+Tells old message (Err e) = startups.startup_message old.login old.phase message ≡ startups.Refuses e

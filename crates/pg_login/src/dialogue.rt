@@ -14,7 +14,8 @@ ghost use Rattle.pg_config.specs.Views.{settings_of};
 ghost use Rattle.pg_scram.specs.Bindings.{binding_of};
 ghost use Rattle.pg_scram.specs.Dialogue.{reply_of};
 ghost use Rattle.pg_wire.specs.Messages.{message_view};
-ghost use Rattle.pg_login.specs.Steps.{Holds, IsMove, Made, login_of, phase_of, unreadable_error};
+ghost use Rattle.pg_login.specs.Stages.{Holds, login_of, phase_of};
+ghost use Rattle.pg_login.specs.Steps.{IsMove, Made, unreadable_error};
 
 use crate::frames::{initial_frame, password_frame, response_frame};
 use crate::mechanisms::{PLAIN, PLUS, offered};

@@ -1,6 +1,6 @@
 //! The frames that answer the server's requests, each in a buffer of its own.
 
-ghost use Rattle.std.specs.Prelude.{MatchResult, Ok, Err};
+ghost use Rattle.std.specs.Prelude.{◌≡◌, MatchResult, Ok, Err};
 ghost use Rattle.pg_spec.specs.Frames as frames;
 ghost use Rattle.pg_login.specs.Steps.{Made, frame_error};
 

@@ -4,7 +4,7 @@ use Rattle.pg_faults.specs.declared.cause.Cause.TheVariants as cause
 use Rattle.pg_faults.specs.declared.error.Error.TheVariants as error
 use Rattle.pg_login.specs.declared.phase.Phase.TheVariants as phase
 use Rattle.pg_login.specs.declared.phase.Step.TheVariants as step
-use Rattle.pg_login.specs.Steps.{login_of}
+use Rattle.pg_login.specs.Stages.{login_of}
 use Rattle.pg_login.proofs.Moves.{skipped, none-given, some-given, made-sends, made-refuses}
 use Rattle.pg_login.proofs.dialogue.digest.Goals as goal
 

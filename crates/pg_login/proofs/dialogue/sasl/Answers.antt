@@ -2,7 +2,8 @@ use Rattle.std.proofs.Common.{Err, sym, subst}
 use Rattle.pg_faults.specs.declared.error.Error.{Error}
 use Rattle.pg_spec.specs.Bodies.{mechanisms_of}
 use Rattle.pg_spec.specs.Startup.{with_password, starts_sasl}
-use Rattle.pg_login.specs.Steps.{IsMove, login_of}
+use Rattle.pg_login.specs.Stages.{login_of}
+use Rattle.pg_login.specs.Steps.{IsMove}
 use Rattle.pg_login.proofs.Moves.{offer-used, offer-refused}
 use Rattle.pg_login.proofs.dialogue.sasl.Goals as goal
 
