@@ -4,7 +4,7 @@ use Rattle.std.specs.Prelude.{min, max}
 use Rattle.std.specs.List.{list_all, list_any}
 use Rattle.std.proofs.lemmas.List.{append-nil}
 use Rattle.pg_spec.specs.Batches.{is_nothing}
-use Rattle.pg_spec.specs.Causes.{is_readable}
+use Rattle.pg_spec.specs.Asides.{is_readable}
 use Rattle.pg_spec.specs.Links.{LinkView, Grew, Rose}
 use Rattle.pg_spec.specs.Messages.{message_of}
 use Rattle.pg_spec.specs.Parameters.{parameter_reports}

@@ -1,7 +1,7 @@
 -- Messages of a startup that are heard batch by batch.
 use Rattle.std.proofs.Common.{◌≡◌, ℕ, ◌+◌, Bool, true, false, List, [], ◌∷◌, ◌++◌, length, Option, Some, None, Result, Ok, Err, ◌⊎◌, inl, inr, ◌&&◌, if◌then◌else◌, append-nil, append_assoc, refl, sym, ◌∙◌, ap, subst}
 use Rattle.pg_spec.specs.Batches.{is_batch, is_nothing}
-use Rattle.pg_spec.specs.Causes.{is_built, is_built_message}
+use Rattle.pg_spec.specs.Built.{is_built, is_built_message}
 use Rattle.pg_spec.specs.Faults.{WireFault, UnexpectedMessage}
 use Rattle.pg_spec.specs.Messages.{Message, message_of}
 use Rattle.pg_spec.specs.RawMessages.{RawMessage, messages, bytes_left, has_bad_header, is_aside, is_ready}

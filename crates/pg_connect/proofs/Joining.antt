@@ -7,7 +7,7 @@ use Rattle.std.proofs.lemmas.List.Elements.{filter-append, filter_map-append}
 use Rattle.std.proofs.lemmas.List.Folds.{list_all-append, list_any-append}
 use Rattle.std.proofs.lemmas.List.Sums.{fold-append}
 use Rattle.pg_spec.specs.Batches.{is_nothing}
-use Rattle.pg_spec.specs.Causes.{is_readable}
+use Rattle.pg_spec.specs.Asides.{is_readable}
 use Rattle.pg_spec.specs.Frames.{terminate_frame}
 use Rattle.pg_spec.specs.Links.{LinkView, Grew, Rose}
 use Rattle.pg_spec.specs.Parameters.{parameter_reports}

@@ -8,7 +8,7 @@ use Rattle.std.proofs.lemmas.Bool.{eqb-true}
 use Rattle.pg_spec.specs.Bytes.{◌>>=◌, signed_at, text0_at}
 use Rattle.std.specs.Option.{option_and_then}
 use Rattle.pg_spec.specs.Batches.{is_batch, is_nothing}
-use Rattle.pg_spec.specs.Causes.{aside_fault, is_readable}
+use Rattle.pg_spec.specs.Asides.{aside_fault, is_readable}
 use Rattle.pg_spec.specs.DbErrors.{db_error_of}
 use Rattle.pg_spec.specs.Faults as faults
 use Rattle.pg_spec.specs.Messages as spec

@@ -6,7 +6,7 @@ use Rattle.std.specs.Option.{option_and_then}
 use Rattle.std.specs.Str.{byte}
 use Rattle.std.proofs.lemmas.Bool.{eqb-true}
 use Rattle.std.proofs.lemmas.Bool.Decides.{eqb_tells}
-use Rattle.pg_spec.specs.Causes.{aside_fault, is_readable}
+use Rattle.pg_spec.specs.Asides.{aside_fault, is_readable}
 use Rattle.pg_spec.specs.Bytes.{◌>>=◌, byte_at, number_at, signed_at, text0_at}
 use Rattle.pg_spec.specs.Faults as faults
 use Rattle.pg_spec.specs.Messages as spec

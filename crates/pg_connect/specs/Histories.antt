@@ -2,7 +2,7 @@
 -- holds. A session speaks of histories and events alone: buffers and bytes stand only in `Stands`.
 use Rattle.std.specs.Prelude.{◌≡◌, ℕ, true, false, IsTrue, List, [], ◌++◌, length}
 use Rattle.std.specs.List.{list_all}
-use Rattle.pg_spec.specs.Causes.{is_readable}
+use Rattle.pg_spec.specs.Asides.{is_readable}
 use Rattle.pg_spec.specs.Links.{LinkView, Grew}
 use Rattle.pg_spec.specs.Parameters.{parameter_reports}
 use Rattle.pg_spec.specs.RawMessages.{RawMessage, messages, bytes_left, sync_of, async_of}

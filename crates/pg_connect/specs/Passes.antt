@@ -3,7 +3,7 @@ use Rattle.std.specs.Prelude.{◌≡◌, ℕ, ◌+◌, ◌-◌, ◌^◌, min, ma
 use Rattle.std.specs.List.{list_all, list_any}
 use Rattle.std.specs.Str.{byte}
 use Rattle.pg_spec.specs.Batches.{is_nothing}
-use Rattle.pg_spec.specs.Causes.{is_readable}
+use Rattle.pg_spec.specs.Asides.{is_readable}
 use Rattle.pg_spec.specs.Frames.{terminate_frame}
 use Rattle.pg_spec.specs.Links.{LinkView, Grew, Rose}
 use Rattle.pg_spec.specs.Messages.{message_of}

@@ -1,6 +1,6 @@
 -- How the parts of a read step may end, and why.
 use Rattle.std.specs.Prelude.{◌≡◌, ℕ, ◌+◌, ◌<◌, ◌≤◌, ◌⊎◌, Bool, true, false, IsTrue, List, [], ◌∷◌, ◌++◌, length, Option, Some, None, IfSome, Result, Ok, Err}
-use Rattle.pg_spec.specs.Causes.{aside_fault, unasked, out_of_turn}
+use Rattle.pg_spec.specs.Asides.{aside_fault, unasked, out_of_turn}
 use Rattle.pg_spec.specs.DbErrors.{db_error_of}
 use Rattle.pg_spec.specs.Faults as faults
 use Rattle.pg_spec.specs.Links.{LinkView, Rose, due_by}

@@ -1,13 +1,12 @@
 -- Where a startup stands, and what its polls answer (PostgreSQL documentation, "Start-up").
 use Rattle.std.specs.Prelude.{◌≡◌, ◌≢◌, ℕ, zero, suc, ◌+◌, ◌<◌, ◌≤◌, ◌⊎◌, true, false, IsTrue, List, [], ◌∷◌, ◌++◌, length, Option, Some, None, Result, Ok, Err}
 use Rattle.std.specs.List.{list_all}
-use Rattle.pg_spec.specs.Causes.{is_built, is_built_message}
-use Rattle.pg_spec.specs.ConnectionStrings.{only_user}
+use Rattle.pg_spec.specs.Built.{is_built, is_built_message}
+use Rattle.pg_spec.specs.Settings.{only_user, startup_parameters}
 use Rattle.pg_spec.specs.Faults as spec
 use Rattle.pg_spec.specs.Frames.{startup_frame}
 use Rattle.pg_spec.specs.Links.{LinkView, Grew, Rose}
 use Rattle.pg_spec.specs.RawMessages.{RawMessage, messages, bytes_left, has_bad_header}
-use Rattle.pg_spec.specs.Settings.{startup_parameters}
 use Rattle.pg_spec.specs.Startup as startups
 use Rattle.pg_wire.specs.Faults.{frame_fault}
 use Rattle.pg_wire.specs.LinkCalls.{Keeps}

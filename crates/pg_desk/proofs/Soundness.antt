@@ -6,7 +6,7 @@ use Rattle.std.proofs.Math.Seq.{drop-append_seam}
 use Rattle.std.proofs.lemmas.Bool.{false≢true}
 use Rattle.pg_spec.specs.RawMessages.{RawMessage}
 use Rattle.pg_spec.specs.Batches.{is_batch}
-use Rattle.pg_desk.specs.declared.event.Stamp.{Stamp}
+use Rattle.pg_spec.specs.declared.stamps.Stamp.{Stamp}
 use Rattle.pg_desk.specs.declared.event.Booking.{Booking}
 use Rattle.pg_desk.specs.declared.event.Take.TheVariants as taking
 use Rattle.pg_desk.specs.declared.event.Out.TheVariants as out

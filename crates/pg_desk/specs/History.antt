@@ -1,7 +1,7 @@
 -- What a list of events stands for, with no queue and no mailbox in it.
 use Rattle.std.specs.Prelude.{◌≡◌, ◌⊎◌, ◌<◌, ◌≤◌, ℕ, zero, suc, ◌+◌, ◌-◌, ◌^◌, ◌==◌, List, [], ◌∷◌, ◌++◌, length, drop, Bool, true, false, not, ◌&&◌, ◌||◌, if◌then◌else◌, Option, Some, None, is_some, Ok, Err, nat_lt, unwrap_or, slice_get}
 use Rattle.pg_spec.specs.RawMessages.{RawMessage, groups}
-use Rattle.pg_desk.specs.declared.event.Stamp.{Stamp}
+use Rattle.pg_spec.specs.declared.stamps.Stamp.{Stamp}
 use Rattle.pg_desk.specs.declared.event.Booking.{Booking}
 use Rattle.pg_desk.specs.declared.event.DeskFault.TheVariants as fault
 use Rattle.pg_desk.specs.declared.event.Take.{Take}

@@ -1,32 +1,9 @@
 //! One event of the core is one call of a desk or an engine, with its arguments and its answer.
 
-ghost use Rattle.std.specs.Prelude.{◌≡◌};
-ghost use Rattle.pg_desk.specs.Stamps.{stamped};
-
 use bytes::Bytes;
+use pg_spec::Stamp;
 use pg_types::{Blob, List};
 use pg_wire::BackendMessages;
-
-/// Which command of which handle booked a request, and at which turn. All count from 0.
-#[derive(Clone, Copy, Debug, PartialEq, Eq, Drop)]
-pub struct Stamp {
-    pub owner: u32,
-    pub command: u32,
-    pub turn: u64,
-}
-
-impl Stamp {
-    /// The stamp of a request that this command of this handle books at this turn.
-    pub fn new(owner: u32, command: u32, turn: u64) -> Stamp
-        ensures { result ≡ stamped owner command turn }
-    {
-        Stamp {
-            owner,
-            command,
-            turn,
-        }
-    }
-}
 
 /// A request that was booked: its stamp, and the bytes that go out for it, part by part.
 #[derive(Drop)]

@@ -1,7 +1,7 @@
 -- What the readers of errors, notices and notifications answer.
 use Rattle.std.specs.Prelude.{◌≡◌, ℕ, List, Option, Some, None, Result, Ok, Err}
 use Rattle.pg_spec.specs.DbErrors.{db_error_of}
-use Rattle.pg_spec.specs.Causes.{aside_fault}
+use Rattle.pg_spec.specs.Asides.{aside_fault}
 use Rattle.pg_spec.specs.Report.{async_message}
 use Rattle.pg_wire.specs.declared.message.Message.{Message}
 use Rattle.pg_wire.specs.declared.message.Message.TheVariants as wire

@@ -3,11 +3,10 @@
 ghost use Rattle.std.specs.Prelude.{◌≡◌, ◌&&◌, [], if◌then◌else◌, IsTrue, MatchResult, Ok, Err, Some, None, nat_lt, option_map, unwrap_or};
 ghost use Rattle.std.specs.List.{list_all};
 ghost use Rattle.std.specs.Str.{is_utf8};
-ghost use Rattle.pg_spec.specs.Causes.{is_nonce};
+ghost use Rattle.pg_spec.specs.Passwords.{is_nonce, md5_reply, server_final_fault};
 ghost use Rattle.pg_spec.specs.Faults.{Authentication, BindingRequired};
 ghost use Rattle.pg_spec.specs.Frames as frames;
 ghost use Rattle.pg_spec.specs.Messages.{AuthenticationCleartextPassword, AuthenticationMd5Password, AuthenticationSasl};
-ghost use Rattle.pg_spec.specs.Passwords.{md5_reply, server_final_fault};
 ghost use Rattle.pg_spec.specs.SimpleQuery as queries;
 ghost use Rattle.pg_spec.specs.Startup as startups;
 ghost use Rattle.pg_config.specs.Views.{settings_of};

@@ -2,10 +2,9 @@
 use Rattle.std.proofs.Common.{◌≡◌, ℕ, List, [], ◌∷◌, ◌++◌, refl, inl}
 use Rattle.std.specs.Prelude.{codes, map}
 use Rattle.pg_spec.specs.Book.{Booking}
-use Rattle.pg_spec.specs.ConnectionStrings.{only_user}
+use Rattle.pg_spec.specs.Settings.{only_user, Settings, startup_parameters}
 use Rattle.pg_spec.specs.Frames.{tagged, query_frame, terminate_frame, startup_frame}
 use Rattle.pg_spec.specs.RawMessages.{messages, groups, sync_of}
-use Rattle.pg_spec.specs.Settings.{Settings, startup_parameters}
 use Rattle.pg_spec.specs.Startup.{session_part}
 use Rattle.pg_machine.specs.Machines.{service_of}
 use Rattle.pg_serving.specs.Sessions.{IsExchange, IsStartup, IsOver, AreRequests, KeepsRules, alone}

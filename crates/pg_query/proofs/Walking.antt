@@ -6,7 +6,7 @@ use Rattle.pg_wire.specs.Backend.{RefusedBy}
 use Rattle.pg_wire.specs.Faults.{wire_fault}
 use Rattle.pg_faults.specs.declared.fault.WireFault.{WireFault}
 use Rattle.pg_query.specs.Messages.{IsMalformed, Means}
-use Rattle.pg_desk.specs.declared.event.Stamp.{Stamp}
+use Rattle.pg_spec.specs.declared.stamps.Stamp.{Stamp}
 use Rattle.pg_desk.specs.declared.event.Take.TheVariants as taking
 use Rattle.pg_desk.specs.declared.event.Event.{Event}
 use Rattle.pg_desk.specs.declared.event.Event.TheVariants as call

@@ -2,9 +2,8 @@
 
 ghost use Rattle.std.specs.Prelude.{◌≡◌, None, IsTrue, IfOk, IfErr};
 ghost use Rattle.pg_faults.specs.declared.cause.ScramFault.TheVariants.{OutOfMemory};
-ghost use Rattle.pg_spec.specs.Causes.{is_nonce};
+ghost use Rattle.pg_spec.specs.Passwords.{is_nonce, server_final_fault};
 ghost use Rattle.pg_spec.specs.Bindings.{client_final};
-ghost use Rattle.pg_spec.specs.Passwords.{server_final_fault};
 ghost use Rattle.pg_scram.specs.Bindings.{binding_of};
 ghost use Rattle.pg_scram.specs.Dialogue.{IsOpened, RepliesAs, final_of, reply_of};
 ghost use Rattle.pg_scram.specs.Faults.{Rejects};

@@ -1,11 +1,12 @@
 -- Each failure of a session that was opened has its cause.
 use Rattle.std.proofs.Common.{◌≡◌, inl, inr, ◌⊎◌, ℕ, ◌+◌, List, [], ◌∷◌, ◌++◌, length, Bool, true, false, Option, Some, None, Result, Ok, Err, refl, arith, sym, ap, subst, ◌∙◌, append-nil}
 use Rattle.std.specs.Prelude.{is_some, ◌||◌}
-use Rattle.pg_spec.specs.Causes.{Call, HasCause, OfDialogue}
-use Rattle.pg_spec.specs.ConnectionStrings.{only_user, Means}
+use Rattle.pg_promises.specs.Causes.{Call, HasCause, OfDialogue}
+use Rattle.pg_spec.specs.Settings.{only_user}
+use Rattle.pg_promises.specs.ConnectionStrings.{Means}
 use Rattle.pg_spec.specs.Links.{LinkView, Grew}
 use Rattle.pg_spec.specs.Faults as faults
-use Rattle.pg_spec.specs.Promises.{NoneKeptBack, SentInOrder}
+use Rattle.pg_promises.specs.Promises.{NoneKeptBack, SentInOrder}
 use Rattle.pg_wire.specs.declared.message.Message.{Message}
 use Rattle.futures.specs.declared.task.Poll.{Poll}
 use Rattle.futures.specs.declared.task.Poll.TheVariants.{Ready, Pending}

@@ -5,8 +5,10 @@ use Rattle.std.specs.Prelude.{Contains, is_some, find, ◌==◌}
 use Rattle.std.specs.Str.{is_utf8}
 use Rattle.std.proofs.lemmas.List.Elements.{Contains-append_left, Contains-append_right}
 use Rattle.std.proofs.lemmas.Option.{same_Some}
-use Rattle.pg_spec.specs.Causes.{Call, HasCause, OfDialogue, Behind, AsideBreaks, AsideUnreadable, IsOfBody, OutOfTurn, aside_fault, unasked, out_of_turn}
-use Rattle.pg_spec.specs.ConnectionStrings.{only_user, Means}
+use Rattle.pg_promises.specs.Causes.{Call, HasCause, OfDialogue, Behind, IsOfBody, OutOfTurn}
+use Rattle.pg_spec.specs.Asides.{AsideBreaks, AsideUnreadable, aside_fault, unasked, out_of_turn}
+use Rattle.pg_spec.specs.Settings.{only_user, Settings}
+use Rattle.pg_promises.specs.ConnectionStrings.{Means}
 use Rattle.pg_spec.specs.DbErrors.{DbError, db_error_of}
 use Rattle.pg_spec.specs.Faults as faults
 use Rattle.pg_spec.specs.Links.{LinkView, OfBytes, Grew}
@@ -14,7 +16,6 @@ use Rattle.pg_spec.specs.Messages.{Message, layouts}
 use Rattle.pg_spec.specs.Messages as spec
 use Rattle.pg_spec.specs.RawMessages.{RawMessage, messages, bytes_left, has_bad_header, async_of, is_ready, cut_after}
 use Rattle.pg_spec.specs.Sent.{tagged_frames}
-use Rattle.pg_spec.specs.Settings.{Settings}
 use Rattle.pg_spec.specs.Startup.{Done}
 use Rattle.pg_wire.specs.LinkCalls.{Keeps}
 use Rattle.pg_wire.specs.Messages.{message_view}

@@ -11,8 +11,7 @@ use Rattle.pg_spec.specs.Faults.{FrameFault, ZeroByte, TooMany, TooLong}
 use Rattle.pg_spec.specs.Frames.{frame_fault, unless_fault, has_zero, untagged, tagged, startup_body, query_frame}
 use Rattle.pg_spec.specs.RawMessages.{RawMessage, message_bytes, messages, bytes_left, cut_after, ends_in}
 use Rattle.pg_spec.specs.Sent.{after_startup_frame, messages_if, tagged_frames, is_password, ends_unit, units, is_terminate}
-use Rattle.pg_spec.specs.Settings.{startup_parameters}
-use Rattle.pg_spec.specs.ConnectionStrings.{only_user}
+use Rattle.pg_spec.specs.Settings.{startup_parameters, only_user}
 use Rattle.pg_spec.proofs.MessageLaws.{messages-front, messages-append}
 use Rattle.pg_spec.proofs.SentLaws.{after_startup_frame-front}
 use Rattle.pg_desk.specs.History.{joined}

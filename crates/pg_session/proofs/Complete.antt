@@ -7,16 +7,18 @@ use Rattle.std.proofs.lemmas.List.Elements.{recursion_from_All}
 use Rattle.std.proofs.lemmas.Bool.{true≢false}
 use Rattle.std.proofs.lemmas.Option.{same_Some}
 use Rattle.std.proofs.Math.Seq.{drop-append_seam}
-use Rattle.pg_spec.specs.Causes.{Call, HasCause, OfDialogue, InStartup, AsksMore, AsideUnreadable, AsideBreaks, Behind, OutOfTurn, IsAwaited, IsPastLimit, whole_groups, aside_fault, is_built, is_readable}
-use Rattle.pg_spec.specs.ConnectionStrings.{only_user, Means}
+use Rattle.pg_promises.specs.Causes.{Call, HasCause, OfDialogue, InStartup, AsksMore, Behind, OutOfTurn, IsAwaited, IsPastLimit, whole_groups}
+use Rattle.pg_spec.specs.Asides.{AsideUnreadable, AsideBreaks, aside_fault, is_readable}
+use Rattle.pg_spec.specs.Built.{is_built}
+use Rattle.pg_spec.specs.Settings.{only_user, Settings}
+use Rattle.pg_promises.specs.ConnectionStrings.{Means}
 use Rattle.pg_spec.specs.Faults.{FrameFault, WireFault, Failure}
 use Rattle.pg_spec.specs.Faults as faults
 use Rattle.pg_spec.specs.Links.{Plan, added, due_by}
 use Rattle.pg_spec.specs.Messages.{Message}
-use Rattle.pg_spec.specs.Promises.{IsValid, Conforms, EndsWell, IsOneReply}
+use Rattle.pg_promises.specs.Promises.{IsValid, Conforms, EndsWell, IsOneReply}
 use Rattle.pg_spec.specs.RawMessages.{RawMessage, messages, bytes_left, has_bad_header, groups, is_async, is_parameter, is_whole_group}
 use Rattle.pg_spec.specs.Sent.{after_startup_frame, asked_for_tls, gives_turn, turns_given}
-use Rattle.pg_spec.specs.Settings.{Settings}
 use Rattle.pg_spec.specs.Startup.{Startup, Done, More, First, used_of, begun_by, dialogue, startup, session_part, plain_login}
 use Rattle.pg_spec.proofs.GroupLaws.{groups-AreFronts}
 use Rattle.pg_connect.specs.Startups.{frame_of}

@@ -2,13 +2,13 @@
 use Rattle.std.proofs.Common.{◌≡◌, ◌≤◌, ◌+◌, ℕ, List, [], ◌++◌, length, take, Bool, true, false, ◌||◌, Option, Some, Err, refl, sym, ap, subst, ◌∙◌, arith}
 use Rattle.std.specs.Prelude.{IfSome, IsFalse}
 use Rattle.std.specs.List.{concat}
-use Rattle.pg_spec.specs.Causes.{Call, HasCause, OfDialogue, WithSettings}
-use Rattle.pg_spec.specs.ConnectionStrings.{only_user, Means}
+use Rattle.pg_promises.specs.Causes.{Call, HasCause, OfDialogue, WithSettings}
+use Rattle.pg_spec.specs.Settings.{only_user, Settings}
+use Rattle.pg_promises.specs.ConnectionStrings.{Means}
 use Rattle.pg_spec.specs.Faults.{Failure}
 use Rattle.pg_spec.specs.Links.{Plan, Rose, added, due_by}
-use Rattle.pg_spec.specs.Promises.{Conforms, IsValid, MustEndWell, SentInOrder}
+use Rattle.pg_promises.specs.Promises.{Conforms, IsValid, MustEndWell, SentInOrder}
 use Rattle.pg_spec.specs.Sent.{turns_given, units}
-use Rattle.pg_spec.specs.Settings.{Settings}
 use Rattle.pg_wire.specs.LinkCalls.{Continues, Extends, Tells}
 use Rattle.pg_session.specs.Course.{HoldsCourse}
 use Rattle.pg_session.proofs.Complete.{ends-well, means-one}

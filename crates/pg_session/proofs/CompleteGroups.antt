@@ -5,7 +5,7 @@ use Rattle.std.specs.Str.{byte}
 use Rattle.std.specs.List.{concat, list_all, onto_first, AllByRecursion}
 use Rattle.std.proofs.lemmas.List.Elements.{filter-append}
 use Rattle.std.proofs.lemmas.List.Sums.{sum_by-cons}
-use Rattle.pg_spec.specs.Promises.{IsOneReply}
+use Rattle.pg_promises.specs.Promises.{IsOneReply}
 use Rattle.pg_spec.specs.RawMessages.{RawMessage, messages, groups, is_aside, is_async, is_parameter, is_ready, is_whole_group, sync_of, cut_after, ends_in}
 use Rattle.pg_spec.specs.Sent.{after_startup_frame, messages_if, asked_for_tls, ends_unit, gives_turn, is_password, turns_given, whole_units}
 use Rattle.pg_spec.proofs.GroupLaws.{groups-append}

@@ -5,8 +5,8 @@ use Rattle.std.specs.List.{list_all}
 use Rattle.std.proofs.lemmas.List.{map-append, length_push, length-map}
 use Rattle.std.proofs.lemmas.List.Elements.{filter-append, filter_map-append}
 use Rattle.std.proofs.lemmas.List.Folds.{list_all-append}
-use Rattle.pg_spec.specs.Causes.{is_readable}
-use Rattle.pg_spec.specs.ConnectionStrings.{only_user}
+use Rattle.pg_spec.specs.Asides.{is_readable}
+use Rattle.pg_spec.specs.Settings.{only_user}
 use Rattle.pg_spec.specs.Links.{LinkView, added}
 use Rattle.pg_spec.specs.Parameters.{parameter_reports, AreLastValues}
 use Rattle.pg_spec.specs.RawMessages.{RawMessage, messages, bytes_left, has_bad_header, is_ready, is_whole_group, sync_of, async_of, cut_after, groups}
@@ -26,10 +26,10 @@ use Rattle.pg_connect.specs.Passed.{delivered_by}
 use Rattle.pg_connect.specs.Passes.{risen}
 use Rattle.pg_connect.proofs.Joining.{none_lost}
 use Rattle.pg_connect.proofs.Sizes.{sizes, sized}
-use Rattle.pg_text.specs.Views.{booking_of, mark_of}
+use Rattle.pg_text.specs.Views.{booking_of}
 use Rattle.pg_text.specs.declared.command.Command.{Command}
 use Rattle.pg_text.specs.declared.report.Report.{Report}
-use Rattle.pg_text.specs.declared.report.TurnMark.{TurnMark}
+use Rattle.pg_spec.specs.declared.stamps.TurnMark.{TurnMark}
 use Rattle.pg_session.specs.Crossed.{session_of, Crossed}
 use Rattle.pg_session.specs.Sessions.{HasPlayed}
 use Rattle.pg_session.proofs.CausedLists.{all-left}
@@ -60,21 +60,20 @@ at-end (y ∷ xs) x = at-end xs x
 
 -- ---- the trace
 
-last-mark : (trace : List said.TurnMark) (mark : said.TurnMark) → delivered_before (trace ++ mark ∷ []) (length (trace ++ mark ∷ [])) ≡ mark.delivered
+last-mark : (trace : List TurnMark) (mark : TurnMark) → delivered_before (trace ++ mark ∷ []) (length (trace ++ mark ∷ [])) ≡ mark.delivered
 last-mark trace mark =
     let long : length (trace ++ mark ∷ []) ≡ suc (length trace) = omega (arith, length_push trace mark) in
     ap (delivered_before (trace ++ mark ∷ [])) long
-    ∙ ap (λ (o : Option said.TurnMark). unwrap_or (option_map (λ m. m.delivered) o) 0) (at-end trace mark)
+    ∙ ap (λ (o : Option TurnMark). unwrap_or (option_map (λ m. m.delivered) o) 0) (at-end trace mark)
 
 -- what the report's trace tells last
-trace-end : (all before : List TurnMark) (mark : TurnMark) → all ≡ before ++ mark ∷ [] → delivered_before (map mark_of all) (length (map mark_of all)) ≡ mark.delivered
+trace-end : (all before : List TurnMark) (mark : TurnMark) → all ≡ before ++ mark ∷ [] → delivered_before all (length all) ≡ mark.delivered
 trace-end all before mark is =
-    ap (λ (l : List said.TurnMark). delivered_before l (length l)) (ap (map mark_of) is ∙ map-append mark_of before (mark ∷ []))
-    ∙ last-mark (map mark_of before) (mark_of mark)
+    ap (λ (l : List TurnMark). delivered_before l (length l)) is ∙ last-mark before mark
 
 -- the same, where as many were delivered as came
 told-count : (all before : List TurnMark) (mark : TurnMark) (read later : List RawMessage) → all ≡ before ++ mark ∷ [] → mark.delivered ≡ length (sync_of read) → later ≡ read →
-    delivered_before (map mark_of all) (length (map mark_of all)) ≡ length (sync_of later)
+    delivered_before all (length all) ≡ length (sync_of later)
 told-count all before mark read later is count same = trace-end all before mark is ∙ count ∙ ap (λ (x : List RawMessage). length (sync_of x)) (sym same)
 
 -- the notices and notifications of a report

@@ -6,12 +6,11 @@ use Rattle.std.proofs.Math.Seq.{drop-append_seam}
 use Rattle.futures.specs.declared.task.Poll.{Poll}
 use Rattle.futures.specs.declared.task.Poll.TheVariants.{Ready, Pending}
 use Rattle.pg_spec.specs.Book as book
-use Rattle.pg_spec.specs.ConnectionStrings.{only_user}
+use Rattle.pg_spec.specs.Settings.{only_user, Mode, Prefer, Require}
 use Rattle.pg_spec.specs.Frames.{terminate_frame}
 use Rattle.pg_spec.specs.Links.{LinkView, Grew, added, OfBytes}
 use Rattle.pg_spec.specs.RawMessages.{RawMessage, messages, sync_of}
 use Rattle.pg_spec.specs.Startup.{startup}
-use Rattle.pg_spec.specs.Settings.{Mode, Prefer, Require}
 use Rattle.pg_spec.specs.Turns.{delivered_after}
 use Rattle.pg_errors.specs.declared.async_message.AsyncMessage.{AsyncMessage}
 use Rattle.pg_faults.specs.declared.error.Error.{Error}
@@ -24,10 +23,10 @@ use Rattle.pg_connect.specs.declared.streams.Streams.{Streams}
 use Rattle.pg_connect.specs.Answers.{PollAnswers}
 use Rattle.pg_connect.specs.Passed.{bytes_out_by}
 use Rattle.pg_connect.specs.Passes.{goodbye}
-use Rattle.pg_text.specs.Views.{booking_of, mark_of}
+use Rattle.pg_text.specs.Views.{booking_of}
 use Rattle.pg_text.specs.declared.command.Command.{Command}
 use Rattle.pg_text.specs.declared.report.Report.{Report}
-use Rattle.pg_text.specs.declared.report.TurnMark.{TurnMark}
+use Rattle.pg_spec.specs.declared.stamps.TurnMark.{TurnMark}
 use Rattle.pg_session.specs.Crossed.{session_of, Sent}
 use Rattle.pg_session.specs.Sessions.{HasPlayed}
 use Rattle.pg_session.specs.States.{SessionState}
@@ -172,10 +171,10 @@ was-sent user nonce scripts given before after report p f g t e d =
       reported = p.reports.sent ∙ sym all;
       delivered_front = λ place inside.
           let more = h.lost ++ messages p.last.streams.buffer.items in
-          let here : delivered_after (map mark_of report.trace) place ≤ p.last.streams.delivered =
-          subst (λ (x : List TurnMark). delivered_after (map mark_of x) place ≤ p.last.streams.delivered) (sym p.reports.trace)
+          let here : delivered_after report.trace place ≤ p.last.streams.delivered =
+          subst (λ (x : List TurnMark). delivered_after x place ≤ p.last.streams.delivered) (sym p.reports.trace)
           (all-marked scripts p.plays.turns p.plays.last p.new p.link p.plays.ends.state p.plays.ends.link p.last after p.is_new.trace p.plays.ends.before true p.plays.ends.over place) in
           let front : p.last.streams.delivered ≤ length (sync_of (h.read ++ more)) =
           front-delivered p.opening p.opened.read before after p.last.hub p.last.streams p.last.asynchronous h more in
-          subst (λ (x : List RawMessage). delivered_after (map mark_of report.trace) place ≤ length (sync_of x)) (sym started.rest) (omega (arith, here, front));
+          subst (λ (x : List RawMessage). delivered_after report.trace place ≤ length (sync_of x)) (sym started.rest) (omega (arith, here, front));
     }

@@ -9,9 +9,8 @@ use Rattle.pg_connect.specs.declared.streams.Streams.{Streams}
 use Rattle.pg_connect.specs.Passed.{delivered_by}
 use Rattle.pg_connect.specs.Passes.{risen, waiting}
 use Rattle.pg_errors.specs.declared.async_message.AsyncMessage.{AsyncMessage}
-use Rattle.pg_text.specs.Views.{mark_of}
 use Rattle.pg_text.specs.declared.command.Command.{Command}
-use Rattle.pg_text.specs.declared.report.TurnMark.{TurnMark}
+use Rattle.pg_spec.specs.declared.stamps.TurnMark.{TurnMark}
 use Rattle.pg_session.specs.Sessions.{MakesAll}
 use Rattle.pg_session.specs.States.{SessionState}
 use Rattle.pg_session.specs.Turns.{Makes}
@@ -20,7 +19,7 @@ use Rattle.pg_session.proofs.CrossedChain.{passing}
 
 -- no mark tells more than this
 abbrev pub NoneAbove : List TurnMark → ℕ → Type 0
-NoneAbove trace n = (place : ℕ) → delivered_after (map mark_of trace) place ≤ n
+NoneAbove trace n = (place : ℕ) → delivered_after trace place ≤ n
 
 none-higher : (trace : List TurnMark) (m n : ℕ) → m ≤ n → NoneAbove trace m → NoneAbove trace n
 none-higher trace m n up h place = omega (arith, h place)

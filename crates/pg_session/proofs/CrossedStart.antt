@@ -4,8 +4,9 @@ use Rattle.std.specs.Prelude.{filter_map, is_none, not, pos, ℤ, unwrap_or}
 use Rattle.std.proofs.Math.Seq.{take-append_seam, drop-append_seam}
 use Rattle.std.specs.List.{cons_option, concat, list_all, last_or}
 use Rattle.std.specs.Str.{byte, is_utf8}
-use Rattle.pg_spec.specs.Causes.{aside_fault, is_built, is_built_message, is_readable}
-use Rattle.pg_spec.specs.ConnectionStrings.{only_user}
+use Rattle.pg_spec.specs.Asides.{aside_fault, is_readable}
+use Rattle.pg_spec.specs.Built.{is_built, is_built_message}
+use Rattle.pg_spec.specs.Settings.{only_user, startup_parameters}
 use Rattle.pg_spec.specs.Faults.{Cause, FrameFault, WireFault, Parse, NotText, Io, Wire}
 use Rattle.pg_spec.specs.Frames.{startup_frame}
 use Rattle.pg_spec.specs.Links.{LinkView, Grew}
@@ -13,7 +14,6 @@ use Rattle.pg_spec.specs.Messages.{Message, message_of}
 use Rattle.pg_spec.specs.Messages as spec
 use Rattle.pg_spec.specs.Parameters.{parameter_reports, report_of}
 use Rattle.pg_spec.specs.RawMessages.{RawMessage, messages, bytes_left, async_of, is_async, is_parameter}
-use Rattle.pg_spec.specs.Settings.{startup_parameters}
 use Rattle.pg_spec.specs.Startup.{Phase, First, Continue, Final, Accepted, Info, Move, Writes, Ends as EndsMove, Refuses, Startup, Outcome, Done, moved_by, begun_by, dialogue, startup_message, startup_move, startup, used_of, startup_part, session_part, key_of, key_of_raw, cancel_key, plain_login}
 use Rattle.pg_connect.specs.declared.startup.Startup.{Startup as StartupState}
 use Rattle.pg_connect.specs.Passes.{waiting, notice_of, IsUnread, goodbye}

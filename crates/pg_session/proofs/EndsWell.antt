@@ -3,14 +3,15 @@ use Rattle.std.proofs.Common.{◌≡◌, ℕ, zero, suc, ◌^◌, ◌<◌, ◌�
 use Rattle.std.specs.Prelude.{EachIndex, IsTrue, sum_by}
 use Rattle.std.specs.List.{list_all}
 use Rattle.std.proofs.lemmas.List.{length-append, length-map}
-use Rattle.pg_spec.specs.EndedWell.{Session, EndedWell, HasRun, booked_in, delivered_of, later_messages, replies, reply}
+use Rattle.pg_promises.specs.EndedWell.{Session, EndedWell, HasRun, booked_in, delivered_of, later_messages, replies, reply}
 use Rattle.pg_spec.specs.Links.{LinkView, added}
 use Rattle.pg_spec.specs.RawMessages.{RawMessage, is_aside, is_whole_group, messages, sync_of}
 use Rattle.pg_spec.specs.Report as told
 use Rattle.pg_spec.specs.Turns.{IsTrace, Times, delivered_before}
+use Rattle.pg_spec.specs.declared.stamps.TurnMark.{TurnMark}
 use Rattle.pg_connect.specs.Passed.{delivered_by}
 use Rattle.pg_desk.specs.History.{IsFrontOf}
-use Rattle.pg_text.specs.Views.{command_of, mark_of, report_of, scripts_of}
+use Rattle.pg_text.specs.Views.{command_of, report_of, scripts_of}
 use Rattle.pg_text.specs.declared.command.Command.{Command}
 use Rattle.pg_text.specs.declared.report.Report.{Report}
 use Rattle.pg_session.proofs.CrossedAll.{all-crossed, filter-short, fewer-messages}
@@ -95,10 +96,10 @@ ended user nonce scripts given before after report p g t e d =
     let came = came-so user nonce scripts given before after report p g e in
     let ran = ran-and-answered user nonce scripts given before after report p (calls-alone scripts given p.new p.link p.last after p.plays) s refl refl came.front c.delivered_all came.small in
     let order = turns_are_in_order scripts given p.new p.last p.link after p.is_new p.fresh.delivered p.plays in
-    let trace : map mark_of p.last.trace ≡ map mark_of report.trace = ap (λ ts. map mark_of ts) (sym p.reports.trace) in
+    let trace : p.last.trace ≡ report.trace = sym p.reports.trace in
     let made : IsTrace given (length (scripts_of scripts)) s.report.trace =
     subst (λ (n : ℕ). IsTrace given n s.report.trace) (sym (length-map scripts (map command_of)))
-    (subst (λ (ts : List told.TurnMark). IsTrace given (length scripts) ts) trace order) in
+    (subst (λ (ts : List TurnMark). IsTrace given (length scripts) ts) trace order) in
     record {
       schedule = ran.schedule;
       has_run = has-run s.scripts s.turns s.report ran.schedule made ran.ran ran.at_once;
@@ -127,10 +128,10 @@ ends-well user nonce scripts given before after report p =
     (λ g t e d. ended user nonce scripts given before after report p g t e d)
 
 trace-made : (user nonce : List ℕ) (scripts : List (List Command)) (given : List ℕ) (before after : LinkView) (report : Report) →
-    (p : HasPlayed user nonce scripts given before after report) → IsTrace given (length (scripts_of scripts)) (map mark_of report.trace)
+    (p : HasPlayed user nonce scripts given before after report) → IsTrace given (length (scripts_of scripts)) report.trace
 trace-made user nonce scripts given before after report p =
-    subst (λ (n : ℕ). IsTrace given n (map mark_of report.trace)) (sym (length-map scripts (map command_of)))
-    (subst (λ (ts : List told.TurnMark). IsTrace given (length scripts) ts) (ap (λ ts. map mark_of ts) (sym p.reports.trace))
+    subst (λ (n : ℕ). IsTrace given n report.trace) (sym (length-map scripts (map command_of)))
+    (subst (λ (ts : List TurnMark). IsTrace given (length scripts) ts) (sym p.reports.trace)
     (turns_are_in_order scripts given p.new p.last p.link after p.is_new p.fresh.delivered p.plays))
 
 -- also where the link tells nothing

@@ -15,14 +15,14 @@ use Rattle.pg_desk.specs.History.{State, joined, after_all}
 use Rattle.pg_desk.specs.Kept.{legal-joined}
 use Rattle.pg_desk.specs.declared.event.Event.{Event}
 use Rattle.pg_desk.specs.declared.event.Event.TheVariants.{CloseRequests}
-use Rattle.pg_desk.specs.declared.event.Stamp.{Stamp}
+use Rattle.pg_spec.specs.declared.stamps.Stamp.{Stamp}
+use Rattle.pg_spec.specs.declared.stamps.TurnMark.{TurnMark}
 use Rattle.pg_errors.specs.declared.async_message.AsyncMessage.{AsyncMessage}
 use Rattle.pg_faults.specs.declared.error.Error.{Error}
 use Rattle.pg_hub.specs.Becomes.{after-joined, fits-touched}
 use Rattle.pg_hub.specs.Fits.{Fits, HubBecomes}
 use Rattle.pg_hub.specs.Standing.{Standing}
 use Rattle.pg_text.specs.declared.command.Command.{Command}
-use Rattle.pg_text.specs.declared.report.TurnMark.{TurnMark}
 use Rattle.pg_session.proofs.CrossedChain.{quiet-walk}
 use Rattle.pg_session.proofs.CrossedTurns.{Moves, moves-by}
 use Rattle.pg_session.specs.Events.{events_in_handle, events_in_close, events_behind, events_in_turn, events_in}

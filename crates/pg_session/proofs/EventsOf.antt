@@ -1,7 +1,7 @@
 -- A session's events, the trace and the replies.
 use Rattle.std.proofs.Common.{◌≡◌, ℕ, zero, suc, ◌^◌, ◌<◌, List, [], ◌∷◌, ◌++◌, length, map, take, drop, true, Some, unwrap_or, slice_get, refl, sym, ap, ◌∙◌, subst, arith, not}
 use Rattle.std.proofs.lemmas.List.{append-nil, append_assoc, length-map, take-append-drop}
-use Rattle.pg_spec.specs.EndedWell.{Session, later_messages, reply as reply_to}
+use Rattle.pg_promises.specs.EndedWell.{Session, later_messages, reply as reply_to}
 use Rattle.pg_spec.specs.Links.{LinkView, added}
 use Rattle.pg_spec.specs.RawMessages.{RawMessage, cut_after, is_aside, is_ready, sync_of}
 use Rattle.pg_spec.specs.Turns.{delivered_after}
@@ -11,10 +11,9 @@ use Rattle.pg_connect.proofs.Joining.{delivered_by-append}
 use Rattle.pg_desk.proofs.Soundness.{legal-sound}
 use Rattle.pg_desk.specs.History.{start, after_all, joined, received, reply, taken, IsFrontOf, IsLegal}
 use Rattle.pg_desk.specs.declared.event.Event.{Event}
-use Rattle.pg_text.specs.Views.{mark_of}
 use Rattle.pg_text.specs.declared.command.Command.{Command}
 use Rattle.pg_text.specs.declared.report.Report.{Report}
-use Rattle.pg_text.specs.declared.report.TurnMark.{TurnMark}
+use Rattle.pg_spec.specs.declared.stamps.TurnMark.{TurnMark}
 use Rattle.pg_session.proofs.CrossedAll.{all-crossed}
 use Rattle.pg_session.proofs.CrossedHub.{received-all}
 use Rattle.pg_session.proofs.CrossedTurns.{Moves}
@@ -47,7 +46,7 @@ counts-long before (m ∷ marks) [] h = absurd h
 counts-long before (m ∷ marks) (es ∷ events) h = ap suc (counts-long (before ++ es) marks events h.1)
 
 counts-at : (before : List Event) (marks : List TurnMark) (events : List (List Event)) → Counts before marks events → (n : ℕ) → n < length marks →
-    delivered_after (map mark_of marks) n ≡ risen 0 (length (delivered_by (before ++ joined (take (suc n) events))))
+    delivered_after marks n ≡ risen 0 (length (delivered_by (before ++ joined (take (suc n) events))))
 counts-at before [] events h n lt = absurd (omega (arith, lt))
 counts-at before (m ∷ marks) [] h n lt = absurd h
 counts-at before (m ∷ marks) (es ∷ events) h zero lt = h.0 ∙ ap (λ (l : List Event). risen 0 (length (delivered_by (before ++ l)))) (sym (append-nil es))
@@ -163,13 +162,13 @@ module _ (user nonce : List ℕ) (scripts : List (List Command)) (given : List �
         subst (λ (l : List RawMessage). IsFrontOf (joined (taken k st.takes)) l) (ap (reply k) came ∙ reply-is k) (taken-front st k (legal-sound 0 0 whole legal))
 
     delivered-at : (place : ℕ) → place < length report.trace →
-        received (after_all (start 0 0) (events_by scripts events (suc place))).deliveries ≡ take (delivered_after (map mark_of report.trace) place) (sync_of (later_messages s))
+        received (after_all (start 0 0) (events_by scripts events (suc place))).deliveries ≡ take (delivered_after report.trace place) (sync_of (later_messages s))
     delivered-at place lt =
         let by : List Event = events_by scripts events (suc place) in
         let front : IsFrontOf (delivered_by by) all = subst (λ (l : List RawMessage). IsFrontOf (delivered_by by) l) delivers (delivered-front first events (suc place)) in
         let made : place < length traced.marks = omega (arith, lt, ap (λ (l : List TurnMark). length l) trace-is) in
-        let count : delivered_after (map mark_of report.trace) place ≡ length (delivered_by by) =
-        ap (λ (l : List TurnMark). delivered_after (map mark_of l) place) trace-is ∙ counts-at first traced.marks events traced.counts place made
+        let count : delivered_after report.trace place ≡ length (delivered_by by) =
+        ap (λ (l : List TurnMark). delivered_after l place) trace-is ∙ counts-at first traced.marks events traced.counts place made
         ∙ risen-small (length (delivered_by by)) (omega (arith, front-short (delivered_by by) all front, came-less)) in
         received-all (start 0 0) by
         ∙ sym (ap (λ (n : ℕ). take n (sync_of (later_messages s))) count ∙ ap (take (length (delivered_by by))) sync ∙ front-take (delivered_by by) all (length (delivered_by by)) front refl)
@@ -177,5 +176,5 @@ module _ (user nonce : List ℕ) (scripts : List (List Command)) (given : List �
     pub reads-so : ReadsItsReply scripts s events
     reads-so = record {
       took = took-front;
-      delivered = λ place lt. delivered-at place (omega (arith, lt, length-map report.trace mark_of));
+      delivered = λ place lt. delivered-at place (lt);
     }

@@ -1,7 +1,7 @@
 -- No more bytes than the limit were given, unless the session failed for that, or memory lacked.
 use Rattle.std.proofs.Common.{◌≡◌, ℕ, ◌≤◌, List, [], length, Some, Err, ap, subst, ◌∙◌, arith}
 use Rattle.futures.specs.declared.task.Poll.TheVariants.{Ready}
-use Rattle.pg_spec.specs.Causes.{Call}
+use Rattle.pg_promises.specs.Causes.{Call}
 use Rattle.pg_spec.specs.Links.{LinkView, Grew, OfBytes}
 use Rattle.pg_spec.specs.RawMessages.{RawMessage}
 use Rattle.pg_faults.specs.declared.error.Error.{Error}

@@ -8,7 +8,7 @@ use Rattle.std.proofs.lemmas.List.{append-nil, length-append, length-take, take_
 use Rattle.std.proofs.lemmas.List.Elements.{All-get_or}
 use Rattle.std.proofs.lemmas.Option.{slice_get_within, slice_get-get_or, same_Some}
 use Rattle.pg_spec.specs.Book.{Booking, is_of, bookings_of, request_of}
-use Rattle.pg_spec.specs.EndedWell.{Session, IsDecided, later_messages, reply as reply_to, booked_in, delivered_of, own_requests, answer_of as answer_to}
+use Rattle.pg_promises.specs.EndedWell.{Session, IsDecided, later_messages, reply as reply_to, booked_in, delivered_of, own_requests, answer_of as answer_to}
 use Rattle.pg_spec.specs.Faults as spec
 use Rattle.pg_spec.specs.Frames.{query_frame}
 use Rattle.pg_spec.specs.RawMessages.{RawMessage, groups, sync_of, is_aside, is_ready, cut_after}

@@ -6,9 +6,10 @@ use Rattle.pg_spec.specs.Book.{Booking}
 use Rattle.pg_spec.specs.Faults as spec
 use Rattle.pg_spec.specs.Frames.{query_frame}
 use Rattle.pg_spec.specs.RawMessages.{RawMessage}
-use Rattle.pg_spec.specs.Report.{Answer, Failed, Command, Simple, TurnMark, simple_answer}
+use Rattle.pg_spec.specs.Report.{Answer, Failed, Command, Simple, simple_answer}
+use Rattle.pg_spec.specs.declared.stamps.TurnMark.{TurnMark}
 use Rattle.pg_spec.specs.SimpleQuery.{Item, simple_reading}
-use Rattle.pg_spec.specs.EndedWell.{answer_at_once}
+use Rattle.pg_promises.specs.EndedWell.{answer_at_once}
 use Rattle.pg_spec.specs.Turns.{Times, entry_at, turn_of}
 use Rattle.pg_desk.specs.History.{reply}
 use Rattle.pg_session.proofs.LivesAnswers.{decided-more}

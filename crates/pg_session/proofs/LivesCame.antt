@@ -2,7 +2,7 @@
 use Rattle.std.proofs.Common.{◌≡◌, ℕ, zero, suc, ◌<◌, ◌≤◌, List, [], ◌∷◌, ◌++◌, length, Option, Some, None, refl, sym, ap, ◌∙◌, subst, arith, inl, inr, ◌⊎◌, unwrap_or, option_map, slice_get}
 use Rattle.std.proofs.lemmas.Bool.{cases_lt}
 use Rattle.pg_spec.specs.RawMessages.{RawMessage}
-use Rattle.pg_spec.specs.Report.{TurnMark}
+use Rattle.pg_spec.specs.declared.stamps.TurnMark.{TurnMark}
 use Rattle.pg_spec.specs.Turns.{delivered_before}
 use Rattle.pg_connect.specs.Passes.{risen}
 use Rattle.pg_desk.specs.History.{IsFrontOf}

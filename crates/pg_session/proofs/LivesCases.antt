@@ -12,7 +12,7 @@ use Rattle.pg_client.specs.Simple.{answer_view, simple_query}
 use Rattle.pg_desk.specs.History.{State, taken, is_hung_up, after, after_all, IsExact, IsFrontOf, joined, received, reply}
 use Rattle.pg_desk.specs.declared.event.Event.{Event}
 use Rattle.pg_desk.specs.declared.event.Event.TheVariants as call
-use Rattle.pg_desk.specs.declared.event.Stamp.{Stamp}
+use Rattle.pg_spec.specs.declared.stamps.Stamp.{Stamp}
 use Rattle.pg_desk.specs.declared.event.Take.TheVariants as taking
 use Rattle.pg_faults.specs.declared.error.Error.{Error}
 use Rattle.pg_hub.specs.Fits.{Fits, HubBecomes}

@@ -10,7 +10,7 @@ use Rattle.pg_desk.specs.Kept.{legal-if-exact}
 use Rattle.pg_desk.specs.History.{State, start, taken, waiting, is_hung_up, after, after_all, take_answer, Allows, Needs, IsExact, IsFrontOf, IsSound, joined, received, reply}
 use Rattle.pg_desk.specs.declared.event.Event.{Event}
 use Rattle.pg_desk.specs.declared.event.Event.TheVariants as call
-use Rattle.pg_desk.specs.declared.event.Stamp.{Stamp}
+use Rattle.pg_spec.specs.declared.stamps.Stamp.{Stamp}
 use Rattle.pg_desk.specs.declared.event.Take.TheVariants as taking
 use Rattle.pg_faults.specs.declared.error.Error.{Error}
 use Rattle.pg_hub.specs.Becomes.{after-joined, exact-joined}

@@ -9,7 +9,8 @@ use Rattle.pg_spec.specs.RawMessages.{RawMessage}
 use Rattle.pg_spec.specs.Report as told
 use Rattle.pg_spec.specs.Turns.{Times}
 use Rattle.pg_desk.specs.History.{State, after_all, received}
-use Rattle.pg_desk.specs.declared.event.Stamp.{Stamp}
+use Rattle.pg_spec.specs.declared.stamps.Stamp.{Stamp}
+use Rattle.pg_spec.specs.declared.stamps.TurnMark.{TurnMark}
 use Rattle.pg_faults.specs.declared.error.Error.{Error}
 use Rattle.pg_faults.specs.declared.error.Error.TheVariants.{OutOfMemory}
 use Rattle.pg_hub.specs.Fits.{HubBecomes}
@@ -32,7 +33,7 @@ use Rattle.pg_session.specs.HandleTurns.{AsksCommand, BeginsNext, kept_answer, I
 use Rattle.pg_session.specs.States.{HandleState}
 
 -- a handle's commands, as many as it tells
-pub record HandleStands (script : List Command) (trace : List told.TurnMark) (book : List said.Booking) (came : List (List RawMessage)) (s : State)
+pub record HandleStands (script : List Command) (trace : List TurnMark) (book : List said.Booking) (came : List (List RawMessage)) (s : State)
     (handle : ℕ) (h : HandleState) (row : List Times) : Type 0 where
   pub count : length row ≡ length h.answers
   pub stands : RowStands (map command_of script) trace book came (map answer_of h.answers) s handle row h.running
@@ -50,7 +51,7 @@ abbrev pub now_come : {a : Standing} → Reached a → List RawMessage
 now_come was = received (state_of was).deliveries
 
 -- a turn of a handle, in which so many commands answered
-pub record Polled (script : List Command) (trace : List told.TurnMark) (m : told.TurnMark) (came : List (List RawMessage)) (turn time : ℕ)
+pub record Polled (script : List Command) (trace : List TurnMark) (m : TurnMark) (came : List (List RawMessage)) (turn time : ℕ)
     (a : Standing) (was : Reached a) (old : HandleState) (b : Standing) (new : HandleState)
     (answered : ℕ) : Type 0 where
   pub reached : Reached b
@@ -99,7 +100,7 @@ booked-within a was k x e = omega (arith, slice_get_within (book_in a) k x e, le
 pub booked-many : (a : Standing) (was : Reached a) → length (state_of was).book ≡ length (book_in a)
 booked-many a was = sym (length-map a.book booking_of ∙ ap length was.fits.book)
 
-module _ (script : List Command) (trace : List told.TurnMark) (m : told.TurnMark) (came : List (List RawMessage)) (turn time : ℕ) (a : Standing) (old : HandleState) (row : List Times)
+module _ (script : List Command) (trace : List TurnMark) (m : TurnMark) (came : List (List RawMessage)) (turn time : ℕ) (a : Standing) (old : HandleState) (row : List Times)
     (own : m.turn ≡ turn) (made : length trace ≡ time) (many : length came ≡ length trace) (within : length old.answers ≤ length script) (was : Reached a) (whole : a.failed ≡ false)
     (h : HandleStands script trace (book_in a) came (state_of was) turn old row) where
   -- how its commands stand, where this runs

@@ -5,7 +5,7 @@ use Rattle.pg_desk.specs.declared.event.Out.TheVariants as out
 use Rattle.pg_desk.specs.declared.event.Take.TheVariants as taking
 use Rattle.pg_desk.specs.declared.event.Event.{Event}
 use Rattle.pg_desk.specs.declared.event.Event.TheVariants.{Book, Take as TakeEvent, HangUp, NextStatement, NextPortal, NextOut, Deliver as DeliverEvent, CloseRequests, Fail}
-use Rattle.pg_desk.specs.declared.event.Stamp.{Stamp}
+use Rattle.pg_spec.specs.declared.stamps.Stamp.{Stamp}
 use Rattle.pg_desk.specs.History.{State, has_open, after, after_all, out_of_rest, wire, Allows, IsExact}
 use Rattle.pg_query.specs.Lives.{Deed, IsOf, AllOf}
 use Rattle.pg_connect.specs.Ends.{last_is, has_no_more}

@@ -1,7 +1,7 @@
 -- Lists of turns and of requests that grow at their end.
 use Rattle.std.proofs.Common.{◌≡◌, ◌≢◌, ℕ, zero, suc, ◌<◌, ◌≤◌, List, [], ◌∷◌, ◌++◌, length, Option, Some, refl, sym, ap, ◌∙◌, arith, inl, inr, ◌⊎◌, set, unwrap_or, option_map, slice_get}
 use Rattle.std.specs.Prelude.{⊤}
-use Rattle.pg_spec.specs.Report.{TurnMark}
+use Rattle.pg_spec.specs.declared.stamps.TurnMark.{TurnMark}
 use Rattle.pg_spec.specs.Turns.{turn_of, IsFirstTurn, IsOwnTurn}
 
 -- ---- what stands at a place

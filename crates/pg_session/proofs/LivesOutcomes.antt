@@ -11,7 +11,7 @@ use Rattle.pg_client.proofs.Life.{query-awaits}
 use Rattle.pg_desk.specs.History.{State, after_all, IsExact, IsFrontOf, received, reply}
 use Rattle.pg_desk.specs.declared.event.Event.{Event}
 use Rattle.pg_desk.specs.declared.event.Event.TheVariants as call
-use Rattle.pg_desk.specs.declared.event.Stamp.{Stamp}
+use Rattle.pg_spec.specs.declared.stamps.Stamp.{Stamp}
 use Rattle.pg_desk.specs.declared.event.Take.TheVariants as taking
 use Rattle.pg_faults.specs.declared.error.Error.{Error}
 use Rattle.pg_query.specs.Dialogue.{Dialogue, Read, Steps, Walks}

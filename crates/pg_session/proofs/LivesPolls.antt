@@ -8,7 +8,7 @@ use Rattle.pg_spec.specs.SimpleQuery.{simple_reading}
 use Rattle.pg_desk.specs.declared.event.DeskFault.{DeskFault}
 use Rattle.pg_desk.specs.declared.event.Event.{Event}
 use Rattle.pg_desk.specs.declared.event.Event.TheVariants as call
-use Rattle.pg_desk.specs.declared.event.Stamp.{Stamp}
+use Rattle.pg_spec.specs.declared.stamps.Stamp.{Stamp}
 use Rattle.pg_faults.specs.declared.error.Error.{Error}
 use Rattle.pg_desk.specs.History.{IsFrontOf}
 use Rattle.pg_query.specs.Dialogue.{Answer, Walks}

@@ -7,7 +7,7 @@ use Rattle.pg_desk.specs.declared.event.DeskFault.{DeskFault}
 use Rattle.pg_desk.specs.declared.event.DeskFault.TheVariants as fault
 use Rattle.pg_desk.specs.declared.event.Event.{Event}
 use Rattle.pg_desk.specs.declared.event.Event.TheVariants.{Book, CloseRequests}
-use Rattle.pg_desk.specs.declared.event.Stamp.{Stamp}
+use Rattle.pg_spec.specs.declared.stamps.Stamp.{Stamp}
 use Rattle.pg_desk.specs.History.{State, start, after, after_all, ended, Allows, IsExact}
 use Rattle.pg_faults.specs.declared.error.Error.{Error}
 use Rattle.pg_faults.specs.declared.error.Error.TheVariants.{OutOfMemory}

@@ -7,11 +7,12 @@ use Rattle.std.proofs.lemmas.List.{append-nil}
 use Rattle.std.proofs.lemmas.List.Elements.{filter-append}
 use Rattle.std.proofs.lemmas.Option.{slice_get_within}
 use Rattle.pg_spec.specs.Book.{Booking, is_of, bookings_of}
-use Rattle.pg_spec.specs.EndedWell.{own_requests}
+use Rattle.pg_promises.specs.EndedWell.{own_requests}
 use Rattle.pg_spec.specs.Faults as spec
 use Rattle.pg_spec.specs.Frames.{query_frame}
 use Rattle.pg_spec.specs.RawMessages.{RawMessage}
-use Rattle.pg_spec.specs.Report.{Answer, Failed, Command, Simple, TurnMark}
+use Rattle.pg_spec.specs.Report.{Answer, Failed, Command, Simple}
+use Rattle.pg_spec.specs.declared.stamps.TurnMark.{TurnMark}
 use Rattle.pg_spec.specs.Turns.{IsFirstTurn, IsOwnTurn, Times, turn_of}
 use Rattle.pg_query.specs.Meaning.{Place}
 use Rattle.pg_query.specs.declared.simple_message.SimpleMessage.{SimpleMessage}

@@ -9,6 +9,7 @@ use Rattle.pg_spec.specs.Links.{LinkView}
 use Rattle.pg_spec.specs.RawMessages.{RawMessage}
 use Rattle.pg_spec.specs.Report as told
 use Rattle.pg_spec.specs.Turns.{delivered_before}
+use Rattle.pg_spec.specs.declared.stamps.TurnMark.{TurnMark}
 use Rattle.pg_connect.specs.Answers.{PollAnswers}
 use Rattle.pg_connect.specs.Ends.{last_is, has_no_more}
 use Rattle.pg_connect.specs.Passed.{delivered_by}
@@ -22,7 +23,7 @@ use Rattle.pg_errors.specs.declared.async_message.AsyncMessage.{AsyncMessage}
 use Rattle.pg_faults.specs.declared.error.Error.{Error}
 use Rattle.pg_hub.specs.Fits.{Fits, HubBecomes}
 use Rattle.pg_hub.specs.Standing.{Standing}
-use Rattle.pg_text.specs.Views.{command_of, scripts_of, mark_of, booking_of, answer_of}
+use Rattle.pg_text.specs.Views.{command_of, scripts_of, booking_of, answer_of}
 use Rattle.pg_text.specs.declared.command.Command.{Command}
 use Rattle.pg_session.proofs.LivesBook.{BookStands, book-empty, book-later, left, left-new}
 use Rattle.pg_session.proofs.LivesCame.{Counted, fronts-grow, counted-grow, counted-last}
@@ -80,7 +81,7 @@ connection-turn : (scripts : List (List Command)) (turn : ℕ) (s t : SessionSta
     AllEngineCalls (calls_in_poll s.hub t.hub s.streams t.streams l m made.answer made.polled) → (h : SessionStands scripts s) →
     Onward scripts s t h (delivered_by (calls_in_poll s.hub t.hub s.streams t.streams l m made.answer made.polled))
 connection-turn scripts turn s t l m over past made calls h =
-    let mark : told.TurnMark = record { turn = turn; delivered = t.streams.delivered } in
+    let mark : TurnMark = record { turn = turn; delivered = t.streams.delivered } in
     let events = calls_in_poll s.hub t.hub s.streams t.streams l m made.answer made.polled in
     let p = polled-engine s.hub t.hub s.streams t.streams l m made.answer made.polled s.asynchronous t.asynchronous over made.hands in
     let kept = engine-kept s.hub t.hub events h.reached p.became calls in
@@ -88,7 +89,7 @@ connection-turn scripts turn s t l m over past made calls h =
     let ends : state_of next ≡ after_all (state_of h.reached) events = state-more s.hub t.hub events h.reached p.became in
     let more-come : now_come next ≡ now_come h.reached ++ delivered_by events =
     ap (λ (x : State). received x.deliveries) ends ∙ engine-received (state_of h.reached) events calls in
-    let traced : trace_of t ≡ trace_of s ++ mark ∷ [] = ap (map mark_of) made.trace ∙ map-append mark_of s.trace (record { turn = turn; delivered = t.streams.delivered } ∷ []) in
+    let traced : trace_of t ≡ trace_of s ++ mark ∷ [] = made.trace in
     record {
       stands = record {
         reached = next;
@@ -98,18 +99,18 @@ connection-turn scripts turn s t l m over past made calls h =
         unanswered = made.unanswered ∙ h.unanswered ∙ ap (left scripts) (sym made.handles);
         many = ap (λ (hs : List HandleState). length hs) made.handles ∙ h.many;
         came = h.came ++ now_come h.reached ∷ [];
-        one_for_each = omega (arith, one-more h.came (now_come h.reached), ap (λ (tr : List told.TurnMark). length tr) traced, one-more (trace_of s) mark, h.one_for_each);
+        one_for_each = omega (arith, one-more h.came (now_come h.reached), ap (λ (tr : List TurnMark). length tr) traced, one-more (trace_of s) mark, h.one_for_each);
         fronts = fronts-grow h.came (now_come h.reached) (now_come next) h.fronts (delivered_by events, sym more-come);
-        counted = subst (λ (tr : List told.TurnMark). Counted tr (h.came ++ now_come h.reached ∷ [])) (sym traced)
+        counted = subst (λ (tr : List TurnMark). Counted tr (h.came ++ now_come h.reached ∷ [])) (sym traced)
             (counted-grow (trace_of s) mark h.came (now_come h.reached) h.one_for_each (h.marked ∙ h.counted_now) h.counted);
-        marked = ap (λ (tr : List told.TurnMark). delivered_before tr (length tr)) traced ∙ counted-last (trace_of s) mark;
+        marked = ap (λ (tr : List TurnMark). delivered_before tr (length tr)) traced ∙ counted-last (trace_of s) mark;
         counted_now = risen_then 0 s.streams.delivered t.streams.delivered (length (now_come h.reached)) (length (delivered_by events)) (length (now_come next)) h.counted_now p.delivered
             (ap (λ (ms : List RawMessage). length ms) more-come ∙ length-append (now_come h.reached) (delivered_by events));
         rows = h.rows;
         handles = λ i script g e f.
             let was = h.handles i script g e (sym (ap (λ (hs : List HandleState). slice_get hs i) made.handles) ∙ f) in
             let lt = slice_get_within scripts i script e in
-            subst (λ (tr : List told.TurnMark). HandleStands script tr (book_in t.hub) (h.came ++ now_come h.reached ∷ []) (state_of next) i g (h.rows i)) (sym traced)
+            subst (λ (tr : List TurnMark). HandleStands script tr (book_in t.hub) (h.came ++ now_come h.reached ∷ []) (state_of next) i g (h.rows i)) (sym traced)
             (record {
               count = was.count;
               stands = other-turn (map command_of script) (trace_of s) mark (book_in s.hub) (book_in t.hub) h.came (now_come h.reached) (map answer_of g.answers) (state_of h.reached) (state_of next) i (h.rows i) g.running
@@ -124,7 +125,7 @@ connection-turn scripts turn s t l m over past made calls h =
               requests = subst (λ (bs : List said.Booking). OwnRequests (map command_of script) bs i (begun g)) (sym kept.book) was.requests;
             });
         book = subst (λ (bs : List said.Booking). BookStands (scripts_of scripts) (length (trace_of t)) bs) (sym kept.book)
-            (subst (λ (n : ℕ). BookStands (scripts_of scripts) n (book_in s.hub)) (sym (ap (λ (tr : List told.TurnMark). length tr) traced ∙ one-more (trace_of s) mark))
+            (subst (λ (n : ℕ). BookStands (scripts_of scripts) n (book_in s.hub)) (sym (ap (λ (tr : List TurnMark). length tr) traced ∙ one-more (trace_of s) mark))
             (book-later (scripts_of scripts) (length (trace_of s)) (book_in s.hub) h.book));
       };
       came = more-come;
@@ -240,7 +241,7 @@ pub new-stands : (scripts : List (List Command)) (s : SessionState) → IsNewSes
     Begins scripts s
 new-stands scripts s h active none =
     let o = opens (commands_in scripts) h.hub s.hub h.new h.closes in
-    let traced : trace_of s ≡ [] = ap (map mark_of) h.trace in
+    let traced : trace_of s ≡ [] = h.trace in
     record {
       stands = record {
         reached = o.reached;
@@ -250,18 +251,18 @@ new-stands scripts s h active none =
         unanswered = h.unanswered ∙ sym (left-new scripts) ∙ ap (left scripts) (sym h.handles);
         many = ap (λ (hs : List HandleState). length hs) h.handles ∙ length-map scripts (λ (script : List Command). idle_handle);
         came = [];
-        one_for_each = sym (ap (λ (tr : List told.TurnMark). length tr) traced);
+        one_for_each = sym (ap (λ (tr : List TurnMark). length tr) traced);
         fronts = λ place. (now_come o.reached, refl);
-        counted = λ place lt. absurd (omega (arith, lt, ap (λ (tr : List told.TurnMark). length tr) traced));
-        marked = ap (λ (tr : List told.TurnMark). delivered_before tr (length tr)) traced ∙ sym none;
+        counted = λ place lt. absurd (omega (arith, lt, ap (λ (tr : List TurnMark). length tr) traced));
+        marked = ap (λ (tr : List TurnMark). delivered_before tr (length tr)) traced ∙ sym none;
         counted_now = none ∙ sym (ap (λ (ms : List RawMessage). risen 0 (length ms)) o.come);
         rows = λ i. [];
         handles = λ i script g e f.
-            subst (λ (tr : List told.TurnMark). HandleStands script tr (book_in s.hub) [] (state_of o.reached) i g []) (sym traced)
+            subst (λ (tr : List TurnMark). HandleStands script tr (book_in s.hub) [] (state_of o.reached) i g []) (sym traced)
             (subst (λ (bs : List said.Booking). HandleStands script [] bs [] (state_of o.reached) i g []) (sym o.book)
             (idle-stands script (state_of o.reached) i g (new-handle scripts i g (sym (ap (λ (hs : List HandleState). slice_get hs i) h.handles) ∙ f))));
         book = subst (λ (bs : List said.Booking). BookStands (scripts_of scripts) (length (trace_of s)) bs) (sym o.book)
-            (subst (λ (n : ℕ). BookStands (scripts_of scripts) n []) (sym (ap (λ (tr : List told.TurnMark). length tr) traced)) (book-empty (scripts_of scripts)));
+            (subst (λ (n : ℕ). BookStands (scripts_of scripts) n []) (sym (ap (λ (tr : List TurnMark). length tr) traced)) (book-empty (scripts_of scripts)));
       };
       come = o.come;
     }

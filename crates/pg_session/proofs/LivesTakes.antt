@@ -12,7 +12,7 @@ use Rattle.pg_desk.specs.declared.event.Deliver.TheVariants as delivering
 use Rattle.pg_desk.specs.declared.event.Event.{Event}
 use Rattle.pg_desk.specs.declared.event.Event.TheVariants.{Book, Take as TakeEvent, HangUp, NextStatement, NextPortal, NextOut, Deliver as DeliverEvent, CloseRequests, Fail}
 use Rattle.pg_desk.specs.declared.event.Out.TheVariants as out
-use Rattle.pg_desk.specs.declared.event.Stamp.{Stamp}
+use Rattle.pg_spec.specs.declared.stamps.Stamp.{Stamp}
 use Rattle.pg_desk.specs.declared.event.Take.TheVariants as taking
 use Rattle.pg_desk.specs.History.{State, Delivery, finished, given, between_ends, has_ended, next_owner, may_let_go, taken, waiting, is_in, is_hung_up, after, after_all, take_answer, take_of_waiting, Allows, IsExact, IsFrontOf, IsSound, joined, received, reply}
 use Rattle.pg_desk.proofs.Soundness.{AllCut, cut-more, taken-own, taken-other}

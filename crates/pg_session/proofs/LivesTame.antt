@@ -6,7 +6,7 @@ use Rattle.pg_spec.specs.Frames.{query_frame}
 use Rattle.pg_spec.specs.RawMessages.{RawMessage}
 use Rattle.pg_desk.specs.declared.event.Event.{Event}
 use Rattle.pg_desk.specs.declared.event.Event.TheVariants as call
-use Rattle.pg_desk.specs.declared.event.Stamp.{Stamp}
+use Rattle.pg_spec.specs.declared.stamps.Stamp.{Stamp}
 use Rattle.pg_desk.specs.declared.event.DeskFault.{DeskFault}
 use Rattle.pg_desk.specs.declared.event.Take.{Take}
 use Rattle.pg_desk.specs.declared.event.Take.TheVariants as taking

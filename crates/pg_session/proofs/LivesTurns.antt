@@ -8,13 +8,14 @@ use Rattle.pg_spec.specs.Book as said
 use Rattle.pg_spec.specs.Report as told
 use Rattle.pg_spec.specs.RawMessages.{RawMessage}
 use Rattle.pg_spec.specs.Turns.{Times, delivered_before}
+use Rattle.pg_spec.specs.declared.stamps.TurnMark.{TurnMark}
 use Rattle.pg_connect.specs.Passes.{risen}
 use Rattle.pg_connect.specs.declared.streams.Streams.{Streams}
 use Rattle.pg_desk.specs.declared.event.Event.TheVariants.{CloseRequests}
 use Rattle.pg_desk.specs.History.{State, Delivery, IsFrontOf, received}
 use Rattle.pg_hub.specs.Fits.{HubBecomes}
 use Rattle.pg_hub.specs.Standing.{Standing}
-use Rattle.pg_text.specs.Views.{command_of, scripts_of, mark_of, answer_of}
+use Rattle.pg_text.specs.Views.{command_of, scripts_of, answer_of}
 use Rattle.pg_text.specs.declared.command.Command.{Command}
 use Rattle.pg_session.specs.declared.handle_turn.Polling.{Polling}
 use Rattle.pg_session.specs.declared.handle_turn.Polling.TheVariants as polling
@@ -32,8 +33,8 @@ use Rattle.pg_session.specs.States.{HandleState, SessionState}
 use Rattle.pg_session.specs.Turns.{untouched, Closes, ClosesBehind, left_behind, HandleMade}
 
 -- the turns, as a report tells them
-abbrev pub trace_of : SessionState → List told.TurnMark
-trace_of s = map mark_of s.trace
+abbrev pub trace_of : SessionState → List TurnMark
+trace_of s = s.trace
 
 -- the commands and times of each handle, the book, what came, and what is open
 pub record SessionStands (scripts : List (List Command)) (s : SessionState) : Type 0 where
@@ -61,13 +62,13 @@ abbrev answered_in : Polling → ℕ
 answered_in polling.Answered = 1
 answered_in other = 0
 
-pub made-there : (script : List Command) (trace : List told.TurnMark) (book : List said.Booking) (came : List (List RawMessage)) (s : State) (i : ℕ)
+pub made-there : (script : List Command) (trace : List TurnMark) (book : List said.Booking) (came : List (List RawMessage)) (s : State) (i : ℕ)
     (h : HandleState) (row : List Times) →
     HandleStands script trace book came s i h row → length h.answers ≤ length script
 made-there script trace book came s i h row k =
     omega (arith, row-within (map command_of script) trace book came (map answer_of h.answers) s i row h.running k.stands, k.count, length-map script command_of)
 
-polled-by : (script : List Command) (trace : List told.TurnMark) (m : told.TurnMark) (came : List (List RawMessage)) (turn time : ℕ) (a : Standing)
+polled-by : (script : List Command) (trace : List TurnMark) (m : TurnMark) (came : List (List RawMessage)) (turn time : ℕ) (a : Standing)
     (old : HandleState) (row : List Times) → m.turn ≡ turn → length trace ≡ time →
     length came ≡ length trace → (was : Reached a) → a.failed ≡ false → HandleStands script trace (book_in a) came (state_of was) turn old row →
     (length old.answers < length script → a.closed ≡ false) →
@@ -154,7 +155,7 @@ eq-other : (a b : ℕ) → a ≢ b → (a == b) ≡ false
 eq-other a b h = grind (arith, nat_tests)
 
 -- another handle's turn changes nothing of it
-others-stand : (script : List Command) (trace : List told.TurnMark) (m : told.TurnMark) (came : List (List RawMessage)) (c : List RawMessage)
+others-stand : (script : List Command) (trace : List TurnMark) (m : TurnMark) (came : List (List RawMessage)) (c : List RawMessage)
     (script' : List Command) (turn place time : ℕ) (a b : Standing) (was : Reached a) (now : Reached b)
     (i : ℕ) (h : HandleState) (row : List Times) → length came ≡ length trace → m.turn ≡ turn → turn ≢ i → Books script' turn place time a b →
     ((k : ℕ) (x : said.Booking) → slice_get (book_in a) k ≡ Some x → x.stamp.owner ≢ turn → SameReader k (state_of was) (state_of now)) →
@@ -206,17 +207,16 @@ pub record Onward (scripts : List (List Command)) (s t : SessionState) (h : Sess
 pub handle-turn : (scripts : List (List Command)) (turn : ℕ) (s t : SessionState) (did : Polling) → HandleMade scripts turn s t did →
     (h : SessionStands scripts s) → Onward scripts s t h []
 handle-turn scripts turn s t did made h =
-    let m : told.TurnMark = record { turn = turn; delivered = s.streams.delivered } in
+    let m : TurnMark = record { turn = turn; delivered = s.streams.delivered } in
     let a = untouched s.hub in
     let ra = reached-untouched s.hub h.reached in
     let old = made.old in
     let was = h.handles turn made.script old made.script_at made.old_at in
-    let timed = length-map s.trace mark_of in
     let some-left = left-at scripts s.handles turn made.script old made.script_at made.old_at in
-    let polled = polled-by made.script (trace_of s) m h.came turn (length s.trace) a old (h.rows turn) refl timed h.one_for_each ra h.failed was
+    let polled = polled-by made.script (trace_of s) m h.came turn (length s.trace) a old (h.rows turn) refl refl h.one_for_each ra h.failed was
     (λ lt. false-unless s.hub.closed (λ e. let none = h.closed e in omega (arith, none, lt, some-left, h.unanswered))) made.hub made.new did made.turns in
     let behind = behind-by did made.hub t.hub s.unanswered polled.reached (λ e. h.closed (sym polled.closed ∙ e)) made.closes in
-    let traced : trace_of t ≡ trace_of s ++ m ∷ [] = ap (map mark_of) made.trace ∙ map-append mark_of s.trace (record { turn = turn; delivered = s.streams.delivered } ∷ []) in
+    let traced : trace_of t ≡ trace_of s ++ m ∷ [] = made.trace in
     let moved = left-set scripts s.handles turn made.script old made.new made.script_at made.old_at in
     let same-come : now_come behind.reached ≡ now_come h.reached = ap (λ (ds : List Delivery). received ds) (behind.deliveries ∙ polled.deliveries) in
     let same-streams : t.streams.delivered ≡ s.streams.delivered = ap (λ (x : Streams). x.delivered) made.streams in
@@ -232,29 +232,29 @@ handle-turn scripts turn s t did made h =
             ∙ ap (left scripts) (sym made.handles);
         many = ap (λ (hs : List HandleState). length hs) made.handles ∙ length-set s.handles turn made.new ∙ h.many;
         came = h.came ++ now_come h.reached ∷ [];
-        one_for_each = omega (arith, one-more h.came (now_come h.reached), ap (λ (tr : List told.TurnMark). length tr) traced, one-more (trace_of s) m, h.one_for_each);
+        one_for_each = omega (arith, one-more h.came (now_come h.reached), ap (λ (tr : List TurnMark). length tr) traced, one-more (trace_of s) m, h.one_for_each);
         fronts = fronts-grow h.came (now_come h.reached) (now_come behind.reached) h.fronts
             ([], append-nil (now_come h.reached) ∙ sym same-come);
-        counted = subst (λ (tr : List told.TurnMark). Counted tr (h.came ++ now_come h.reached ∷ [])) (sym traced)
+        counted = subst (λ (tr : List TurnMark). Counted tr (h.came ++ now_come h.reached ∷ [])) (sym traced)
             (counted-grow (trace_of s) m h.came (now_come h.reached) h.one_for_each (h.marked ∙ h.counted_now) h.counted);
-        marked = ap (λ (tr : List told.TurnMark). delivered_before tr (length tr)) traced ∙ counted-last (trace_of s) m ∙ sym same-streams;
+        marked = ap (λ (tr : List TurnMark). delivered_before tr (length tr)) traced ∙ counted-last (trace_of s) m ∙ sym same-streams;
         counted_now = same-streams ∙ h.counted_now ∙ ap (λ (ms : List RawMessage). risen 0 (length ms)) (sym same-come);
         rows = with_row turn polled.row h.rows;
         handles = λ i script g e f.
-            subst (λ (tr : List told.TurnMark). HandleStands script tr (book_in t.hub) (h.came ++ now_come h.reached ∷ []) (state_of behind.reached) i g (with_row turn polled.row h.rows i)) (sym traced)
+            subst (λ (tr : List TurnMark). HandleStands script tr (book_in t.hub) (h.came ++ now_come h.reached ∷ []) (state_of behind.reached) i g (with_row turn polled.row h.rows i)) (sym traced)
             (subst (λ (bs : List said.Booking). HandleStands script (trace_of s ++ m ∷ []) bs (h.came ++ now_come h.reached ∷ []) (state_of behind.reached) i g (with_row turn polled.row h.rows i)) (sym behind.book)
             (settled script (trace_of s ++ m ∷ []) (book_in made.hub) (h.came ++ now_come h.reached ∷ []) (state_of polled.reached) (state_of behind.reached) i g (with_row turn polled.row h.rows i) behind.more behind.readers
             (each polled i script g e (sym (ap (λ (hs : List HandleState). slice_get hs i) made.handles) ∙ f) (cases_eq i turn))));
         book = subst (λ (bs : List said.Booking). BookStands (scripts_of scripts) (length (trace_of t)) bs) (sym behind.book)
             (subst (λ (n : ℕ). BookStands (scripts_of scripts) n (book_in made.hub))
-            (sym (ap (λ (tr : List told.TurnMark). length tr) traced ∙ one-more (trace_of s) m ∙ ap suc timed))
+            (sym (ap (λ (tr : List TurnMark). length tr) traced ∙ one-more (trace_of s) m ∙ ap suc refl))
             (book-then scripts turn made.script (length old.answers) (length s.trace) a made.hub made.script_at polled.books
-            (subst (λ (n : ℕ). BookStands (scripts_of scripts) n (book_in s.hub)) timed h.book)));
+            (subst (λ (n : ℕ). BookStands (scripts_of scripts) n (book_in s.hub)) refl h.book)));
       };
       came = same-come ∙ sym (append-nil (now_come h.reached));
     }
   where
-    settled : (script : List Command) (trace : List told.TurnMark) (book : List said.Booking) (came : List (List RawMessage)) (x y : State) (i : ℕ)
+    settled : (script : List Command) (trace : List TurnMark) (book : List said.Booking) (came : List (List RawMessage)) (x y : State) (i : ℕ)
         (g : HandleState) (row : List Times) → length x.book ≤ length y.book →
         ((k : ℕ) → SameReader k x y) → HandleStands script trace book came x i g row → HandleStands script trace book came y i g row
     settled script trace book came x y i g row more same k = record {

@@ -2,14 +2,15 @@
 use Rattle.std.proofs.Common.{◌≡◌, ℕ, ◌^◌, ◌<◌, List, ◌++◌, length, map, sym, ap, ◌∙◌, subst, arith}
 use Rattle.std.proofs.lemmas.List.{append-nil, length-append, nil_from_length}
 use Rattle.pg_spec.specs.Book as said
-use Rattle.pg_spec.specs.EndedWell.{Session, HasRun, later_messages}
+use Rattle.pg_promises.specs.EndedWell.{Session, HasRun, later_messages}
 use Rattle.pg_spec.specs.Links.{LinkView}
 use Rattle.pg_spec.specs.RawMessages.{RawMessage, sync_of}
 use Rattle.pg_spec.specs.Report as told
 use Rattle.pg_spec.specs.Turns.{IsTrace, Times, delivered_before}
+use Rattle.pg_spec.specs.declared.stamps.TurnMark.{TurnMark}
 use Rattle.pg_connect.specs.Passed.{delivered_by}
 use Rattle.pg_desk.specs.History.{IsFrontOf}
-use Rattle.pg_text.specs.Views.{scripts_of, report_of, answer_of, booking_of, mark_of}
+use Rattle.pg_text.specs.Views.{scripts_of, report_of, answer_of, booking_of}
 use Rattle.pg_text.specs.declared.command.Answer.{Answer}
 use Rattle.pg_text.specs.declared.command.Command.{Command}
 use Rattle.pg_text.specs.declared.report.Report.{Report}
@@ -41,15 +42,15 @@ said-so user nonce scripts given before after report p calls =
     let ms = delivered_by (calls_of scripts given p.new p.link p.last after p.plays) in
     let answers : map (map answer_of) (map (λ handle. handle.answers) p.last.handles) ≡ map (map answer_of) report.answers = ap (λ (as_ : List (List Answer)). map (map answer_of) as_) (sym p.reports.answers) in
     let book : map booking_of p.last.hub.book ≡ map booking_of report.book = ap (λ bs. map booking_of bs) (sym p.reports.book) in
-    let trace : map mark_of p.last.trace ≡ map mark_of report.trace = ap (λ ts. map mark_of ts) (sym p.reports.trace) in
+    let trace : p.last.trace ≡ report.trace = sym p.reports.trace in
     record {
       schedule = did.schedule;
-      ran = subst (λ (as_ : List (List told.Answer)). HandlesRan (scripts_of scripts) as_ (map booking_of report.book) (map mark_of report.trace) did.schedule) answers
-          (subst (λ (bs : List said.Booking). HandlesRan (scripts_of scripts) (map (map answer_of) (map (λ handle. handle.answers) p.last.handles)) bs (map mark_of report.trace) did.schedule) book
-          (subst (λ (ts : List told.TurnMark). HandlesRan (scripts_of scripts) (map (map answer_of) (map (λ handle. handle.answers) p.last.handles)) (map booking_of p.last.hub.book) ts did.schedule) trace did.ran));
-      follow = subst (λ (as_ : List (List told.Answer)). AnswersFollow (scripts_of scripts) as_ (map booking_of report.book) (map mark_of report.trace) did.schedule ms) answers
-          (subst (λ (bs : List said.Booking). AnswersFollow (scripts_of scripts) (map (map answer_of) (map (λ handle. handle.answers) p.last.handles)) bs (map mark_of report.trace) did.schedule ms) book
-          (subst (λ (ts : List told.TurnMark). AnswersFollow (scripts_of scripts) (map (map answer_of) (map (λ handle. handle.answers) p.last.handles)) (map booking_of p.last.hub.book) ts did.schedule ms) trace did.follow));
+      ran = subst (λ (as_ : List (List told.Answer)). HandlesRan (scripts_of scripts) as_ (map booking_of report.book) report.trace did.schedule) answers
+          (subst (λ (bs : List said.Booking). HandlesRan (scripts_of scripts) (map (map answer_of) (map (λ handle. handle.answers) p.last.handles)) bs report.trace did.schedule) book
+          (subst (λ (ts : List TurnMark). HandlesRan (scripts_of scripts) (map (map answer_of) (map (λ handle. handle.answers) p.last.handles)) (map booking_of p.last.hub.book) ts did.schedule) trace did.ran));
+      follow = subst (λ (as_ : List (List told.Answer)). AnswersFollow (scripts_of scripts) as_ (map booking_of report.book) report.trace did.schedule ms) answers
+          (subst (λ (bs : List said.Booking). AnswersFollow (scripts_of scripts) (map (map answer_of) (map (λ handle. handle.answers) p.last.handles)) bs report.trace did.schedule ms) book
+          (subst (λ (ts : List TurnMark). AnswersFollow (scripts_of scripts) (map (map answer_of) (map (λ handle. handle.answers) p.last.handles)) (map booking_of p.last.hub.book) ts did.schedule ms) trace did.follow));
     }
 
 answered : (s : Session) (all : List RawMessage) → Said s.scripts s.report all → IsFrontOf all (sync_of (later_messages s)) →

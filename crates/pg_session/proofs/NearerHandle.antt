@@ -7,7 +7,7 @@ use Rattle.pg_client.specs.Simple.{asks_by, told}
 use Rattle.pg_faults.specs.declared.error.Error.{Error}
 use Rattle.pg_desk.specs.declared.event.Event.{Event}
 use Rattle.pg_desk.specs.declared.event.Event.TheVariants.{Book, Take as TakeEvent, HangUp as HangUpEvent}
-use Rattle.pg_desk.specs.declared.event.Stamp.{Stamp}
+use Rattle.pg_spec.specs.declared.stamps.Stamp.{Stamp}
 use Rattle.pg_desk.specs.declared.event.Take.TheVariants as taking
 use Rattle.pg_desk.specs.History.{State, after, after_all, IsLegal}
 use Rattle.pg_hub.specs.Fits.{Fits, moves_one, moves}

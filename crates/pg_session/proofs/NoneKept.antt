@@ -7,13 +7,14 @@ use Rattle.std.proofs.lemmas.List.{length-map}
 use Rattle.std.proofs.lemmas.List.Elements.{All-head, All-tail}
 use Rattle.std.proofs.lemmas.List.Sums.{sum_by-cons}
 use Rattle.pg_spec.specs.Book.{Booking}
-use Rattle.pg_spec.specs.Causes.{Call, startup_after}
-use Rattle.pg_spec.specs.ConnectionStrings.{Means, only_user}
+use Rattle.pg_promises.specs.Causes.{Call, startup_after}
+use Rattle.pg_promises.specs.ConnectionStrings.{Means}
+use Rattle.pg_spec.specs.Settings.{only_user}
 use Rattle.pg_spec.specs.Faults.{FrameFault}
 use Rattle.pg_spec.specs.Faults as faults
 use Rattle.pg_spec.specs.Frames.{query_frame}
 use Rattle.pg_spec.specs.Links.{LinkView}
-use Rattle.pg_spec.specs.Promises.{NoneKeptBack, is_plain, request_frame}
+use Rattle.pg_promises.specs.Promises.{NoneKeptBack, is_plain, request_frame}
 use Rattle.pg_spec.specs.RawMessages.{RawMessage}
 use Rattle.pg_spec.specs.Report as told
 use Rattle.pg_spec.specs.Report.{Simple}

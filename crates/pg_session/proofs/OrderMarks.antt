@@ -12,9 +12,8 @@ use Rattle.pg_faults.specs.declared.error.Error.{Error}
 use Rattle.pg_connect.specs.Answers.{PollAnswers}
 use Rattle.pg_connect.specs.Passes.{risen}
 use Rattle.pg_connect.specs.declared.streams.Streams.{Streams}
-use Rattle.pg_text.specs.Views.{mark_of}
 use Rattle.pg_text.specs.declared.command.Command.{Command}
-use Rattle.pg_text.specs.declared.report.TurnMark.{TurnMark}
+use Rattle.pg_spec.specs.declared.stamps.TurnMark.{TurnMark}
 use Rattle.pg_session.specs.States.{SessionState}
 use Rattle.pg_session.specs.Turns.{HandsOn, Makes}
 use Rattle.pg_session.specs.Sessions.{MakesAll, EndsWith}
@@ -75,7 +74,7 @@ last_is_connections scripts turn s t l m (inr c) = c.other
 
 -- These marks tell these turns in order, and how many messages were delivered behind each: no less than
 -- before it, and as many where it was a handle's.
-abbrev pub Marks : (handles before : ℕ) (turns : List ℕ) (marks : List said.TurnMark) (behind : ℕ) → Type 0
+abbrev pub Marks : (handles before : ℕ) (turns : List ℕ) (marks : List TurnMark) (behind : ℕ) → Type 0
 Marks handles before [] [] behind = behind ≡ before
 Marks handles before [] (mark ∷ marks) behind = ⊥
 Marks handles before (turn ∷ turns) [] behind = ⊥
@@ -86,7 +85,7 @@ Marks handles before (turn ∷ turns) (mark ∷ marks) behind =
 pub record LeaveMarks (handles : ℕ) (turns : List ℕ) (s t : SessionState) : Type 0 where
   pub marks : List TurnMark
   pub trace : t.trace ≡ s.trace ++ marks
-  pub tell : Marks handles s.streams.delivered turns (map mark_of marks) t.streams.delivered
+  pub tell : Marks handles s.streams.delivered turns marks t.streams.delivered
 
 -- no turn
 no_marks : (handles : ℕ) (s t : SessionState) → t ≡ s → LeaveMarks handles [] s t
@@ -105,7 +104,7 @@ one_mark_then handles turn turns s mid t first then = record {
     first.owner,
     first.rises,
     first.keeps,
-    subst (λ (n : ℕ). Marks handles n turns (map mark_of then.marks) t.streams.delivered) (sym first.delivered) then.tell,
+    subst (λ (n : ℕ). Marks handles n turns then.marks t.streams.delivered) (sym first.delivered) then.tell,
   );
 }
 
@@ -123,9 +122,9 @@ marks_then handles xs ys s mid t first then = record {
   tell = tell_then handles s.streams.delivered mid.streams.delivered t.streams.delivered xs ys first.marks then.marks first.tell then.tell;
 }
   where
-    tell_then : (handles a b c : ℕ) (xs ys : List ℕ) (ms ns : List TurnMark) → Marks handles a xs (map mark_of ms) b → Marks handles b ys (map mark_of ns) c →
-        Marks handles a (xs ++ ys) (map mark_of (ms ++ ns)) c
-    tell_then handles a b c [] ys [] ns first then = subst (λ (n : ℕ). Marks handles n ys (map mark_of ns) c) first then
+    tell_then : (handles a b c : ℕ) (xs ys : List ℕ) (ms ns : List TurnMark) → Marks handles a xs ms b → Marks handles b ys ns c →
+        Marks handles a (xs ++ ys) (ms ++ ns) c
+    tell_then handles a b c [] ys [] ns first then = subst (λ (n : ℕ). Marks handles n ys ns c) first then
     tell_then handles a b c [] ys (m ∷ ms) ns first then = absurd first
     tell_then handles a b c (x ∷ xs) ys [] ns first then = absurd first
     tell_then handles a b c (x ∷ xs) ys (m ∷ ms) ns first then =
@@ -140,14 +139,14 @@ marks_to_end scripts turns last s l t m e =
 
 -- ---- what the marks tell
 
-pub length-marks : (handles before : ℕ) (turns : List ℕ) (marks : List said.TurnMark) (behind : ℕ) → Marks handles before turns marks behind → length marks ≡ length turns
+pub length-marks : (handles before : ℕ) (turns : List ℕ) (marks : List TurnMark) (behind : ℕ) → Marks handles before turns marks behind → length marks ≡ length turns
 length-marks handles before [] [] behind tell = refl
 length-marks handles before [] (mark ∷ marks) behind tell = absurd tell
 length-marks handles before (turn ∷ turns) [] behind tell = absurd tell
 length-marks handles before (turn ∷ turns) (mark ∷ marks) behind tell = ap suc (length-marks handles mark.delivered turns marks behind tell.3)
 
 -- each tells its turn
-pub marks_turn : (handles before : ℕ) (turns : List ℕ) (marks : List said.TurnMark) (behind : ℕ) → Marks handles before turns marks behind →
+pub marks_turn : (handles before : ℕ) (turns : List ℕ) (marks : List TurnMark) (behind : ℕ) → Marks handles before turns marks behind →
     (place : ℕ) → turn_of marks place ≡ get_or turns place 0
 marks_turn handles before [] [] behind tell place = refl
 marks_turn handles before [] (mark ∷ marks) behind tell place = absurd tell
@@ -156,24 +155,24 @@ marks_turn handles before (turn ∷ turns) (mark ∷ marks) behind tell zero = t
 marks_turn handles before (turn ∷ turns) (mark ∷ marks) behind tell (suc place) = marks_turn handles mark.delivered turns marks behind tell.3 place
 
 -- what was delivered before a turn, where so much was before the first
-abbrev pub count_before : ℕ → List said.TurnMark → ℕ → ℕ
+abbrev pub count_before : ℕ → List TurnMark → ℕ → ℕ
 count_before before marks zero = before
 count_before before marks (suc place) = delivered_after marks place
 
-pub count_from_none : (marks : List said.TurnMark) (place : ℕ) → count_before 0 marks place ≡ delivered_before marks place
+pub count_from_none : (marks : List TurnMark) (place : ℕ) → count_before 0 marks place ≡ delivered_before marks place
 count_from_none marks zero = refl
 count_from_none marks (suc place) = refl
 
-count_more : (before : ℕ) (mark : said.TurnMark) (marks : List said.TurnMark) (place : ℕ) → count_before before (mark ∷ marks) (suc place) ≡ count_before mark.delivered marks place
+count_more : (before : ℕ) (mark : TurnMark) (marks : List TurnMark) (place : ℕ) → count_before before (mark ∷ marks) (suc place) ≡ count_before mark.delivered marks place
 count_more before mark marks zero = refl
 count_more before mark marks (suc place) = refl
 
 -- none was taken back, and none delivered in a turn of a handle
-pub record Delivers (handles before : ℕ) (marks : List said.TurnMark) (place : ℕ) : Type 0 where
+pub record Delivers (handles before : ℕ) (marks : List TurnMark) (place : ℕ) : Type 0 where
   pub rises : count_before before marks place ≤ delivered_after marks place
   pub keeps : turn_of marks place < handles → delivered_after marks place ≡ count_before before marks place
 
-pub marks_deliver : (handles before : ℕ) (turns : List ℕ) (marks : List said.TurnMark) (behind : ℕ) → Marks handles before turns marks behind →
+pub marks_deliver : (handles before : ℕ) (turns : List ℕ) (marks : List TurnMark) (behind : ℕ) → Marks handles before turns marks behind →
     (place : ℕ) → place < length marks → Delivers handles before marks place
 marks_deliver handles before turns [] behind tell place low = absurd (omega arith)
 marks_deliver handles before [] (mark ∷ marks) behind tell place low = absurd tell

@@ -6,9 +6,8 @@ use Rattle.pg_spec.specs.Links.{LinkView}
 use Rattle.pg_spec.specs.Report as said
 use Rattle.pg_spec.specs.Turns.{turn_of, delivered_after, delivered_before}
 use Rattle.pg_desk.specs.History.{IsFrontOf}
-use Rattle.pg_text.specs.Views.{mark_of}
 use Rattle.pg_text.specs.declared.command.Command.{Command}
-use Rattle.pg_text.specs.declared.report.TurnMark.{TurnMark}
+use Rattle.pg_spec.specs.declared.stamps.TurnMark.{TurnMark}
 use Rattle.pg_session.specs.States.{SessionState}
 use Rattle.pg_session.specs.Turns.{Makes}
 use Rattle.pg_session.specs.Sessions.{MakesAll, EndsWith}
@@ -30,29 +29,28 @@ stands_next (x ∷ xs) y ys = stands_next xs y ys
 -- ---- the trace behind one turn
 
 -- a mark as the report tells it
-abbrev pub mark : (turn delivered : ℕ) → said.TurnMark
+abbrev pub mark : (turn delivered : ℕ) → TurnMark
 mark turn delivered = record { turn = turn; delivered = delivered }
 
 -- its mark stands behind those of the former turns
 pub mark_made : (scripts : List (List Command)) (turn : ℕ) (s t : SessionState) (l m : LinkView) (over : Bool) → Makes scripts turn s t l m over →
-    slice_get (map mark_of t.trace) (length s.trace) ≡ Some (mark turn t.streams.delivered)
+    slice_get t.trace (length s.trace) ≡ Some (mark turn t.streams.delivered)
 mark_made scripts turn s t l m over made =
     let left = leaves_mark scripts turn s t l m over made in
-    slice_get-map mark_of t.trace (length s.trace)
-    ∙ ap (λ (x : List TurnMark). option_map mark_of (slice_get x (length s.trace))) left.trace
-    ∙ ap (option_map mark_of) (stands_next s.trace left.mark [])
+    ap (λ (x : List TurnMark). slice_get x (length s.trace)) left.trace
+    ∙ stands_next s.trace left.mark []
     ∙ ap (λ (x : ℕ). Some (mark x left.mark.delivered)) left.owner
     ∙ ap (λ (x : ℕ). Some (mark turn x)) left.delivered
 
 pub turn_made : (scripts : List (List Command)) (turn : ℕ) (s t : SessionState) (l m : LinkView) (over : Bool) → Makes scripts turn s t l m over →
-    turn_of (map mark_of t.trace) (length s.trace) ≡ turn
+    turn_of t.trace (length s.trace) ≡ turn
 turn_made scripts turn s t l m over made =
-    ap (λ (x : Option said.TurnMark). unwrap_or (option_map (λ mark. mark.turn) x) 0) (mark_made scripts turn s t l m over made)
+    ap (λ (x : Option TurnMark). unwrap_or (option_map (λ mark. mark.turn) x) 0) (mark_made scripts turn s t l m over made)
 
 pub delivered_made : (scripts : List (List Command)) (turn : ℕ) (s t : SessionState) (l m : LinkView) (over : Bool) → Makes scripts turn s t l m over →
-    delivered_after (map mark_of t.trace) (length s.trace) ≡ t.streams.delivered
+    delivered_after t.trace (length s.trace) ≡ t.streams.delivered
 delivered_made scripts turn s t l m over made =
-    ap (λ (x : Option said.TurnMark). unwrap_or (option_map (λ mark. mark.delivered) x) 0) (mark_made scripts turn s t l m over made)
+    ap (λ (x : Option TurnMark). unwrap_or (option_map (λ mark. mark.delivered) x) 0) (mark_made scripts turn s t l m over made)
 
 pub trace_longer : (scripts : List (List Command)) (turn : ℕ) (s t : SessionState) (l m : LinkView) (over : Bool) → Makes scripts turn s t l m over →
     length t.trace ≡ length s.trace + 1
@@ -66,8 +64,7 @@ pub trace_grows : (scripts : List (List Command)) (turns : List ℕ) (s : Sessio
     MakesAll scripts turns s l t m → length t.trace ≡ length s.trace + length turns
 trace_grows scripts turns s l t m made =
     let left = leave_marks scripts turns s l t m made in
-    let many = length-marks (length scripts) s.streams.delivered turns (map mark_of left.marks) t.streams.delivered left.tell in
-    let same = length-map left.marks mark_of in
+    let many = length-marks (length scripts) s.streams.delivered turns left.marks t.streams.delivered left.tell in
     ap length left.trace ∙ length-append s.trace left.marks ∙ omega arith
 
 -- its front stays
@@ -81,29 +78,28 @@ trace_front_to_end scripts turns last s l t m ends = let left = marks_to_end scr
 
 -- a mark stays where it stands
 pub mark_stays : (s t : SessionState) → IsFrontOf s.trace t.trace → (place : ℕ) → place < length s.trace →
-    slice_get (map mark_of t.trace) place ≡ slice_get (map mark_of s.trace) place
+    slice_get t.trace place ≡ slice_get s.trace place
 mark_stays s t front place low =
-    slice_get-map mark_of t.trace place ∙ ap (λ (x : List TurnMark). option_map mark_of (slice_get x place)) (sym front.1)
-    ∙ ap (option_map mark_of) (in_front s.trace front.0 place low) ∙ sym (slice_get-map mark_of s.trace place)
+    ap (λ (x : List TurnMark). slice_get x place) (sym front.1) ∙ in_front s.trace front.0 place low
 
 pub turn_stays : (s t : SessionState) → IsFrontOf s.trace t.trace → (place : ℕ) → place < length s.trace →
-    turn_of (map mark_of t.trace) place ≡ turn_of (map mark_of s.trace) place
-turn_stays s t front place low = ap (λ (x : Option said.TurnMark). unwrap_or (option_map (λ mark. mark.turn) x) 0) (mark_stays s t front place low)
+    turn_of t.trace place ≡ turn_of s.trace place
+turn_stays s t front place low = ap (λ (x : Option TurnMark). unwrap_or (option_map (λ mark. mark.turn) x) 0) (mark_stays s t front place low)
 
 -- ---- what was delivered so far
 
 -- it stands in the last mark, and none was where there is no mark
 abbrev pub TellsDelivered : SessionState → Type 0
-TellsDelivered s = delivered_before (map mark_of s.trace) (length s.trace) ≡ s.streams.delivered
+TellsDelivered s = delivered_before s.trace (length s.trace) ≡ s.streams.delivered
 
 -- before the first turn it does
 pub tells_new : (s : SessionState) → s.trace ≡ [] → s.streams.delivered ≡ 0 → TellsDelivered s
-tells_new s none count = ap (λ (x : List TurnMark). delivered_before (map mark_of x) (length x)) none ∙ sym count
+tells_new s none count = ap (λ (x : List TurnMark). delivered_before x (length x)) none ∙ sym count
 
 -- behind any turn it does, whatever stood before
 pub tells_made : (scripts : List (List Command)) (turn : ℕ) (s t : SessionState) (l m : LinkView) (over : Bool) → Makes scripts turn s t l m over → TellsDelivered t
 tells_made scripts turn s t l m over made =
-    ap (λ (x : ℕ). delivered_before (map mark_of t.trace) x) (let more = trace_longer scripts turn s t l m over made in let e : length t.trace ≡ suc (length s.trace) = omega arith in e)
+    ap (λ (x : ℕ). delivered_before t.trace x) (let more = trace_longer scripts turn s t l m over made in let e : length t.trace ≡ suc (length s.trace) = omega arith in e)
     ∙ delivered_made scripts turn s t l m over made
 
 pub tells_made_all : (scripts : List (List Command)) (turns : List ℕ) (s : SessionState) (l : LinkView) (t : SessionState) (m : LinkView) →

@@ -5,7 +5,7 @@ use Rattle.pg_spec.specs.Links.{LinkView}
 use Rattle.pg_desk.proofs.Soundness.{AllCut}
 use Rattle.pg_desk.specs.declared.event.Event.{Event}
 use Rattle.pg_desk.specs.declared.event.Event.TheVariants as call
-use Rattle.pg_desk.specs.declared.event.Stamp.{Stamp}
+use Rattle.pg_spec.specs.declared.stamps.Stamp.{Stamp}
 use Rattle.pg_desk.specs.declared.event.Take.TheVariants as taking
 use Rattle.pg_desk.specs.History.{State, after_all, take_answer, IsExact}
 use Rattle.pg_hub.specs.Becomes.{after-joined, fits-touched}

@@ -7,7 +7,7 @@ use Rattle.std.proofs.lemmas.List.Elements.{filter-append, filter_map-append}
 use Rattle.pg_spec.specs.Book.{Booking}
 use Rattle.pg_spec.specs.Faults.{FrameFault}
 use Rattle.pg_spec.specs.Frames.{query_frame}
-use Rattle.pg_spec.specs.Promises.{request_frame}
+use Rattle.pg_promises.specs.Promises.{request_frame}
 use Rattle.pg_spec.specs.Report.{Command, Simple}
 use Rattle.pg_query.specs.Meaning.{Place}
 use Rattle.pg_query.specs.declared.simple_message.SimpleMessage.{SimpleMessage}

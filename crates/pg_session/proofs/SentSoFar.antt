@@ -4,11 +4,12 @@ use Rattle.std.specs.Prelude.{All, IsSome, take, drop}
 use Rattle.std.proofs.lemmas.List.{take-append-drop}
 use Rattle.std.proofs.lemmas.List.Elements.{All-nil, All-weaker}
 use Rattle.pg_spec.specs.Book as said
-use Rattle.pg_spec.specs.Causes.{Call, OfDialogue}
-use Rattle.pg_spec.specs.ConnectionStrings.{Means, only_user}
+use Rattle.pg_promises.specs.Causes.{Call, OfDialogue}
+use Rattle.pg_promises.specs.ConnectionStrings.{Means}
+use Rattle.pg_spec.specs.Settings.{only_user}
 use Rattle.pg_spec.specs.Frames.{ssl_request, terminate_frame}
 use Rattle.pg_spec.specs.Links.{LinkView}
-use Rattle.pg_spec.specs.Promises.{IsFront, InScriptOrder, SentInOrder}
+use Rattle.pg_promises.specs.Promises.{IsFront, InScriptOrder, SentInOrder}
 use Rattle.pg_spec.specs.RawMessages.{RawMessage, messages}
 use Rattle.pg_spec.specs.Report as told
 use Rattle.pg_spec.specs.Startup.{Done}

@@ -3,8 +3,9 @@ use Rattle.std.proofs.Common.{◌≡◌, ◌<◌, ◌≤◌, ◌⊎◌, ◌||◌
 use Rattle.std.specs.Prelude.{IsTrue, count_by}
 use Rattle.std.specs.List.{list_any}
 use Rattle.std.proofs.lemmas.Bool.Decides.{nat_tests}
-use Rattle.pg_spec.specs.Causes.{Call, IsAwaited as Awaited, IsStalled, whole_groups}
-use Rattle.pg_spec.specs.ConnectionStrings.{Means, only_user}
+use Rattle.pg_promises.specs.Causes.{Call, IsStalled, whole_groups, IsAwaited as Awaited}
+use Rattle.pg_promises.specs.ConnectionStrings.{Means}
+use Rattle.pg_spec.specs.Settings.{only_user}
 use Rattle.pg_spec.specs.Links.{LinkView, Rose, next_count}
 use Rattle.pg_spec.specs.RawMessages.{RawMessage, messages, cut_after, is_ready, is_whole_group, sync_of}
 use Rattle.pg_spec.specs.Sent.{whole_units}

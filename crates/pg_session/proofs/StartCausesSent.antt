@@ -6,12 +6,11 @@ use Rattle.std.specs.Int.{w32, byte_at, to_be_bytes}
 use Rattle.std.proofs.lemmas.Bool.{ltb-false}
 use Rattle.std.proofs.lemmas.List.{drop_all}
 use Rattle.pg_spec.specs.Bytes.{number_at, text0}
-use Rattle.pg_spec.specs.ConnectionStrings.{only_user}
+use Rattle.pg_spec.specs.Settings.{only_user, startup_parameters}
 use Rattle.pg_spec.specs.Faults.{FrameFault, ZeroByte, TooMany, TooLong}
 use Rattle.pg_spec.specs.Frames.{has_zero, frame_fault, startup_body, untagged, unless_fault}
 use Rattle.pg_spec.specs.RawMessages.{messages, ends_in}
 use Rattle.pg_spec.specs.Sent.{asked_for_tls, behind_length, messages_if, is_terminate, said_terminate}
-use Rattle.pg_spec.specs.Settings.{startup_parameters}
 use Rattle.pg_spec.proofs.Readers.{number_at_front}
 use Rattle.pg_connect.specs.Startups.{frame_of}
 

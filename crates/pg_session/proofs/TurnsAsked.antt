@@ -8,14 +8,13 @@ use Rattle.std.proofs.lemmas.List.{length-append, drop_all}
 use Rattle.std.proofs.lemmas.List.Elements.{recursion_from_All}
 use Rattle.pg_spec.specs.Book.{Booking, wire}
 use Rattle.pg_spec.specs.Bytes.{number_at}
-use Rattle.pg_spec.specs.Causes.{Call, startup_after}
-use Rattle.pg_spec.specs.ConnectionStrings.{only_user}
+use Rattle.pg_promises.specs.Causes.{Call, startup_after}
+use Rattle.pg_spec.specs.Settings.{only_user, startup_parameters}
 use Rattle.pg_spec.specs.Faults.{FrameFault}
 use Rattle.pg_spec.specs.Frames.{ssl_request, terminate_frame, untagged, startup_body}
-use Rattle.pg_spec.specs.Promises.{IsFront, SentInOrder, requests_in}
+use Rattle.pg_promises.specs.Promises.{IsFront, SentInOrder, requests_in}
 use Rattle.pg_spec.specs.RawMessages.{RawMessage, messages, cut_after}
 use Rattle.pg_spec.specs.Sent.{asked_for_tls, after_ssl_request, behind_length, after_startup_frame, ends_unit, gives_turn, is_password, turns_given, units}
-use Rattle.pg_spec.specs.Settings.{startup_parameters}
 use Rattle.pg_spec.specs.Startup.{Startup, Done, First, begun_by, dialogue, plain_login}
 use Rattle.pg_spec.proofs.Readers.{number_at-Reader, number_at_front}
 use Rattle.pg_connect.specs.Startups.{frame_of}

@@ -12,7 +12,7 @@ use Rattle.std.proofs.lemmas.List.Sums.{length-filter, sum_by-append, sum_by-con
 use Rattle.pg_spec.specs.Book.{Booking, wire}
 use Rattle.pg_spec.specs.Faults.{FrameFault}
 use Rattle.pg_spec.specs.Frames.{query_frame, terminate_frame}
-use Rattle.pg_spec.specs.Promises.{InScriptOrder, request_frame, requests_in}
+use Rattle.pg_promises.specs.Promises.{InScriptOrder, request_frame, requests_in}
 use Rattle.pg_spec.specs.RawMessages.{RawMessage, message_bytes, messages, bytes_left, cut_after}
 use Rattle.pg_spec.specs.Report.{Command, Simple}
 use Rattle.pg_spec.specs.Sent.{is_password, ends_unit, is_terminate, gives_turn}

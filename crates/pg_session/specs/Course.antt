@@ -1,7 +1,7 @@
 -- What a link of known course does in a call.
 use Rattle.std.specs.Prelude.{◌≡◌, ℕ, ◌+◌, ◌≤◌, IsTrue, List, [], ◌++◌, length, take, Some}
 use Rattle.std.specs.List.{concat}
-use Rattle.pg_spec.specs.Causes.{Call}
+use Rattle.pg_promises.specs.Causes.{Call}
 use Rattle.pg_spec.specs.Links.{Plan, Rose, due_by}
 use Rattle.pg_spec.specs.Sent.{turns_given, units}
 

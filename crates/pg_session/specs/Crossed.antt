@@ -2,14 +2,13 @@
 use Rattle.std.specs.Prelude.{◌≡◌, ◌≢◌, ℕ, ◌≤◌, ◌++◌, IsTrue, IsFalse, List, length, map, Some, EachIndex}
 use Rattle.std.specs.List.{concat, list_all}
 use Rattle.pg_spec.specs.Book.{wire}
-use Rattle.pg_spec.specs.Causes.{is_readable}
-use Rattle.pg_spec.specs.ConnectionStrings.{only_user}
-use Rattle.pg_spec.specs.EndedWell.{Session, received, startup_of, startup_messages, later_messages, replies}
+use Rattle.pg_spec.specs.Asides.{is_readable}
+use Rattle.pg_spec.specs.Settings.{only_user, Require}
+use Rattle.pg_promises.specs.EndedWell.{Session, received, startup_of, startup_messages, later_messages, replies}
 use Rattle.pg_spec.specs.Frames.{terminate_frame}
 use Rattle.pg_spec.specs.Parameters.{AreLastValues, parameter_reports}
 use Rattle.pg_spec.specs.RawMessages.{bytes_left, has_bad_header, is_whole_group, sync_of, async_of}
 use Rattle.pg_spec.specs.Report.{async_of_raw}
-use Rattle.pg_spec.specs.Settings.{Require}
 use Rattle.pg_spec.specs.Startup.{Done, cancel_key}
 use Rattle.pg_spec.specs.Turns.{delivered_before, delivered_after}
 use Rattle.pg_text.specs.Views.{scripts_of, report_of}

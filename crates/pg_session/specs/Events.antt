@@ -1,14 +1,14 @@
 -- The events of a session's one hub, turn by turn: the calls of its handles and of its connection.
 use Rattle.std.specs.Prelude.{◌≡◌, ℕ, zero, suc, ◌-◌, Bool, List, [], ◌∷◌, ◌++◌, length, take, Ok, EachIndex}
 use Rattle.std.proofs.Common.{inl, inr}
-use Rattle.pg_spec.specs.EndedWell.{Session, later_messages, reply as reply_to}
+use Rattle.pg_promises.specs.EndedWell.{Session, later_messages, reply as reply_to}
 use Rattle.pg_spec.specs.Links.{LinkView}
 use Rattle.pg_spec.specs.RawMessages.{sync_of}
 use Rattle.pg_spec.specs.Turns.{delivered_after}
 use Rattle.pg_desk.specs.History.{start, taken, joined, received, after_all, IsFrontOf, IsLegal}
 use Rattle.pg_desk.specs.declared.event.Event.{Event}
 use Rattle.pg_desk.specs.declared.event.Event.TheVariants.{CloseRequests}
-use Rattle.pg_desk.specs.declared.event.Stamp.{Stamp}
+use Rattle.pg_spec.specs.declared.stamps.Stamp.{Stamp}
 use Rattle.pg_hub.specs.Fits.{HubBecomes}
 use Rattle.pg_hub.specs.Standing.{Standing}
 use Rattle.pg_text.specs.declared.command.Command.{Command}

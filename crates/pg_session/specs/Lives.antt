@@ -5,12 +5,13 @@ use Rattle.std.specs.List.Sorted.{IsNonDecreasingBy}
 use Rattle.futures.specs.declared.task.Poll.{Poll}
 use Rattle.futures.specs.declared.task.Poll.TheVariants.{Ready, Pending}
 use Rattle.pg_spec.specs.Book.{Booking, bookings_of, request_of}
-use Rattle.pg_spec.specs.EndedWell.{Session, EachCommand, IsDecided, later_messages, reply as reply_to, delivered_of, booked_in, own_requests, answer_of as answer_to, answer_at_once}
+use Rattle.pg_promises.specs.EndedWell.{Session, EachCommand, IsDecided, later_messages, reply as reply_to, delivered_of, booked_in, own_requests, answer_of as answer_to, answer_at_once}
 use Rattle.pg_spec.specs.Links.{LinkView, Grew}
 use Rattle.pg_spec.specs.Faults as spec
 use Rattle.pg_spec.specs.Frames.{query_frame}
 use Rattle.pg_spec.specs.RawMessages.{RawMessage, messages, sync_of}
 use Rattle.pg_spec.specs.Report as said
+use Rattle.pg_spec.specs.declared.stamps.TurnMark.{TurnMark}
 use Rattle.pg_spec.specs.Report.{simple_answer}
 use Rattle.pg_spec.specs.SimpleQuery.{simple_reading}
 use Rattle.pg_spec.specs.Turns.{Times, BeginInTurn, IsOwnTurn, IsFirstTurn, entry_at, turn_of, delivered_after, delivered_before}
@@ -24,7 +25,7 @@ use Rattle.pg_errors.specs.declared.async_message.AsyncMessage.{AsyncMessage}
 use Rattle.pg_faults.specs.declared.error.Error.{Error}
 use Rattle.pg_hub.specs.Fits.{HubBecomes}
 use Rattle.pg_hub.specs.Standing.{Standing}
-use Rattle.pg_text.specs.Views.{scripts_of, answer_of, booking_of, mark_of}
+use Rattle.pg_text.specs.Views.{scripts_of, answer_of, booking_of}
 use Rattle.pg_text.specs.declared.command.Command.{Command}
 use Rattle.pg_session.specs.Sessions.{MakesAll, Plays}
 use Rattle.pg_session.specs.States.{SessionState}
@@ -60,7 +61,7 @@ calls_of scripts given s l t m plays =
 
 -- What the handles did, whatever the connection did: an answer for each command, when each began and
 -- answered, and that the book is theirs.
-pub record HandlesRan (scripts : List (List said.Command)) (answers : List (List said.Answer)) (book : List Booking) (trace : List said.TurnMark)
+pub record HandlesRan (scripts : List (List said.Command)) (answers : List (List said.Answer)) (book : List Booking) (trace : List TurnMark)
     (schedule : List (List Times)) : Type 0 where
   pub one_answer_each : map length answers ≡ map length scripts
   pub one_time_each : map length schedule ≡ map length scripts
@@ -87,13 +88,13 @@ abbrev pub Undecided : (take : Option ℕ) → List RawMessage → Type 0
 Undecided take ms = (front : List RawMessage) → IsFrontOf front ms → simple_reading take front ≡ None
 
 -- in no turn of a handle from one place on and before another did the reply to a request decide an answer
-abbrev pub UndecidedSo : (take : Option ℕ) (id : ℕ) → List said.TurnMark → List (List RawMessage) → (handle from to : ℕ) → Type 0
+abbrev pub UndecidedSo : (take : Option ℕ) (id : ℕ) → List TurnMark → List (List RawMessage) → (handle from to : ℕ) → Type 0
 UndecidedSo take id trace came handle from to =
     (place : ℕ) → from ≤ place → place < to → turn_of trace place ≡ handle → Undecided take (reply id (came_at came place))
 
 -- A command whose frame was booked when it began answered what the reply to its request said by then, and
 -- it said nothing in an earlier turn of its handle. Nothing of that reply had come before it was booked.
-pub record FollowsReply (trace : List said.TurnMark) (book : List Booking) (came : List (List RawMessage)) (handle place : ℕ) (take : Option ℕ) (frame : List ℕ)
+pub record FollowsReply (trace : List TurnMark) (book : List Booking) (came : List (List RawMessage)) (handle place : ℕ) (take : Option ℕ) (frame : List ℕ)
     (times : Times) (answer : said.Answer) : Type 0 where
   pub id : ℕ
   pub booked : slice_get book id ≡ Some (record { stamp = record { owner = handle; command = place; turn = times.begins }; parts = frame ∷ [] })
@@ -102,18 +103,18 @@ pub record FollowsReply (trace : List said.TurnMark) (book : List Booking) (came
   pub undecided : UndecidedSo take id trace came handle times.begins times.answers
 
 -- the same by the frame of its text; a text that is refused is the answer, in the turn in which it begins
-abbrev pub FollowsBy : List said.TurnMark → List Booking → List (List RawMessage) → (handle place : ℕ) → (take : Option ℕ) → Times → said.Answer →
+abbrev pub FollowsBy : List TurnMark → List Booking → List (List RawMessage) → (handle place : ℕ) → (take : Option ℕ) → Times → said.Answer →
     Result (List ℕ) spec.FrameFault → Type 0
 FollowsBy trace book came handle place take times answer (Err fault) =
     (answer ≡ said.Failed (spec.Encode (spec.Frame fault))) × (times.answers ≡ times.begins)
 FollowsBy trace book came handle place take times answer (Ok frame) = FollowsReply trace book came handle place take frame times answer
 
 -- the same of a command
-abbrev pub Follows : List said.TurnMark → List Booking → List (List RawMessage) → (handle place : ℕ) → said.Command → Times → said.Answer → Type 0
+abbrev pub Follows : List TurnMark → List Booking → List (List RawMessage) → (handle place : ℕ) → said.Command → Times → said.Answer → Type 0
 Follows trace book came handle place (said.Simple text take) times answer = FollowsBy trace book came handle place take times answer (query_frame text)
 
 -- What came, turn by turn, and that each command's answer follows from it. A trace counts to 2^64 - 1 at most.
-pub record AnswersFollow (scripts : List (List said.Command)) (answers : List (List said.Answer)) (book : List Booking) (trace : List said.TurnMark)
+pub record AnswersFollow (scripts : List (List said.Command)) (answers : List (List said.Answer)) (book : List Booking) (trace : List TurnMark)
     (schedule : List (List Times)) (all : List RawMessage) : Type 0 where
   pub came : List (List RawMessage)
   pub one_for_each : length came ≡ length trace
@@ -128,9 +129,9 @@ pub record HandlesDid (scripts : List (List Command)) (given : List ℕ) (s : Se
     (plays : Plays scripts given s l t m) : Type 0 where
   pub schedule : List (List Times)
   pub ran : HandlesRan (scripts_of scripts) (map (map answer_of) (map (λ handle. handle.answers) t.handles)) (map booking_of t.hub.book)
-      (map mark_of t.trace) schedule
+      t.trace schedule
   pub follow : AnswersFollow (scripts_of scripts) (map (map answer_of) (map (λ handle. handle.answers) t.handles)) (map booking_of t.hub.book)
-      (map mark_of t.trace) schedule (delivered_by (calls_of scripts given s l t m plays))
+      t.trace schedule (delivered_by (calls_of scripts given s l t m plays))
 
 -- What was delivered and answered in a session, in the words of the main theorem.
 pub record AnswersWell (s : Session) (schedule : List (List Times)) : Type 0 where

@@ -7,7 +7,7 @@ use Rattle.pg_query.specs.Meaning.{Place}
 use Rattle.pg_query.specs.declared.simple_message.SimpleMessage.{SimpleMessage}
 use Rattle.pg_text.specs.declared.command.Answer.{Answer}
 use Rattle.pg_text.specs.declared.command.Command.{Command}
-use Rattle.pg_text.specs.declared.report.TurnMark.{TurnMark}
+use Rattle.pg_spec.specs.declared.stamps.TurnMark.{TurnMark}
 
 -- a handle: where the command that runs stands, and the answers so far
 pub record HandleState : Type 0 where

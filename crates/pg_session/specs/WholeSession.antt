@@ -2,7 +2,7 @@
 use Rattle.std.specs.Prelude.{◌≡◌, ◌⊎◌, ℕ, IsFalse, IsTrue, List, ◌++◌}
 use Rattle.pg_faults.specs.declared.error.Error.{Error}
 use Rattle.pg_faults.specs.declared.error.Error.TheVariants.{OutOfMemory}
-use Rattle.pg_spec.specs.EndedWell.{EndedWell}
+use Rattle.pg_promises.specs.EndedWell.{EndedWell}
 use Rattle.pg_spec.specs.Frames.{terminate_frame}
 use Rattle.pg_spec.specs.Links.{LinkView, OfBytes}
 use Rattle.pg_text.specs.declared.command.Command.{Command}

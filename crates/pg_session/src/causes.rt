@@ -1,8 +1,9 @@
 //! Why a session fails. The body does nothing.
 
 ghost use Rattle.std.specs.Prelude.{◌≡◌, ℕ, List};
-ghost use Rattle.pg_spec.specs.Causes.{Call, HasCause, IsStalled};
-ghost use Rattle.pg_spec.specs.ConnectionStrings.{only_user, Means};
+ghost use Rattle.pg_promises.specs.Causes.{Call, HasCause, IsStalled};
+ghost use Rattle.pg_spec.specs.Settings.{only_user};
+ghost use Rattle.pg_promises.specs.ConnectionStrings.{Means};
 ghost use Rattle.pg_connect.specs.Startups.{Failed};
 ghost use Rattle.pg_connect.specs.declared.startup.Startup.{Startup};
 ghost use Rattle.pg_faults.specs.declared.error.Error.{Error};

@@ -1,11 +1,12 @@
 //! Where a session has nothing to fail for. The body does nothing.
 
 ghost use Rattle.std.specs.Prelude.{ℕ, List, Err, ⊤};
-ghost use Rattle.pg_spec.specs.Causes.{Call, HasCause, OfDialogue, WithSettings};
-ghost use Rattle.pg_spec.specs.ConnectionStrings.{only_user, Means};
+ghost use Rattle.pg_promises.specs.Causes.{Call, HasCause, OfDialogue, WithSettings};
+ghost use Rattle.pg_spec.specs.Settings.{only_user};
+ghost use Rattle.pg_promises.specs.ConnectionStrings.{Means};
 ghost use Rattle.pg_spec.specs.Faults.{Failure};
 ghost use Rattle.pg_spec.specs.Links.{Plan};
-ghost use Rattle.pg_spec.specs.Promises.{Conforms, EndsWell, IsValid, MustEndWell, SentInOrder};
+ghost use Rattle.pg_promises.specs.Promises.{Conforms, EndsWell, IsValid, MustEndWell, SentInOrder};
 ghost use Rattle.pg_wire.specs.LinkCalls.{Continues, Tells};
 ghost use Rattle.pg_session.specs.Course.{HoldsCourse};
 

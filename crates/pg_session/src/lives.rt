@@ -1,7 +1,7 @@
 //! What the handles of a session did and what their commands answered. Each body does nothing.
 
 ghost use Rattle.std.specs.Prelude.{◌≡◌, ◌<◌, ◌^◌, ℕ, List, length, false};
-ghost use Rattle.pg_spec.specs.EndedWell.{Session, later_messages};
+ghost use Rattle.pg_promises.specs.EndedWell.{Session, later_messages};
 ghost use Rattle.pg_spec.specs.Links.{LinkView};
 ghost use Rattle.pg_spec.specs.RawMessages.{RawMessage, sync_of};
 ghost use Rattle.pg_spec.specs.Turns.{Times, delivered_before};

@@ -1,7 +1,7 @@
 //! The main theorem, of every session that is played as the relation says.
 
 ghost use Rattle.std.specs.Prelude.{ℕ, List};
-ghost use Rattle.pg_spec.specs.EndedWell.{HasRun};
+ghost use Rattle.pg_promises.specs.EndedWell.{HasRun};
 ghost use Rattle.pg_spec.specs.Links.{LinkView};
 ghost use Rattle.pg_spec.specs.Turns.{Times};
 ghost use Rattle.pg_text.specs.Views.{report_of, scripts_of};

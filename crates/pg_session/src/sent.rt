@@ -1,11 +1,12 @@
 //! What was sent where a session failed, and how the link stands then. Each body does nothing.
 
 ghost use Rattle.std.specs.Prelude.{◌≡◌, ℕ, List, Err};
-ghost use Rattle.pg_spec.specs.Causes.{Call, OfDialogue};
-ghost use Rattle.pg_spec.specs.ConnectionStrings.{only_user, Means};
+ghost use Rattle.pg_promises.specs.Causes.{Call, OfDialogue};
+ghost use Rattle.pg_spec.specs.Settings.{only_user};
+ghost use Rattle.pg_promises.specs.ConnectionStrings.{Means};
 ghost use Rattle.pg_spec.specs.Faults as faults;
 ghost use Rattle.pg_spec.specs.Links.{LinkView};
-ghost use Rattle.pg_spec.specs.Promises.{NoneKeptBack, SentInOrder};
+ghost use Rattle.pg_promises.specs.Promises.{NoneKeptBack, SentInOrder};
 ghost use Rattle.pg_connect.specs.Startups.{Failed};
 ghost use Rattle.pg_connect.specs.declared.startup.Startup.{Startup};
 ghost use Rattle.pg_faults.specs.declared.error.Error.{Error};

@@ -3,7 +3,6 @@
 ghost use Rattle.std.specs.Prelude.{◌≡◌, ℕ, List, length, map};
 ghost use Rattle.pg_spec.specs.Links.{LinkView};
 ghost use Rattle.pg_spec.specs.Turns.{IsTrace};
-ghost use Rattle.pg_text.specs.Views.{mark_of};
 ghost use Rattle.pg_text.specs.declared.command.Command.{Command};
 ghost use Rattle.pg_session.specs.States.{SessionState};
 ghost use Rattle.pg_session.specs.Sessions.{IsNewSession, Plays};
@@ -13,5 +12,5 @@ ghost use Rattle.pg_session.specs.Sessions.{IsNewSession, Plays};
 pub fn turns_in_order()
     ensures { (scripts : List (List Command)) (given : List ℕ) (s t : SessionState) (l m : LinkView) →
         IsNewSession scripts s → s.streams.delivered ≡ 0 → Plays scripts given s l t m →
-        IsTrace given (length scripts) (map mark_of t.trace) }
+        IsTrace given (length scripts) t.trace }
 {}

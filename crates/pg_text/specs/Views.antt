@@ -11,7 +11,6 @@ use Rattle.pg_text.specs.declared.command.Command.{Command}
 use Rattle.pg_text.specs.declared.command.Command.TheVariants as command
 use Rattle.pg_text.specs.declared.command.Answer.{Answer}
 use Rattle.pg_text.specs.declared.command.Answer.TheVariants as answer
-use Rattle.pg_text.specs.declared.report.TurnMark.{TurnMark}
 use Rattle.pg_text.specs.declared.report.Report.{Report}
 
 -- a command
@@ -35,11 +34,7 @@ answer_of (answer.Failed e) = said.Failed e
 
 -- a request with its stamp
 abbrev pub booking_of : Booking → book.Booking
-booking_of b = record { stamp = record { owner = b.stamp.owner; command = b.stamp.command; turn = b.stamp.turn }; parts = b.parts }
-
--- a turn that was made
-abbrev pub mark_of : TurnMark → said.TurnMark
-mark_of m = record { turn = m.turn; delivered = m.delivered }
+booking_of b = record { stamp = b.stamp; parts = b.parts }
 
 -- a report
 abbrev pub report_of : Report → said.Report
@@ -50,6 +45,6 @@ report_of r = record {
   process_id = r.process_id;
   secret_key = r.secret_key;
   book = map booking_of r.book;
-  trace = map mark_of r.trace;
+  trace = r.trace;
   sent = r.sent;
 }

@@ -7,7 +7,7 @@ use Rattle.pg_spec.specs.Report.{Answer, Report}
 use Rattle.pg_spec.specs.ReportText.{line, signed, quoted, answer_items, answer_lines, answer_words, async_line, book_line, item_line, script_lines, turn_line}
 use Rattle.pg_errors.specs.declared.async_message.Notification.{Notification}
 use Rattle.pg_desk.specs.declared.event.Booking.{Booking}
-use Rattle.pg_desk.specs.declared.event.Stamp.{Stamp}
+use Rattle.pg_spec.specs.declared.stamps.Stamp.{Stamp}
 use Rattle.pg_text.specs.declared.command.Answer as command
 use Rattle.pg_text.specs.declared.report.Pair.{Pair}
 use Rattle.pg_text.specs.Views.{answer_of, booking_of}

@@ -7,15 +7,16 @@ ghost use Rattle.pg_spec.specs.Report as said;
 ghost use Rattle.pg_spec.specs.ReportText as spec;
 ghost use Rattle.pg_spec.specs.SimpleQuery as simple;
 ghost use Rattle.pg_errors.specs.Views.{async_of};
-ghost use Rattle.pg_text.specs.Views.{answer_of, booking_of, item_of, mark_of, report_of};
+ghost use Rattle.pg_text.specs.Views.{answer_of, booking_of, item_of, report_of};
 ghost use Rattle.pg_text.specs.Written as written;
 
 use crate::command::Answer;
 use crate::put::{put, put_hex, put_number, put_quoted, put_signed};
-use crate::report::{Pair, Report, TurnMark};
+use crate::report::{Pair, Report};
 use pg_desk::{Booking, Stamp};
 use pg_errors::{AsyncMessage, DbError, Error, Notification};
 use pg_query::SimpleMessage;
+use pg_spec::TurnMark;
 use pg_types::{Blob, List, OutOfMemory, Text};
 use std::alloc::Global;
 
@@ -352,7 +353,7 @@ fn put_parts(alloc: Global, out: &mut String, parts: &[Blob]) -> Result<(), OutO
 }
 
 fn put_trace(alloc: Global, out: &mut String, trace: &[TurnMark]) -> Result<(), OutOfMemory>
-    ensures { OnOk result (string_bytes out.new ≡ string_bytes out.old ++ flat_map spec.turn_line (map mark_of trace.now)) }
+    ensures { OnOk result (string_bytes out.new ≡ string_bytes out.old ++ flat_map spec.turn_line trace.now) }
 {
     for mark in trace {
         put_turn(alloc, out, *mark)?;
@@ -361,7 +362,7 @@ fn put_trace(alloc: Global, out: &mut String, trace: &[TurnMark]) -> Result<(), 
 }
 
 fn put_turn(alloc: Global, out: &mut String, mark: TurnMark) -> Result<(), OutOfMemory>
-    ensures { OnOk result (string_bytes out.new ≡ string_bytes out.old ++ spec.turn_line (mark_of mark)) }
+    ensures { OnOk result (string_bytes out.new ≡ string_bytes out.old ++ spec.turn_line mark) }
 {
     put(out, "turn ")?;
     put_number(alloc, out, mark.turn as u64)?;

@@ -3,6 +3,7 @@
 use crate::command::Answer;
 use pg_desk::Booking;
 use pg_errors::AsyncMessage;
+use pg_spec::TurnMark;
 use pg_types::{Blob, List, Text};
 
 /// A setting of the server as it was last reported.
@@ -10,14 +11,6 @@ use pg_types::{Blob, List, Text};
 pub struct Pair {
     pub name: Text,
     pub value: Text,
-}
-
-/// A turn that was made: whose it was, and the messages delivered to or discarded for requests since
-/// startup.
-#[derive(Clone, Copy, Debug, PartialEq, Eq, Drop)]
-pub struct TurnMark {
-    pub turn: u32,
-    pub delivered: u64,
 }
 
 /// What a session reports at its end.

@@ -1,7 +1,8 @@
 -- Each failure of a session has its cause.
 use Rattle.std.proofs.Common.{◌≡◌, ℕ, List, IfErr, Result, Ok, Err, inl, inr, sym, subst}
-use Rattle.pg_spec.specs.Causes.{Call, HasCause}
-use Rattle.pg_spec.specs.ConnectionStrings.{Means, only_user}
+use Rattle.pg_promises.specs.Causes.{Call, HasCause}
+use Rattle.pg_promises.specs.ConnectionStrings.{Means}
+use Rattle.pg_spec.specs.Settings.{only_user}
 use Rattle.pg_spec.specs.Links.{LinkView}
 use Rattle.pg_connect.specs.declared.startup.Startup.{Startup}
 use Rattle.pg_faults.specs.declared.error.Error.{Error}

@@ -1,10 +1,10 @@
 -- A session that must end well does so, and so does the program that plays it.
 use Rattle.std.proofs.Common.{◌≡◌, ◌≤◌, ◌+◌, ◌⊎◌, ℕ, inl, inr, List, [], length, Option, Some, None, Result, Ok, Err, IfErr, refl, ap, subst, arith}
 use Rattle.std.specs.Prelude.{IfSome}
-use Rattle.pg_spec.specs.Causes.{Call, HasCause}
+use Rattle.pg_promises.specs.Causes.{Call, HasCause}
 use Rattle.pg_spec.specs.Faults.{Failure, OutOfMemory}
 use Rattle.pg_spec.specs.Links.{LinkView, Plan, Rose, added}
-use Rattle.pg_spec.specs.Promises.{Conforms, EndsWell, IsValid, MustEndWell, SentInOrder, requests_in}
+use Rattle.pg_promises.specs.Promises.{Conforms, EndsWell, IsValid, MustEndWell, SentInOrder, requests_in}
 use Rattle.pg_spec.specs.ReportText.{report_text}
 use Rattle.pg_spec.specs.Sent.{turns_given}
 use Rattle.pg_spec.specs.SessionText.{SessionText, IsSessionText}

@@ -1,7 +1,7 @@
 -- No error of a session behind its startup speaks of what was asked for.
 use Rattle.std.proofs.Common.{List, [], ◌∷◌, Option, Some, None, Result, Ok, Err, inl, inr, sym, subst}
 use Rattle.futures.specs.declared.task.Poll.TheVariants.{Ready}
-use Rattle.pg_spec.specs.Causes.{unasked}
+use Rattle.pg_spec.specs.Asides.{unasked}
 use Rattle.pg_spec.specs.DbErrors.{DbError, db_error_of}
 use Rattle.pg_spec.specs.Faults.{Failure, Parse, Db, Config, Fields, WireFault, Wire}
 use Rattle.pg_spec.specs.Links.{LinkView}

@@ -1,8 +1,9 @@
 -- More bytes than the limit are given only where a session fails for that.
 use Rattle.std.proofs.Common.{◌≡◌, ◌<◌, ◌≤◌, ℕ, List, length, Option, Some, None, Result, Ok, Err, IfOk, IfErr, inl, inr, sym, ap, subst, ◌∙◌, arith}
 use Rattle.std.specs.Prelude.{IfSome}
-use Rattle.pg_spec.specs.Causes.{Call, HasCause, Unless}
-use Rattle.pg_spec.specs.ConnectionStrings.{Means, only_user}
+use Rattle.pg_promises.specs.Causes.{Call, HasCause, Unless}
+use Rattle.pg_promises.specs.ConnectionStrings.{Means}
+use Rattle.pg_spec.specs.Settings.{only_user}
 use Rattle.pg_spec.specs.Faults.{LimitReached}
 use Rattle.pg_spec.specs.Links.{LinkView, OfBytes, added}
 use Rattle.pg_spec.specs.Report as told

@@ -10,7 +10,8 @@ use Rattle.pg_faults.specs.declared.error.Error.TheVariants as error
 use Rattle.pg_session.specs.Failures.{HasFailed}
 use Rattle.pg_session.specs.Reports.{Reports}
 use Rattle.pg_session.specs.Sessions.{HasPlayed, IsNewSession, Plays}
-use Rattle.pg_spec.specs.ConnectionStrings.{Means, only_user}
+use Rattle.pg_promises.specs.ConnectionStrings.{Means}
+use Rattle.pg_spec.specs.Settings.{only_user}
 use Rattle.pg_spec.specs.Links.{LinkView}
 use Rattle.pg_text.specs.declared.command.Command.{Command}
 use Rattle.pg_text.specs.declared.report.Report.{Report}

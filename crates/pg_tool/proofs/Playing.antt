@@ -1,7 +1,7 @@
 -- A session that was played over a link in memory.
 use Rattle.std.proofs.Common.{◌≡◌, ℕ, zero, suc, List, [], ◌∷◌, ◌++◌, take, drop, take-append-drop, append_assoc, Option, Some, None, refl, sym, ap, subst, ◌∙◌}
 use Rattle.std.specs.List.{concat}
-use Rattle.pg_spec.specs.Causes.{Call}
+use Rattle.pg_promises.specs.Causes.{Call}
 use Rattle.pg_spec.specs.Links.{LinkView, Plan}
 use Rattle.pg_wire.specs.declared.memory_link.MemoryLink.TheInside.{Inside}
 use Rattle.pg_wire.specs.Giving.{bytes_before, entries_of, entry_of}

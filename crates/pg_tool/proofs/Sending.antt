@@ -1,10 +1,11 @@
 -- What was sent where a session failed, and how the link stands then.
 use Rattle.std.proofs.Common.{◌≡◌, ℕ, List, IfErr, Result, Ok, Err, inl, inr, refl, ap, ◌∙◌}
 use Rattle.std.specs.Prelude.{OnOk}
-use Rattle.pg_spec.specs.Causes.{Call, OfDialogue}
-use Rattle.pg_spec.specs.ConnectionStrings.{Means, only_user}
+use Rattle.pg_promises.specs.Causes.{Call, OfDialogue}
+use Rattle.pg_promises.specs.ConnectionStrings.{Means}
+use Rattle.pg_spec.specs.Settings.{only_user}
 use Rattle.pg_spec.specs.Links.{LinkView}
-use Rattle.pg_spec.specs.Promises.{NoneKeptBack, SentInOrder}
+use Rattle.pg_promises.specs.Promises.{NoneKeptBack, SentInOrder}
 use Rattle.pg_connect.specs.Calm.{StaysCalm}
 use Rattle.pg_connect.specs.declared.startup.Startup.{Startup}
 use Rattle.pg_faults.specs.declared.error.Error.{Error}

@@ -4,12 +4,12 @@ use Rattle.std.proofs.lemmas.List.Elements.{All-from_recursion}
 use Rattle.std.specs.Prelude.{IsTrue, ◌||◌}
 use Rattle.std.specs.Str.{is_utf8, chars}
 use lib.Utf8.{encode}
-use Rattle.pg_spec.specs.ConnectionStrings.{only_user}
-use Rattle.pg_spec.specs.Examples.{good_plan, good_text}
-use Rattle.pg_spec.specs.Promises.{Conforms, IsValid, requests_in}
+use Rattle.pg_spec.specs.Settings.{only_user}
+use Rattle.pg_promises.specs.Examples.{good_plan, good_text}
+use Rattle.pg_promises.specs.Promises.{Conforms, IsValid, requests_in}
 use Rattle.pg_spec.specs.RawMessages.{bytes_left, is_async, is_parameter}
 use Rattle.pg_spec.specs.Sent.{turns_given}
-use Rattle.pg_spec.proofs.WorkedPlans.{means_a, only_first, replies_all}
+use Rattle.pg_promises.proofs.WorkedPlans.{means_a, only_first, replies_all}
 use Rattle.pg_tool.specs.RunContract.{IsWellMade, call_of, new_link, plan_of}
 
 valid : IsValid (call_of good_text (new_link good_text)) (only_user (codes "a")) (plan_of good_text)

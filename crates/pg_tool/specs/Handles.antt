@@ -2,7 +2,7 @@
 use Rattle.std.specs.Prelude.{◌≡◌, ◌≢◌, ◌⊎◌, ℕ, List, [], ◌∷◌, ◌++◌, Some, None, IfSome, option_map, slice_get, slice_set, Result, Err}
 use Rattle.pg_client.specs.Queries.{IsLiveQuery, place_of_query}
 use Rattle.pg_desk.specs.declared.event.Event.{Event}
-use Rattle.pg_desk.specs.declared.event.Stamp.{Stamp}
+use Rattle.pg_spec.specs.declared.stamps.Stamp.{Stamp}
 use Rattle.pg_faults.specs.declared.error.Error.{Error}
 use Rattle.pg_faults.specs.declared.error.Error.TheVariants.{OutOfMemory}
 use Rattle.pg_query.specs.Meaning.{Place, Pauses, GoesToAnswer}

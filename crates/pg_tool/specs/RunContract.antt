@@ -1,11 +1,11 @@
 -- The contract of the program: what it writes, and its exit status.
 use Rattle.std.specs.Prelude.{◌≡◌, ◌≢◌, ℕ, ◌+◌, ◌<◌, ◌≤◌, ◌⊎◌, true, false, List, [], ◌∷◌, ◌++◌, length, Ok, Err, Option, Some, None, IfSome, codes, decimal}
 use Rattle.std.specs.List.{concat}
-use Rattle.pg_spec.specs.Causes.{Call}
+use Rattle.pg_promises.specs.Causes.{Call}
 use Rattle.pg_spec.specs.Faults.{OutOfMemory}
-use Rattle.pg_spec.specs.ConnectionStrings.{Means}
+use Rattle.pg_promises.specs.ConnectionStrings.{Means}
 use Rattle.pg_spec.specs.Links.{LinkView, Plan, Rose, Grew, course_of}
-use Rattle.pg_spec.specs.Promises.{Conforms, IsValid, requests_in}
+use Rattle.pg_promises.specs.Promises.{Conforms, IsValid, requests_in}
 use Rattle.pg_spec.specs.Sent.{turns_given}
 use Rattle.pg_spec.specs.Settings.{Settings}
 use Rattle.pg_spec.specs.ReportText.{report_text, error_text}

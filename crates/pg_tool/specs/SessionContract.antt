@@ -1,13 +1,13 @@
 -- What a session promises, by what was asked.
 use Rattle.std.specs.Prelude.{◌≡◌, ◌<◌, ℕ, List, length, Result, Ok, Err, IfOk, IfErr, ⊤}
-use Rattle.pg_spec.specs.Causes.{Call, HasCause, IsNotBuilt, OfDialogue, Unless, WithSettings}
+use Rattle.pg_promises.specs.Causes.{Call, HasCause, IsNotBuilt, OfDialogue, Unless, WithSettings}
 use Rattle.pg_spec.specs.Links.{OfBytes}
 use Rattle.pg_faults.specs.declared.error.Error.{Error}
 use Rattle.pg_text.specs.Views.{report_of}
 use Rattle.pg_text.specs.declared.report.Report as told
-use Rattle.pg_spec.specs.EndedWell.{Session, HasRun, EndedWell}
+use Rattle.pg_promises.specs.EndedWell.{Session, HasRun, EndedWell}
 use Rattle.pg_spec.specs.Faults.{Failure, Config, LimitReached, NotBuilt}
-use Rattle.pg_spec.specs.Promises.{MustEndWell, NoneKeptBack, SentInOrder}
+use Rattle.pg_promises.specs.Promises.{MustEndWell, NoneKeptBack, SentInOrder}
 use Rattle.pg_spec.specs.Report.{Report}
 use Rattle.pg_spec.specs.Settings.{Settings}
 use Rattle.pg_spec.specs.Turns.{Times}

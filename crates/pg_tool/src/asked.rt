@@ -3,9 +3,8 @@
 ghost use Rattle.std.specs.Prelude.{◌≡◌, ◌&&◌, ◌↔◌, IsTrue, nat_le, option_map};
 ghost use Rattle.std.specs.List.{list_all};
 ghost use Rattle.std.specs.Str.{byte};
-ghost use Rattle.pg_spec.specs.Causes.{is_nonce};
-ghost use Rattle.pg_spec.specs.ConnectionStrings.{IsPlainName};
-ghost use Rattle.pg_spec.specs.Passwords.{is_nonce_byte};
+ghost use Rattle.pg_spec.specs.Passwords.{is_nonce, is_nonce_byte};
+ghost use Rattle.pg_promises.specs.ConnectionStrings.{IsPlainName};
 ghost use Rattle.pg_tool.specs.Asked.{NamesUser};
 
 /// The longest user, in bytes.

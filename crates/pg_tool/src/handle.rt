@@ -63,11 +63,7 @@ impl Handle {
         ensures error { IfErr result (λ e. e ≡ Error.OutOfMemory) }
     {
         let stamp = match self.answered() {
-            Ok(command) => Stamp {
-                owner,
-                command,
-                turn,
-            },
+            Ok(command) => Stamp::new(owner, command, turn),
             Err(error) => return Err(error),
         };
         if let Some(state) = self.running.take() {

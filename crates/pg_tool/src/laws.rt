@@ -1,7 +1,7 @@
 //! Laws over the program's contract, which show what it means. Each body does nothing.
 
 ghost use Rattle.std.specs.Prelude.{ℕ, List};
-ghost use Rattle.pg_spec.specs.Examples.{good_text};
+ghost use Rattle.pg_promises.specs.Examples.{good_text};
 ghost use Rattle.pg_spec.specs.SessionText.{IsRefusedAt, IsSessionText, SessionText};
 ghost use Rattle.pg_tool.specs.RunContract.{IsWellMade};
 

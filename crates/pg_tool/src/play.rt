@@ -197,11 +197,7 @@ impl Play {
         ensures same { self.new ≡ record self.old { trace = self.new.trace } }
         ensures error { IfErr result (λ e. e ≡ Error.OutOfMemory) }
     {
-        let mark = TurnMark {
-            turn,
-            delivered: self.streams.delivered,
-        };
-        match self.trace.push(mark) {
+        match self.trace.push(TurnMark::new(turn, self.streams.delivered)) {
             Ok(()) => Ok(moved),
             Err(_) => Err(Error::OutOfMemory),
         }

@@ -1,7 +1,8 @@
 //! A session: the startup, the turns, and the report.
 
 ghost use Rattle.std.specs.Prelude.{◌<◌, ◌^◌, ℕ, List, IfErr, IfOk, OnOk};
-ghost use Rattle.pg_spec.specs.ConnectionStrings.{Means, only_user};
+ghost use Rattle.pg_promises.specs.ConnectionStrings.{Means};
+ghost use Rattle.pg_spec.specs.Settings.{only_user};
 ghost use Rattle.pg_connect.specs.Calm.{StaysCalm};
 ghost use Rattle.pg_session.specs.Sessions.{HasPlayed};
 ghost use Rattle.pg_wire.specs.LinkCalls.{Continues};

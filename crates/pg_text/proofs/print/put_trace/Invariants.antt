@@ -1,7 +1,6 @@
-use Rattle.std.proofs.Common.{◌≡◌, ◌++◌, map, flat_map, drop, string_bytes}
+use Rattle.std.proofs.Common.{◌≡◌, ◌++◌, flat_map, drop, string_bytes}
 use Rattle.pg_spec.specs.ReportText.{turn_line}
-use Rattle.pg_text.specs.Views.{mark_of}
 use Rattle.pg_text.proofs.print.put_trace.Given as goal
 
 abbrev pub invariant-loop-mark : goal.invariant-loop-mark
-invariant-loop-mark l = string_bytes l.out ++ flat_map turn_line (map mark_of (drop l.mark-index l.trace)) ≡ string_bytes l.initial.out ++ flat_map turn_line (map mark_of l.trace)
+invariant-loop-mark l = string_bytes l.out ++ flat_map turn_line (drop l.mark-index l.trace) ≡ string_bytes l.initial.out ++ flat_map turn_line l.trace

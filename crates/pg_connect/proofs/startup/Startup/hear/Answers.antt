@@ -1,5 +1,5 @@
 use Rattle.std.proofs.Common.{◌≡◌, true, false, [], ◌∷◌, Result, Ok, Err, refl, ap, ◌∙◌}
-use Rattle.pg_spec.specs.Causes.{is_built, is_built_message}
+use Rattle.pg_spec.specs.Built.{is_built, is_built_message}
 use Rattle.pg_spec.specs.Faults.{WireFault}
 use Rattle.pg_spec.specs.Messages.{Message, message_of}
 use Rattle.pg_spec.specs.RawMessages.{RawMessage}

@@ -1,5 +1,5 @@
-use Rattle.pg_spec.proofs.WorkedRefused.{not_early, not_later, not_shared, not_synced, not_left_out, not_first_value, not_bad_header, not_skipped}
-use Rattle.pg_spec.proofs.laws.worked_refused.Goals as goal
+use Rattle.pg_promises.proofs.WorkedRefused.{not_early, not_later, not_shared, not_synced, not_left_out, not_first_value, not_bad_header, not_skipped}
+use Rattle.pg_promises.proofs.laws.worked_refused.Goals as goal
 
 pub returns-clause-not_early : goal.returns-clause-not_early
 returns-clause-not_early c = not_early

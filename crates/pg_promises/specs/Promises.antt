@@ -2,8 +2,11 @@
 -- failed, and that no request is kept back.
 use Rattle.std.specs.Prelude.{◌≡◌, ◌≢◌, ℕ, ◌+◌, ◌≤◌, ◌<◌, ◌⊎◌, Bool, true, false, ◌||◌, IsTrue, IsFalse, List, [], ◌∷◌, ◌++◌, length, map, take, drop, filter, filter_map, count_by, sum_by, Option, Some, None, Result, Ok, Err, All, IsOk, IsSome, slice_get, ◌==◌, nat_lt, ⊤}
 use Rattle.std.specs.List.{concat, list_all}
-use Rattle.pg_spec.specs.Causes.{Call, OfDialogue, startup_after, is_nonce, is_readable, is_built}
-use Rattle.pg_spec.specs.ConnectionStrings.{Means}
+use Rattle.pg_promises.specs.Causes.{Call, OfDialogue, startup_after}
+use Rattle.pg_spec.specs.Passwords.{is_nonce}
+use Rattle.pg_spec.specs.Asides.{is_readable}
+use Rattle.pg_spec.specs.Built.{is_built}
+use Rattle.pg_promises.specs.ConnectionStrings.{Means}
 use Rattle.pg_spec.specs.Faults.{Failure, OutOfMemory, Stalled}
 use Rattle.pg_spec.specs.Frames.{startup_frame, query_frame, ssl_request, terminate_frame}
 use Rattle.pg_spec.specs.Links.{Plan}

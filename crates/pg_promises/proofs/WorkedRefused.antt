@@ -6,9 +6,9 @@ use Rattle.std.specs.Str.{is_utf8, chars}
 use Rattle.std.specs.Str.Lossy.{utf8_lossy, utf8_valid_len}
 use lib.Utf8.{encode}
 use Rattle.pg_spec.specs.Book.{Booking}
-use Rattle.pg_spec.specs.Causes.{is_readable}
-use Rattle.pg_spec.specs.EndedWell.{EndedWell, received}
-use Rattle.pg_spec.specs.Examples.{select_one, select_one_sent, two_clients_sent, three_sent, early_reply, booked_later, one_for_two, synced_first, notice_left_out, first_value, bad_header, report_skipped}
+use Rattle.pg_spec.specs.Asides.{is_readable}
+use Rattle.pg_promises.specs.EndedWell.{EndedWell, received}
+use Rattle.pg_promises.specs.Examples.{select_one, select_one_sent, two_clients_sent, three_sent, early_reply, booked_later, one_for_two, synced_first, notice_left_out, first_value, bad_header, report_skipped}
 use Rattle.pg_spec.specs.Parameters.{last_value, parameter_reports}
 use Rattle.pg_spec.specs.RawMessages.{bytes_left, has_bad_header}
 use Rattle.pg_spec.specs.Report.{Command, Simple}

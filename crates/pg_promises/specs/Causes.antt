@@ -1,9 +1,10 @@
 -- When a session may answer each failure.
-use Rattle.std.specs.Prelude.{◌≡◌, ◌≢◌, ℕ, ◌+◌, ◌-◌, ◌^◌, ◌≤◌, ◌<◌, ◌⊎◌, Bool, true, false, not, take, ◌&&◌, ◌||◌, IsTrue, IsFalse, List, [], ◌∷◌, length, count_by, Option, Some, None, is_some, is_none, if◌then◌else◌, Result, Ok, Err, IsSome, slice_get, ◌==◌, Contains, ⊤}
-use Rattle.std.specs.List.{concat, list_all}
-use Rattle.std.specs.Str.{byte, is_utf8}
-use Rattle.pg_spec.specs.ConnectionStrings.{Means}
-use Rattle.pg_spec.specs.DbErrors.{db_error_of}
+use Rattle.std.specs.Prelude.{◌≡◌, ◌≢◌, ℕ, ◌+◌, ◌-◌, ◌^◌, ◌≤◌, ◌<◌, ◌⊎◌, take, IsTrue, IsFalse, List, [], ◌∷◌, length, count_by, Some, None, if◌then◌else◌, Result, Ok, Err, IsSome, slice_get, ◌==◌, ⊤}
+use Rattle.std.specs.List.{concat}
+use Rattle.std.specs.Str.{byte}
+use Rattle.pg_promises.specs.ConnectionStrings.{Means}
+use Rattle.pg_spec.specs.Asides.{AsideBreaks, AsideUnreadable, out_of_turn}
+use Rattle.pg_spec.specs.Built.{is_built}
 use Rattle.pg_spec.specs.Faults.{WireFault, BadLength, Cause, Link, Ended, Wire, Fields, NotText, Frame, NoUser, Nonce, NoPassword, NotBuilt, Handshake, Method, Mechanism, BindingRequired, NotAscii, Scram, Syntax, UnknownOption, InvalidValue, Failure, Io, UnexpectedMessage, Tls, Closed, Db, Parse, Encode, Authentication, ConfigParse, Config, Stalled, LimitReached, OutOfMemory}
 use Rattle.pg_spec.specs.Faults as faults
 use Rattle.pg_faults.specs.declared.fault.WireFault.TheVariants as wire
@@ -11,13 +12,11 @@ use Rattle.pg_faults.specs.declared.fault.FrameFault.TheVariants as frame
 use Rattle.pg_faults.specs.declared.cause.ScramFault.TheVariants as scram
 use Rattle.pg_spec.specs.Frames.{ssl_request}
 use Rattle.pg_spec.specs.Links.{LinkView, Rose, OfBytes, next_count}
-use Rattle.pg_spec.specs.Messages.{Message, AuthenticationOk, ReadyForQuery, ErrorResponse, NoticeResponse, NotificationResponse, ParameterStatus, message_of}
-use Rattle.pg_spec.specs.Passwords.{is_nonce_byte}
-use Rattle.pg_spec.specs.RawMessages.{RawMessage, messages, bytes_left, has_bad_header, groups, is_whole_group, is_async, is_parameter}
+use Rattle.pg_spec.specs.Passwords.{is_nonce}
+use Rattle.pg_spec.specs.RawMessages.{RawMessage, messages, bytes_left, has_bad_header, groups, is_whole_group}
 use Rattle.pg_spec.specs.Sent.{units, whole_units, said_terminate}
 use Rattle.pg_spec.specs.Report.{Command}
 use Rattle.pg_spec.specs.Settings.{Negotiation, Postgres, Direct, Settings, Require}
-use Rattle.pg_spec.specs.SimpleQuery.{server_error}
 use Rattle.pg_spec.specs.Startup.{Startup, Done, Refused, More, startup, session_part}
 
 -- what a session was asked, and its link before and after
@@ -29,10 +28,6 @@ pub record Call : Type 0 where
   pub limit : ℕ
   pub before : LinkView
   pub after : LinkView
-
--- a SCRAM nonce of this client: 24 bytes
-abbrev pub is_nonce : List ℕ → Bool
-is_nonce nonce = length nonce == 24 && list_all is_nonce_byte nonce
 
 -- the settings that the text says have P
 abbrev pub WithSettings : Call → (Settings → Type 0) → Type 0
@@ -54,15 +49,6 @@ InStartup failure call s g = (startup_after call s g).outcome ≡ Refused failur
 abbrev pub Behind : Call → Settings → List ℕ → (List RawMessage → Type 0) → Type 0
 Behind call s g P = (used : ℕ) × ((startup_after call s g).outcome ≡ Done used) × P (session_part s call.nonce (messages g))
 
--- what a message means that comes where no request is open
-abbrev pub unasked : Message → Failure
-unasked (ErrorResponse fields) = server_error fields
-unasked other = UnexpectedMessage
-
--- the same of a raw message: a malformed one is Parse
-abbrev pub out_of_turn : RawMessage → Failure
-out_of_turn raw = elim (message_of raw) [ Err fault ↦ Parse (Wire fault) | Ok message ↦ unasked message ]
-
 -- the message in front of group j came though at most j requests were sent, and means this failure
 pub record OutOfTurn (failure : Failure) (taken : List ℕ) (later : List RawMessage) : Type 0 where
   pub before : ℕ
@@ -71,28 +57,6 @@ pub record OutOfTurn (failure : Failure) (taken : List ℕ) (later : List RawMes
   pub stands : slice_get (groups later) before ≡ Some (first ∷ group)
   pub unasked : length (units taken) ≤ before
   pub means : out_of_turn first ≡ failure
-
--- a notice, a notification or a parameter report, which no request asks for, breaks its layout
-abbrev pub AsideBreaks : WireFault → List RawMessage → Type 0
-AsideBreaks fault later = (m : RawMessage) × Contains later m × IsTrue (is_async m || is_parameter m) × (message_of m ≡ Err fault)
-
--- why such a message can't be read: the fields of a notice, or a text that isn't UTF-8
-abbrev pub aside_fault : Message → Option Cause
-aside_fault (NoticeResponse fields) = if is_some (db_error_of fields) then None else Some Fields
-aside_fault (NotificationResponse process_id channel payload) = if is_utf8 channel && is_utf8 payload then None else Some NotText
-aside_fault (ParameterStatus name value) = if is_utf8 name && is_utf8 value then None else Some NotText
-aside_fault other = None
-
--- a notice, a notification or a parameter report keeps its layout and can be read
-abbrev pub is_readable : RawMessage → Bool
-is_readable raw = elim (message_of raw) [
-  | Ok message ↦ is_none (aside_fault message)
-  | Err fault ↦ not (is_async raw || is_parameter raw)
-]
-
--- one that was received can't be read, for this cause
-abbrev pub AsideUnreadable : Cause → List RawMessage → Type 0
-AsideUnreadable cause ms = (m : RawMessage) × (message : Message) × Contains ms m × (message_of m ≡ Ok message) × (aside_fault message ≡ Some cause)
 
 -- the input ended inside a message
 abbrev pub EndsInside : List ℕ → Type 0
@@ -171,16 +135,6 @@ IsOfLogin other = ⊥
 -- This version reads a connection string of one form only, and a nonce that is in form.
 abbrev pub IsNotBuilt : Call → Type 0
 IsNotBuilt call = (WithSettings call (λ s. ⊤) → ⊥) ⊎ IsFalse (is_nonce call.nonce)
-
--- the startup messages that this version knows
-abbrev pub is_built_message : Message → Bool
-is_built_message AuthenticationOk = true
-is_built_message (ReadyForQuery status) = true
-is_built_message other = false
-
--- the same of a raw message
-abbrev pub is_built : RawMessage → Bool
-is_built raw = elim (message_of raw) [ Err fault ↦ false | Ok message ↦ is_built_message message ]
 
 -- the startup's next message is another
 pub record AsksMore (call : Call) (s : Settings) (g : List ℕ) : Type 0 where

@@ -6,10 +6,11 @@ use Rattle.std.specs.List.{concat}
 use Rattle.pg_spec.specs.Startup.{Done, used_of}
 use Rattle.std.specs.Str.{is_utf8, chars}
 use lib.Utf8.{encode}
-use Rattle.pg_spec.specs.ConnectionStrings.{only_user, Means}
-use Rattle.pg_spec.specs.Examples.{asked, asked_so, good_plan, hasty_plan, with_password, with_password_sent}
+use Rattle.pg_spec.specs.Settings.{only_user}
+use Rattle.pg_promises.specs.ConnectionStrings.{Means}
+use Rattle.pg_promises.specs.Examples.{asked, asked_so, good_plan, hasty_plan, with_password, with_password_sent}
 use Rattle.pg_spec.specs.Faults.{Failure, OutOfMemory}
-use Rattle.pg_spec.specs.Promises.{Conforms, EndsWell, IsOneReply, IsValid, MustEndWell, dialogue_over}
+use Rattle.pg_promises.specs.Promises.{Conforms, EndsWell, IsOneReply, IsValid, MustEndWell, dialogue_over}
 use Rattle.pg_spec.specs.Sent.{turns_given}
 use Rattle.pg_spec.specs.RawMessages.{RawMessage, messages, bytes_left, is_async, is_parameter}
 

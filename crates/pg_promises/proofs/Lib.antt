@@ -1,0 +1,5 @@
+pub mod WorkedSession
+pub mod WorkedTurns
+pub mod WorkedPlans
+pub mod WorkedThree
+pub mod WorkedRefused
