@@ -1,4 +1,12 @@
 -- Each failure of a session that was opened has its cause.
+pub mod StartSent
+pub mod Start
+pub mod Lists
+pub mod Turns
+pub mod Frames
+pub mod Asks
+pub mod Groups
+pub mod Bytes
 use Rattle.std.proofs.Common.{◌≡◌, inl, inr, ◌⊎◌, ℕ, ◌+◌, List, [], ◌∷◌, ◌++◌, length, Bool, true, false, Option, Some, None, Result, Ok, Err, refl, arith, sym, ap, subst, ◌∙◌, append-nil}
 use Rattle.std.specs.Prelude.{is_some, ◌||◌}
 use Rattle.pg_promises.specs.Causes.{Call, HasCause, OfDialogue}
@@ -28,22 +36,22 @@ use Rattle.pg_session.specs.Failures.{BreaksOff, GivesOut, HasBroken, HasFailed,
 use Rattle.pg_session.specs.Sessions.{MakesAll, numbers}
 use Rattle.pg_session.specs.States.{SessionState}
 use Rattle.pg_session.specs.Turns.{Makes}
-use Rattle.pg_session.proofs.CrossedTurns.{moves-by}
-use Rattle.pg_session.proofs.CrossedStart.{stood-start}
-use Rattle.pg_session.proofs.CrossedChain.{StoodIn, stood-all, stood-turn}
-use Rattle.pg_session.proofs.CausedTurns.{IsOpen, open-all, takes-on, broke-off}
-use Rattle.pg_session.proofs.CausedAsks.{AsksQueries, asks-all, asks-new, tame-in}
-use Rattle.pg_session.proofs.CausedBytes.{Fails, cause-of}
+use Rattle.pg_session.proofs.Crossing.{moves-by}
+use Rattle.pg_session.proofs.Crossing.Start.{stood-start}
+use Rattle.pg_session.proofs.Crossing.Chain.{StoodIn, stood-all, stood-turn}
+use Rattle.pg_session.proofs.Caused.Turns.{IsOpen, open-all, takes-on, broke-off}
+use Rattle.pg_session.proofs.Caused.Asks.{AsksQueries, asks-all, asks-new, tame-in}
+use Rattle.pg_session.proofs.Caused.Bytes.{Fails, cause-of}
 use Rattle.pg_session.proofs.LimitsKept.{HoldsLimit, holds-paused, holds-polled}
 use Rattle.pg_session.proofs.LivesCalls.{calls-turn, calls-turns}
 use Rattle.pg_session.proofs.LivesSession.{all-turns, any-turn, new-stands}
 use Rattle.pg_session.proofs.LivesTurns.{SessionStands}
-use Rattle.pg_session.proofs.NoneKept.{never-stalled, none-kept}
+use Rattle.pg_session.proofs.SentSoFar.NoneKept.{never-stalled, none-kept}
 use Rattle.pg_session.proofs.Order.{makes_all_then}
-use Rattle.pg_session.proofs.QuietHandles.{stays-makes}
-use Rattle.pg_session.proofs.QuietRounds.{quiet-round}
+use Rattle.pg_session.proofs.Quiet.Handles.{stays-makes}
+use Rattle.pg_session.proofs.Quiet.{quiet-round}
 use Rattle.pg_session.proofs.SentSoFar.{sent-paused, sent-polled, spent-polled}
-use Rattle.pg_session.proofs.StalledRounds.{stalled-round}
+use Rattle.pg_session.proofs.Stalled.{stalled-round}
 
 first_false : (a b : Bool) → (a || b) ≡ false → a ≡ false
 first_false true b e = absurd cc

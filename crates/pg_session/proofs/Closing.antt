@@ -22,11 +22,11 @@ use Rattle.pg_session.specs.Sessions.{HasPlayed, MakesAll, numbers}
 use Rattle.pg_session.specs.States.{SessionState}
 use Rattle.pg_session.specs.Turns.{HandsOn, Makes}
 use Rattle.pg_session.specs.WholeSession.{IsClosed, LeavesOpen, WasClosed}
-use Rattle.pg_session.proofs.CrossedChain.{StoodIn, stood-all, stood-turn}
-use Rattle.pg_session.proofs.CrossedEnd.{all-taken, is-last}
-use Rattle.pg_session.proofs.CrossedStart.{stood-start}
-use Rattle.pg_session.proofs.QuietHandles.{stays-makes}
-use Rattle.pg_session.proofs.StartCauses.{of_grown}
+use Rattle.pg_session.proofs.Crossing.Chain.{StoodIn, stood-all, stood-turn}
+use Rattle.pg_session.proofs.Crossing.End.{all-taken, is-last}
+use Rattle.pg_session.proofs.Crossing.Start.{stood-start}
+use Rattle.pg_session.proofs.Quiet.Handles.{stays-makes}
+use Rattle.pg_session.proofs.Caused.Start.{of_grown}
 
 -- ---- turns before the end
 

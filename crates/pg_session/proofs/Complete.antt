@@ -1,4 +1,8 @@
 -- Over a link that conforms a session with valid input fails for nothing but want of memory.
+pub mod Bytes
+pub mod Groups
+pub mod Start
+pub mod Course
 use Rattle.std.proofs.Common.{◌≡◌, ◌⊎◌, ◌<◌, ◌≤◌, ◌+◌, ◌-◌, ℕ, zero, suc, List, [], ◌∷◌, ◌++◌, length, take, drop, Bool, true, false, not, ◌||◌, Option, Some, None, Result, Ok, Err, inl, inr, refl, sym, ap, subst, ◌∙◌, append_assoc, append-nil, arith}
 use Rattle.std.specs.Prelude.{IfSome, IsTrue, IsOk, count_by, is_none, slice_get, if◌then◌else◌}
 use Rattle.std.specs.List.{concat, list_all, AllByRecursion}
@@ -23,11 +27,11 @@ use Rattle.pg_spec.specs.Startup.{Startup, Done, More, First, used_of, begun_by,
 use Rattle.pg_spec.proofs.GroupLaws.{groups-AreFronts}
 use Rattle.pg_connect.specs.Startups.{frame_of}
 use Rattle.pg_session.specs.Course.{HoldsCourse}
-use Rattle.pg_session.proofs.CausedFrames.{sent-behind}
-use Rattle.pg_session.proofs.CompleteBytes.{IsWhole, IsFrontOf, all-behind, all-drop, all-front, all-holds, all-take, first-of-front, front-of, holds-within, messages-behind, never-bad, none-front, place-low, split-concat, stands-at, whole-concat}
-use Rattle.pg_session.proofs.CompleteGroups.{AreReplies, IsAside, are-replies, few-units-whole, groups-behind}
-use Rattle.pg_session.proofs.CompleteStart.{done-later, front-startup, never-refused, used-within, waits-within}
-use Rattle.pg_session.proofs.CrossedStart.{no-frames}
+use Rattle.pg_session.proofs.Caused.Frames.{sent-behind}
+use Rattle.pg_session.proofs.Complete.Bytes.{IsWhole, IsFrontOf, all-behind, all-drop, all-front, all-holds, all-take, first-of-front, front-of, holds-within, messages-behind, never-bad, none-front, place-low, split-concat, stands-at, whole-concat}
+use Rattle.pg_session.proofs.Complete.Groups.{AreReplies, IsAside, are-replies, few-units-whole, groups-behind}
+use Rattle.pg_session.proofs.Complete.Start.{done-later, front-startup, never-refused, used-within, waits-within}
+use Rattle.pg_session.proofs.Crossing.Start.{no-frames}
 
 -- a connection string means one thing
 pub means-one : (text : List ℕ) (s : Settings) (user : List ℕ) → Means text s → Means text (only_user user) → s ≡ only_user user

@@ -14,15 +14,15 @@ use Rattle.pg_desk.specs.History.{IsFrontOf}
 use Rattle.pg_text.specs.Views.{command_of, report_of, scripts_of}
 use Rattle.pg_text.specs.declared.command.Command.{Command}
 use Rattle.pg_text.specs.declared.report.Report.{Report}
-use Rattle.pg_session.proofs.CrossedAll.{all-crossed, filter-short, fewer-messages}
-use Rattle.pg_session.proofs.CrossedEnd.{added-is, of-bytes}
-use Rattle.pg_session.proofs.CrossedStart.{is-started}
-use Rattle.pg_session.proofs.CrossedGroups.{both-true}
+use Rattle.pg_session.proofs.Crossing.All.{all-crossed, filter-short, fewer-messages}
+use Rattle.pg_session.proofs.Crossing.End.{added-is, of-bytes}
+use Rattle.pg_session.proofs.Crossing.Start.{is-started}
+use Rattle.pg_session.proofs.Crossing.Groups.{both-true}
 use Rattle.pg_session.proofs.LivesAtOnce.{answers-at-once}
 use Rattle.pg_session.proofs.LivesCalls.{calls-alone}
 use Rattle.pg_session.proofs.LivesLink.{came-behind}
 use Rattle.pg_session.proofs.LivesWhole.{ran-and-answered, said-so, has-run}
-use Rattle.pg_session.proofs.OrderHolds.{turns_are_in_order}
+use Rattle.pg_session.proofs.Order.Holds.{turns_are_in_order}
 use Rattle.pg_session.specs.Crossed.{session_of}
 use Rattle.pg_session.specs.WholeSession.{EndsWell}
 use Rattle.pg_session.specs.Lives.{calls_of}

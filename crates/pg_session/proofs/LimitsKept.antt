@@ -17,10 +17,10 @@ use Rattle.pg_text.specs.declared.report.Report.{Report}
 use Rattle.pg_session.specs.Failures.{StopsOpening}
 use Rattle.pg_session.specs.Sessions.{HasPlayed}
 use Rattle.pg_session.specs.States.{SessionState}
-use Rattle.pg_session.proofs.CrossedChain.{StoodIn}
-use Rattle.pg_session.proofs.CrossedEnd.{finished}
-use Rattle.pg_session.proofs.StalledStart.{rests-so}
-use Rattle.pg_session.proofs.StartCauses.{of_grown}
+use Rattle.pg_session.proofs.Crossing.Chain.{StoodIn}
+use Rattle.pg_session.proofs.Crossing.End.{finished}
+use Rattle.pg_session.proofs.Stalled.Start.{rests-so}
+use Rattle.pg_session.proofs.Caused.Start.{of_grown}
 
 -- a session whose count is within its limit was given no more than that
 pub limit_kept : (opening : List ℕ) (first : List RawMessage) (base l : LinkView) (s : SessionState) (limit : ℕ) → StoodIn opening first base s l →

@@ -28,7 +28,7 @@ use Rattle.pg_session.proofs.LivesPolls.{BeganSo, Booked, Unwritten, Refused, Be
 use Rattle.pg_session.proofs.LivesReached.{Reached, state_of, state-more, reached-more, book_in, own-kept, none-kept, booked-one, never-refused}
 use Rattle.pg_session.proofs.LivesTakes.{SameReader, reader-here}
 use Rattle.pg_session.proofs.LivesRows.{RowStands, request, idle-turn, waits-turn, begins-turn, runs-answers, begins-answered, unwritten-answered}
-use Rattle.pg_session.proofs.SentOrder.{OwnRequests, begun, runs, one-booked, none-booked}
+use Rattle.pg_session.proofs.SentSoFar.Order.{OwnRequests, begun, runs, one-booked, none-booked}
 use Rattle.pg_session.specs.HandleTurns.{AsksCommand, BeginsNext, kept_answer, Idles, Waits}
 use Rattle.pg_session.specs.States.{HandleState}
 

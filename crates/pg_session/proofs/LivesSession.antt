@@ -33,7 +33,7 @@ use Rattle.pg_session.proofs.LivesLists.{one-more}
 use Rattle.pg_session.proofs.LivesReached.{Reached, state_of, state-more, reached-more, book_in, engine-kept}
 use Rattle.pg_session.proofs.LivesRows.{book-same, other-turn}
 use Rattle.pg_session.proofs.LivesTakes.{SameReader, engine-readers, engine-received}
-use Rattle.pg_session.proofs.SentOrder.{OwnRequests, begun}
+use Rattle.pg_session.proofs.SentSoFar.Order.{OwnRequests, begun}
 use Rattle.pg_session.proofs.LivesTurns.{SessionStands, Onward, trace_of, handle-turn}
 use Rattle.pg_connect.specs.Passed.{AllEngineCalls}
 use Rattle.pg_session.specs.Lives.{calls_in_poll, calls_in_turn, calls_in, calls_of}

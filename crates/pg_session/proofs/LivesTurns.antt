@@ -26,7 +26,7 @@ use Rattle.pg_session.proofs.LivesLists.{set-here, set-there, one-more}
 use Rattle.pg_session.proofs.LivesReached.{Reached, state_of, reached-more, reached-untouched, book_in, shut}
 use Rattle.pg_session.proofs.LivesRows.{BookGrows, book-same, book-pushed, booked-elsewhere, request, other-turn, row-stays, row-within}
 use Rattle.pg_session.proofs.LivesTakes.{SameReader, reader-here}
-use Rattle.pg_session.proofs.SentOrder.{OwnRequests, begun, other-booked}
+use Rattle.pg_session.proofs.SentSoFar.Order.{OwnRequests, begun, other-booked}
 use Rattle.pg_session.specs.HandleTurns.{HandleTurns, StartsAt}
 use Rattle.pg_session.specs.Lives.{came_at}
 use Rattle.pg_session.specs.States.{HandleState, SessionState}

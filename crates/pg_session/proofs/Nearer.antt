@@ -1,4 +1,9 @@
 -- Each turn of a session leaves less to do where something moved in it.
+pub mod Sums
+pub mod Hub
+pub mod Handle
+pub mod OneTurn
+pub mod Link
 use Rattle.std.proofs.Common.{◌≡◌, inl, inr, ℕ, ◌+◌, ◌≤◌, List, [], ◌∷◌, Bool, true, false, ◌||◌, Option, Some, None, Result, Ok, Err, sym, ap, subst, arith}
 use Rattle.futures.specs.declared.task.Poll.{Poll}
 use Rattle.futures.specs.declared.task.Poll.TheVariants.{Ready, Pending}
@@ -15,9 +20,9 @@ use Rattle.pg_session.specs.Measure.{one_if, scripts_left, unsent_left, reading_
 use Rattle.pg_session.specs.Sessions.{IsNewSession, MakesAll}
 use Rattle.pg_session.specs.States.{SessionState, new_handles, commands_in}
 use Rattle.pg_session.specs.Turns.{HandsOn, HandleMade, ConnectionMade, Makes, Turns, moved_by, moved_in, moved_in_poll}
-use Rattle.pg_session.proofs.NearerLink.{poll-less}
-use Rattle.pg_session.proofs.NearerSums.{one-or, scripts-changed, read-at, read-set}
-use Rattle.pg_session.proofs.NearerTurns.{handle-less, closes}
+use Rattle.pg_session.proofs.Nearer.Link.{poll-less}
+use Rattle.pg_session.proofs.Nearer.Sums.{one-or, scripts-changed, read-at, read-set}
+use Rattle.pg_session.proofs.Nearer.OneTurn.{handle-less, closes}
 
 -- a session goes on, and less is left to do
 pub record GoesNearer (scripts : List (List Command)) (moved : Bool) (s t : SessionState) : Type 0 where

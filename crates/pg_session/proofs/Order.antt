@@ -1,4 +1,8 @@
 -- Turns of a session made one after another.
+pub mod Places
+pub mod Marks
+pub mod Holds
+pub mod Traces
 use Rattle.std.proofs.Common.{ℕ, false, List, [], ◌∷◌, ◌++◌, refl, subst, ◌∙◌}
 use Rattle.pg_spec.specs.Links.{LinkView}
 use Rattle.pg_wire.specs.LinkCalls.{SameBytes}

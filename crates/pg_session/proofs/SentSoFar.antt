@@ -1,4 +1,8 @@
 -- What was sent where a session failed.
+pub mod Order
+pub mod NoneKept
+pub mod TurnsCounted
+pub mod TurnsAsked
 use Rattle.std.proofs.Common.{◌≡◌, ℕ, zero, suc, ◌<◌, List, [], ◌∷◌, ◌++◌, length, map, Bool, true, false, Some, Ok, inl, inr, refl, sym, ap, subst, ◌∙◌, arith, append_assoc, append-nil, slice_get}
 use Rattle.std.specs.Prelude.{All, IsSome, take, drop}
 use Rattle.std.proofs.lemmas.List.{take-append-drop}
@@ -34,19 +38,19 @@ use Rattle.pg_text.specs.Views.{command_of, scripts_of, booking_of}
 use Rattle.pg_text.specs.declared.command.Command.{Command}
 use Rattle.pg_session.specs.Failures.{StopsOpening, WasOpened, WasOver}
 use Rattle.pg_session.specs.States.{HandleState, SessionState}
-use Rattle.pg_session.proofs.CausedTurns.{Broke}
-use Rattle.pg_session.proofs.CrossedChain.{StoodIn, stood-all, stood-turn}
-use Rattle.pg_session.proofs.CrossedEnd.{joined-append, wire-bytes, whole-front}
-use Rattle.pg_session.proofs.CrossedHub.{Spent, no-more-spent, out-all, spent-all}
-use Rattle.pg_session.proofs.CrossedStart.{is-started, one-frame, stood-start}
+use Rattle.pg_session.proofs.Caused.Turns.{Broke}
+use Rattle.pg_session.proofs.Crossing.Chain.{StoodIn, stood-all, stood-turn}
+use Rattle.pg_session.proofs.Crossing.End.{joined-append, wire-bytes, whole-front}
+use Rattle.pg_session.proofs.Crossing.Hub.{Spent, no-more-spent, out-all, spent-all}
+use Rattle.pg_session.proofs.Crossing.Start.{is-started, one-frame, stood-start}
 use Rattle.pg_session.proofs.LivesCalls.{calls-alone}
 use Rattle.pg_session.proofs.LivesHub.{engine-all}
 use Rattle.pg_session.proofs.LivesReached.{book_in}
 use Rattle.pg_session.proofs.LivesSession.{session-ends}
 use Rattle.pg_session.proofs.LivesTurns.{SessionStands}
-use Rattle.pg_session.proofs.SentOrder.{asked_by, asked-append, begun}
-use Rattle.pg_session.proofs.StalledStart.{rests-so}
-use Rattle.pg_session.proofs.StartCauses.{of_grown}
+use Rattle.pg_session.proofs.SentSoFar.Order.{asked_by, asked-append, begun}
+use Rattle.pg_session.proofs.Stalled.Start.{rests-so}
+use Rattle.pg_session.proofs.Caused.Start.{of_grown}
 
 -- ---- whose the requests are
 

@@ -8,8 +8,8 @@ use Rattle.pg_connect.specs.declared.startup.Startup.{Startup}
 use Rattle.pg_faults.specs.declared.error.Error.{Error}
 use Rattle.pg_faults.specs.declared.error.Error.TheVariants as error
 use Rattle.pg_session.proofs.Caused.{broken-cause}
-use Rattle.pg_session.proofs.StalledStart.{stalled-start}
-use Rattle.pg_session.proofs.StartCauses.{made_cause, start_cause}
+use Rattle.pg_session.proofs.Stalled.Start.{stalled-start}
+use Rattle.pg_session.proofs.Caused.Start.{made_cause, start_cause}
 use Rattle.pg_text.specs.declared.command.Command.{Command}
 use Rattle.pg_text.specs.declared.report.Report.{Report}
 use Rattle.pg_tool.specs.Asked.{call_of}

@@ -14,8 +14,8 @@ use Rattle.pg_wire.specs.Streams.{SinkView}
 use Rattle.pg_faults.specs.declared.error.Error.{Error}
 use Rattle.pg_text.specs.declared.report.Report.{Report}
 use Rattle.pg_text.proofs.ReadLaws.{one_session, refused_is_none}
-use Rattle.pg_session.proofs.CompleteCourse.{must-end-well, of-some}
-use Rattle.pg_session.proofs.TurnsAsked.{few-turns}
+use Rattle.pg_session.proofs.Complete.Course.{must-end-well, of-some}
+use Rattle.pg_session.proofs.SentSoFar.TurnsAsked.{few-turns}
 use Rattle.pg_tool.specs.Reading.{longest_text, ReadWhole}
 use Rattle.pg_tool.specs.RunContract.{EndsWith, IsPlayed, IsWellMade, MustPlay, PlayedSession, PlayedText, Run, SaysResult, call_of, new_link, plan_of}
 use Rattle.pg_tool.specs.SessionContract.{SendsInOrder, SessionResult, result_of}

@@ -12,9 +12,9 @@ use Rattle.pg_faults.specs.declared.error.Error.{Error}
 use Rattle.pg_faults.specs.declared.error.Error.TheVariants as error
 use Rattle.pg_session.proofs.Caused.{broken-kept, broken-sent}
 use Rattle.pg_session.proofs.Closing.{broken-open, over-closed}
-use Rattle.pg_session.proofs.NoneKept.{stopped-kept}
+use Rattle.pg_session.proofs.SentSoFar.NoneKept.{stopped-kept}
 use Rattle.pg_session.proofs.SentSoFar.{sent-failed, sent-opened, sent-over, sent-stopped, sent-untouched}
-use Rattle.pg_session.proofs.StalledStart.{rests-so}
+use Rattle.pg_session.proofs.Stalled.Start.{rests-so}
 use Rattle.pg_session.specs.WholeSession.{LeavesOpen}
 use Rattle.pg_text.specs.declared.command.Command.{Command}
 use Rattle.pg_text.specs.declared.report.Report.{Report}

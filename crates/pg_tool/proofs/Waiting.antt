@@ -14,7 +14,7 @@ use Rattle.pg_connect.proofs.Joining.{rose_later}
 use Rattle.pg_connect.proofs.Opening.{opening-failed}
 use Rattle.pg_tool.specs.Asked.{ConfigIsNotBuilt}
 use Rattle.pg_session.specs.Failures.{PauseFails}
-use Rattle.pg_session.proofs.StalledStart.{rests-so}
+use Rattle.pg_session.proofs.Stalled.Start.{rests-so}
 use Rattle.pg_tool.specs.Openings.{OpenEnds}
 use Rattle.pg_tool.proofs.Following.{opening_waits, continues_grown, continues_still, continues_then}
 

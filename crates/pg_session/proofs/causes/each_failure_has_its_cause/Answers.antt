@@ -1,6 +1,6 @@
 use Rattle.pg_session.proofs.Caused.{broken-cause}
-use Rattle.pg_session.proofs.StalledStart.{stalled-start}
-use Rattle.pg_session.proofs.StartCauses.{start_cause}
+use Rattle.pg_session.proofs.Stalled.Start.{stalled-start}
+use Rattle.pg_session.proofs.Caused.Start.{start_cause}
 use Rattle.pg_session.proofs.causes.each_failure_has_its_cause.Goals as goal
 
 pub returns-clause-startup : goal.returns-clause-startup

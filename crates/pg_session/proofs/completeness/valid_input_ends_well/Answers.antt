@@ -1,4 +1,4 @@
-use Rattle.pg_session.proofs.CompleteCourse.{must-end-well}
+use Rattle.pg_session.proofs.Complete.Course.{must-end-well}
 use Rattle.pg_session.proofs.completeness.valid_input_ends_well.Goals as goal
 
 pub returns : goal.returns

@@ -1,6 +1,6 @@
 use Rattle.pg_session.specs.Crossed.{session_of, Sent, Crossed}
-use Rattle.pg_session.proofs.CrossedEnd.{finished, of-bytes, was-sent}
-use Rattle.pg_session.proofs.CrossedAll.{all-crossed}
+use Rattle.pg_session.proofs.Crossing.End.{finished, of-bytes, was-sent}
+use Rattle.pg_session.proofs.Crossing.All.{all-crossed}
 use Rattle.pg_session.proofs.crossed.what_crossed.Goals as goal
 
 pub returns-clause-sent : goal.returns-clause-sent

@@ -1,5 +1,5 @@
-use Rattle.pg_session.proofs.CrossedEnd.{of-bytes}
-use Rattle.pg_session.proofs.EventsOf.{are-events, reads-so}
+use Rattle.pg_session.proofs.Crossing.End.{of-bytes}
+use Rattle.pg_session.proofs.Histories.{are-events, reads-so}
 use Rattle.pg_session.specs.Crossed.{session_of}
 use Rattle.pg_session.specs.Events.{turn_events, ReadsItsReply}
 use Rattle.pg_session.proofs.events.each_request_reads_its_reply.Goals as goal

@@ -1,7 +1,7 @@
 use Rattle.std.proofs.Common.{refl}
 use Rattle.pg_faults.specs.declared.error.Error.TheVariants as error
 use Rattle.pg_session.proofs.Caused.{broken-kept}
-use Rattle.pg_session.proofs.NoneKept.{stopped-kept}
+use Rattle.pg_session.proofs.SentSoFar.NoneKept.{stopped-kept}
 use Rattle.pg_session.proofs.sent.what_was_asked_where_it_stalled.Goals as goal
 
 pub returns-clause-startup : goal.returns-clause-startup

@@ -1,4 +1,4 @@
-use Rattle.pg_session.proofs.TurnsAsked.{few-turns}
+use Rattle.pg_session.proofs.SentSoFar.TurnsAsked.{few-turns}
 use Rattle.pg_session.proofs.turns_given.what_was_sent_gives_few_turns.Goals as goal
 
 pub returns-clause-units : goal.returns-clause-units

@@ -1,0 +1,359 @@
+-- A session asks queries alone, and makes its hub fail in no turn.
+use Rattle.std.proofs.Common.{◌≡◌, inl, inr, ℕ, zero, suc, ◌-◌, List, [], ◌∷◌, ◌++◌, Bool, true, false, if◌then◌else◌, Option, Some, None, Result, Ok, Err, refl, sym, subst, ◌∙◌}
+use Rattle.std.specs.Prelude.{slice_get, slice_set, is_some}
+use Rattle.pg_spec.specs.Faults as faults
+use Rattle.pg_spec.specs.Frames.{query_frame}
+use Rattle.pg_spec.specs.Links.{LinkView}
+use Rattle.pg_spec.specs.RawMessages.{RawMessage}
+use Rattle.futures.specs.declared.task.Poll.{Poll}
+use Rattle.futures.specs.declared.task.Poll.TheVariants.{Ready, Pending}
+use Rattle.pg_client.specs.Simple.{asks_by, told}
+use Rattle.pg_errors.specs.declared.async_message.AsyncMessage.{AsyncMessage}
+use Rattle.pg_faults.specs.declared.error.Error.{Error}
+use Rattle.pg_desk.specs.declared.event.Booking.{Booking}
+use Rattle.pg_desk.specs.declared.event.DeskFault.{DeskFault}
+use Rattle.pg_desk.specs.declared.event.DeskFault.TheVariants as desk
+use Rattle.pg_spec.specs.declared.stamps.Stamp.{Stamp}
+use Rattle.pg_desk.specs.declared.event.Take.TheVariants as taking
+use Rattle.pg_desk.specs.declared.event.Out.TheVariants as out
+use Rattle.pg_desk.specs.declared.event.Deliver.TheVariants as delivering
+use Rattle.pg_desk.specs.declared.event.Event.{Event}
+use Rattle.pg_desk.specs.declared.event.Event.TheVariants.{Book, Take as TakeEvent, HangUp as HangUpEvent, NextStatement, NextPortal, NextOut, Deliver as DeliverEvent, CloseRequests, Fail}
+use Rattle.pg_desk.specs.History.{State, start, after, after_all, wire, IsLegal}
+use Rattle.pg_hub.specs.Standing.{Standing}
+use Rattle.pg_hub.specs.Fits.{Fits, HubBecomes}
+use Rattle.pg_hub.specs.Becomes.{fits-touched}
+use Rattle.pg_connect.specs.declared.streams.Streams.{Streams}
+use Rattle.pg_connect.specs.Answers.{PollAnswers}
+use Rattle.pg_connect.specs.Ends.{last_is, is_closed_out}
+use Rattle.pg_connect.specs.Passed.{IsEngineCall, AllEngineCalls}
+use Rattle.pg_query.specs.declared.desk_call.DeskCall.{DeskCall}
+use Rattle.pg_query.specs.declared.desk_call.DeskCall.TheVariants as desk_call
+use Rattle.pg_query.specs.declared.desk_call.Reply.{Reply}
+use Rattle.pg_query.specs.Dialogue.{Dialogue, Answer, Ask, Send, Leave, Read, HangUp, Call, Hear, Steps, Walks, Told, feed_one, feed, after_reply}
+use Rattle.pg_query.specs.Meaning.{Place}
+use Rattle.pg_query.specs.Meaning as meaning
+use Rattle.pg_query.specs.Reading.{ends}
+use Rattle.pg_query.specs.Requests.{asks, reads_unless}
+use Rattle.pg_query.specs.declared.simple_message.SimpleMessage.{SimpleMessage}
+use Rattle.pg_text.specs.declared.command.Command.{Command}
+use Rattle.pg_text.specs.declared.command.Command.TheVariants as command
+use Rattle.pg_session.specs.declared.handle_turn.Polling.{Polling}
+use Rattle.pg_session.specs.declared.handle_turn.Polling.TheVariants as polling
+use Rattle.pg_session.specs.HandleTurns.{AsksCommand, HandleTurns, StartsAt}
+use Rattle.pg_session.specs.Sessions.{IsNewSession, MakesAll}
+use Rattle.pg_session.specs.States.{HandleState, SessionState, new_handles, commands_in}
+use Rattle.pg_session.specs.Turns.{untouched, Closes, ClosesBehind, HandsOn, Makes}
+use Rattle.pg_session.proofs.Caused.Frames.{IsQuery, a-query, AreQueries}
+
+-- ---- the hub's bookings
+
+-- each request has one part, a Query
+abbrev pub AllAsk : List Booking → Type 0
+AllAsk [] = Unit {0}
+AllAsk (b ∷ bs) = (part : List ℕ) × (b.parts ≡ part ∷ []) × IsQuery part × AllAsk bs
+
+ask-more : (bs : List Booking) (stamp : Stamp) (part : List ℕ) → AllAsk bs → IsQuery part → AllAsk (bs ++ record { stamp = stamp; parts = part ∷ [] } ∷ [])
+ask-more [] stamp part h q = (part, refl, q, tt)
+ask-more (b ∷ bs) stamp part h q = (h.0, h.1, h.2, ask-more bs stamp part h.3 q)
+
+-- all parts are queries
+pub wire-asks : (bs : List Booking) → AllAsk bs → AreQueries (wire bs)
+wire-asks [] h = tt
+wire-asks (b ∷ bs) h = subst (λ (x : List (List ℕ)). AreQueries (x ++ wire bs)) (sym h.1) (h.2, wire-asks bs h.3)
+
+-- Such a hub hasn't failed, and its requests are queries.
+pub record IsTame (book : List Booking) (failed : Bool) : Type 0 where
+  pub works : failed ≡ false
+  pub asks : AllAsk book
+
+-- an event books a query alone, and doesn't make the hub fail
+abbrev pub IsMild : Event → Type 0
+IsMild (Book stamp part copying answer) = IsQuery part
+IsMild (Fail answer) = ⊥
+IsMild _ = Unit {0}
+
+abbrev pub AreMild : List Event → Type 0
+AreMild [] = Unit {0}
+AreMild (e ∷ es) = IsMild e × AreMild es
+
+tame-one : (s : State) (e : Event) → IsMild e → IsTame s.book s.failed → IsTame (after s e).book (after s e).failed
+tame-one s (Book stamp part copying (Ok id)) q h = record { works = h.works; asks = ask-more s.book stamp part h.asks q }
+tame-one s (Book stamp part copying (Err e)) q h = h
+tame-one s (TakeEvent id (Ok (taking.Batch ms))) q h = h
+tame-one s (TakeEvent id (Ok x)) q h = h
+tame-one s (TakeEvent id (Err e)) q h = h
+tame-one s (HangUpEvent id (Ok x)) q h = h
+tame-one s (HangUpEvent id (Err e)) q h = h
+tame-one s (NextStatement (Ok n)) q h = h
+tame-one s (NextStatement (Err e)) q h = h
+tame-one s (NextPortal (Ok n)) q h = h
+tame-one s (NextPortal (Err e)) q h = h
+tame-one s (NextOut (Ok (out.Part part))) q h = h
+tame-one s (NextOut (Ok x)) q h = h
+tame-one s (NextOut (Err e)) q h = h
+tame-one s (DeliverEvent batch complete delivering.Taken) q h = h
+tame-one s (DeliverEvent batch complete x) q h = h
+tame-one s (CloseRequests (Ok x)) q h = h
+tame-one s (CloseRequests (Err e)) q h = h
+tame-one s (Fail answer) q h = absurd q
+
+pub tame-all : (s : State) (es : List Event) → AreMild es → IsTame s.book s.failed → IsTame (after_all s es).book (after_all s es).failed
+tame-all s [] q h = h
+tame-all s (e ∷ es) q h = tame-all (after s e) es q.1 (tame-one s e q.0 h)
+
+mild-engine : (e : Event) → IsEngineCall e → IsMild e
+mild-engine (NextOut answer) c = tt
+mild-engine (DeliverEvent batch complete answer) c = tt
+mild-engine _ c = absurd c
+
+pub mild-engines : (es : List Event) → AllEngineCalls es → AreMild es
+mild-engines [] c = tt
+mild-engines (e ∷ es) c = (mild-engine e c.0, mild-engines es c.1)
+
+-- a hub that hasn't failed doesn't answer that it is closed
+closed-one : (s : State) (e : Event) → s.failed ≡ false → IsLegal s (e ∷ []) → is_closed_out e ≡ true → ⊥
+closed-one s (NextOut (Err desk.Closed)) works l is = let failed : s.failed ≡ true = l.0 in absurd (let no : false ≡ true = sym works ∙ failed in cc)
+closed-one s _ works l is = absurd cc
+
+pub never-closed : (s : State) (es : List Event) → AreMild es → IsTame s.book s.failed → IsLegal s es → last_is is_closed_out es ≡ true → ⊥
+never-closed s [] q h l is = absurd cc
+never-closed s (e ∷ []) q h l is = closed-one s e h.works l is
+never-closed s (e ∷ f ∷ es) q h l is = never-closed (after s e) (f ∷ es) q.1 (tame-one s e q.0 h) l.1 is
+
+-- the hub stands for a state, and is so
+pub record Tame (hub : Standing) : Type 0 where
+  pub state : State
+  pub fits : Fits state hub
+  pub tame : IsTame hub.book hub.failed
+
+pub tame-in : (s : State) (hub : Standing) → Fits s hub → IsTame hub.book hub.failed → IsTame s.book s.failed
+tame-in s hub fits h = record { works = sym fits.failed ∙ h.works; asks = subst AllAsk fits.book h.asks }
+
+tame-out : (s : State) (hub : Standing) → Fits s hub → IsTame s.book s.failed → IsTame hub.book hub.failed
+tame-out s hub fits h = record { works = fits.failed ∙ h.works; asks = subst AllAsk (sym fits.book) h.asks }
+
+tame-moves : (a b : Standing) (es : List Event) → Tame a → HubBecomes a es b → AreMild es → Tame b
+tame-moves a b es h becomes q =
+    let now = becomes.stands h.state h.fits in
+    record {
+      state = after_all h.state es;
+      fits = now.1;
+      tame = tame-out (after_all h.state es) b now.1 (tame-all h.state es q (tame-in h.state a h.fits h.tame));
+    }
+
+tame-untouched : (a : Standing) → Tame a → Tame (untouched a)
+tame-untouched a h = record { state = h.state; fits = fits-touched h.state a false h.fits; tame = h.tame }
+
+-- ---- dialogues
+
+-- whatever comes, the dialogue books queries alone
+abbrev pub Asks : {T : Type 0} → Dialogue T → Type 0
+Asks (Answer r) = Unit {0}
+Asks (Ask copying part d) = IsQuery part × Asks d
+Asks (Send part d) = IsQuery part × Asks d
+Asks (Leave id d) = Asks d
+Asks (Read cleanup decides next) = (ms : List RawMessage) → Asks (next ms)
+Asks (HangUp d) = Asks d
+Asks (Call q next) = (r : Reply) → Asks (next r)
+Asks (Hear next) = (r : Reply) → Asks (next r)
+
+asks-fed-one : {T : Type 0} (m : RawMessage) (d : Dialogue T) → Asks d → Asks (feed_one m d)
+asks-fed-one m (Answer r) h = h
+asks-fed-one m (Ask copying part d) h = h
+asks-fed-one m (Send part d) h = (h.0, asks-fed-one m d h.1)
+asks-fed-one m (Leave id d) h = asks-fed-one m d h
+asks-fed-one {T} m (Read cleanup decides next) h = by_test (decides (m ∷ []))
+  where
+    by_test : (b : Bool) → Asks (if b then next (m ∷ []) else Read cleanup (λ ms. decides (m ∷ ms)) (λ ms. next (m ∷ ms)))
+    by_test true = h (m ∷ [])
+    by_test false = λ ms. h (m ∷ ms)
+asks-fed-one m (HangUp d) h = h
+asks-fed-one m (Call q next) h = λ r. asks-fed-one m (next r) (h r)
+asks-fed-one m (Hear next) h = λ r. asks-fed-one m (next r) (h r)
+
+asks-fed : {T : Type 0} (ms : List RawMessage) (d : Dialogue T) → Asks d → Asks (feed ms d)
+asks-fed [] d h = h
+asks-fed (m ∷ ms) d h = asks-fed ms (feed_one m d) (asks-fed-one m d h)
+
+mild-told : (q : DeskCall) (e : Event) (r : Result Reply DeskFault) → Told q e r → IsMild e
+mild-told desk_call.NextStatement (NextStatement answer) r h = tt
+mild-told desk_call.NextStatement _ r h = absurd h
+mild-told desk_call.NextPortal (NextPortal answer) r h = tt
+mild-told desk_call.NextPortal _ r h = absurd h
+
+asks-reply : {T : Type 0} (r : Result Reply DeskFault) (next : Reply → Dialogue T) → ((r : Reply) → Asks (next r)) → Asks (after_reply r next)
+asks-reply (Ok r) next h = h r
+asks-reply (Err e) next h = tt
+
+-- a step books a query, or nothing
+record GoesOn {T : Type 0} (e : Event) (d : Dialogue T) : Type 0 where
+  mild : IsMild e
+  asks : Asks d
+
+on : {T : Type 0} (e : Event) (d d' : Dialogue T) → IsMild e → Asks d → d' ≡ d → GoesOn e d'
+on {T} e d d' mild asks same = record { mild = mild; asks = subst (λ (x : Dialogue T). Asks x) (sym same) asks }
+
+step : {T : Type 0} (stamp : Stamp) (d : Dialogue T) (id : ℕ) (e : Event) (d' : Dialogue T) (id' : ℕ) → Steps stamp d id e d' id' → Asks d → GoesOn e d'
+step stamp (Answer r) id e d' id' h q = absurd h
+step stamp (Ask copying part d) id (Book stamp' part' copying' (Ok new)) d' id' h q = on _ d d' (subst IsQuery (sym h.1) q.0) q.1 h.3
+step stamp (Ask copying part d) id (Book stamp' part' copying' (Err e)) d' id' h q = on _ _ d' (subst IsQuery (sym h.1) q.0) tt h.3
+step stamp (Ask copying part d) id _ d' id' h q = absurd h
+step stamp (Send part d) id (Book stamp' part' copying (Ok new)) d' id' h q = on _ (Leave new d) d' (subst IsQuery (sym h.1) q.0) q.1 h.3
+step stamp (Send part d) id (Book stamp' part' copying (Err e)) d' id' h q = on _ _ d' (subst IsQuery (sym h.1) q.0) tt h.3
+step stamp (Send part d) id _ d' id' h q = absurd h
+step stamp (Leave sent d) id (HangUpEvent which (Ok x)) d' id' h q = on _ d d' tt q h.1
+step stamp (Leave sent d) id (HangUpEvent which (Err e)) d' id' h q = on _ _ d' tt tt h.1
+step stamp (Leave sent d) id _ d' id' h q = absurd h
+step stamp (Read cleanup decides next) id (TakeEvent which (Ok (taking.Batch ms))) d' id' h q =
+    on _ (feed ms (Read cleanup decides next)) d' tt (asks-fed ms (Read cleanup decides next) q) h.1
+step stamp (Read cleanup decides next) id (TakeEvent which (Ok taking.Empty)) d' id' h q = on _ (Read cleanup decides next) d' tt q h.1
+step stamp (Read cleanup decides next) id (TakeEvent which (Ok taking.Over)) d' id' h q = on _ _ d' tt tt h.1
+step stamp (Read cleanup decides next) id (TakeEvent which (Ok taking.Gone)) d' id' h q = on _ _ d' tt tt h.1
+step stamp (Read cleanup decides next) id (TakeEvent which (Err e)) d' id' h q = on _ _ d' tt tt h.1
+step stamp (Read cleanup decides next) id _ d' id' h q = absurd h
+step stamp (HangUp d) id (HangUpEvent which (Ok x)) d' id' h q = on _ d d' tt q h.1
+step stamp (HangUp d) id (HangUpEvent which (Err e)) d' id' h q = on _ _ d' tt tt h.1
+step stamp (HangUp d) id _ d' id' h q = absurd h
+step stamp (Call ask next) id e d' id' h q = on e (after_reply h.0 next) d' (mild-told ask e h.0 h.1) (asks-reply h.0 next q) h.2
+step stamp (Hear next) id e d' id' h q = absurd h
+
+-- the same of several
+record GoesFar {T : Type 0} (es : List Event) (d : Dialogue T) : Type 0 where
+  mild : AreMild es
+  asks : Asks d
+
+walk : {T : Type 0} (stamp : Stamp) (d : Dialogue T) (id : ℕ) (es : List Event) (d' : Dialogue T) (id' : ℕ) → Walks stamp d id es d' id' → Asks d → GoesFar es d'
+walk {T} stamp d id [] d' id' h q = record { mild = tt; asks = subst (λ (x : Dialogue T). Asks x) (sym h.0) q }
+walk stamp d id (e ∷ es) d' id' h q =
+    let one = step stamp d id e h.0 h.1 h.2 q in
+    let rest = walk stamp h.0 h.1 es d' id' h.3 one.asks in
+    record { mild = (one.mild, rest.mild); asks = rest.asks }
+
+-- ---- a query's dialogue
+
+asks-ends : {T : Type 0} (stops : Bool) (o : Option (Result T Error)) → Asks (ends stops o)
+asks-ends true (Some (Ok x)) = tt
+asks-ends false (Some (Ok x)) = tt
+asks-ends stops (Some (Err e)) = tt
+asks-ends stops None = tt
+
+asks-unless : {T : Type 0} (stops : Bool) (reading : List RawMessage → Option (Result T Error)) (o : Option (Result T Error)) → Asks (reads_unless stops reading o)
+asks-unless stops reading (Some r) = tt
+asks-unless stops reading None = λ ms. asks-ends stops (reading ms)
+
+asks-query : (take : Option ℕ) (text : List ℕ) (r : Result (List ℕ) faults.FrameFault) → query_frame text ≡ r → Asks (asks_by take r)
+asks-query take text (Err fault) e = tt
+asks-query take text (Ok frame) e = (a-query text frame e, asks-unless (is_some take) (told take) (told take []))
+
+asks-command : (c : Command) (d : Dialogue (List SimpleMessage)) → AsksCommand c d → Asks d
+asks-command (command.Simple text take) d (inl is) = subst (λ (x : Dialogue (List SimpleMessage)). Asks x) (sym is) (asks-query take text (query_frame text) refl)
+asks-command (command.Simple text take) d (inr is) = subst (λ (x : Dialogue (List SimpleMessage)). Asks x) (sym is) tt
+
+-- ---- handles
+
+-- what runs books queries alone
+abbrev pub Runs : Option (Place (List SimpleMessage)) → Type 0
+Runs None = Unit {0}
+Runs (Some place) = Asks place.dialogue
+
+abbrev pub AllRun : List HandleState → Type 0
+AllRun [] = Unit {0}
+AllRun (h ∷ hs) = Runs h.running × AllRun hs
+
+run-at : (hs : List HandleState) (i : ℕ) (h : HandleState) → AllRun hs → slice_get hs i ≡ Some h → Runs h.running
+run-at [] i h all e = absurd cc
+run-at (x ∷ hs) zero h all e = subst (λ (o : Option HandleState). RunsIn o) e all.0
+  where
+    RunsIn : Option HandleState → Type 0
+    RunsIn None = Unit {0}
+    RunsIn (Some x) = Runs x.running
+run-at (x ∷ hs) (suc i) h all e = run-at hs i h all.1 e
+
+run-set : (hs : List HandleState) (i : ℕ) (h : HandleState) → AllRun hs → Runs h.running → AllRun (slice_set hs i h)
+run-set [] i h all q = tt
+run-set (x ∷ hs) zero h all q = (q, all.1)
+run-set (x ∷ hs) (suc i) h all q = (all.0, run-set hs i h all.1 q)
+
+run-new : (scripts : List (List Command)) → AllRun (new_handles scripts)
+run-new [] = tt
+run-new (script ∷ scripts) = (tt, run-new scripts)
+
+starts : (script : List Command) (h : HandleState) (begins : Bool) (from : Place (List SimpleMessage)) → Runs h.running → StartsAt script h begins from → Asks from.dialogue
+starts script h true from q s = asks-command s.next from.dialogue s.asks
+starts script h false from q s = subst Runs s q
+
+-- ---- turns
+
+-- a session whose hub is so, and whose commands book queries alone
+pub record AsksQueries (s : SessionState) : Type 0 where
+  pub hub : Tame s.hub
+  pub handles : AllRun s.handles
+
+record HandleGoes (hub : Standing) (new : HandleState) : Type 0 where
+  tame : Tame hub
+  runs : Runs new.running
+
+walked : (stamp : Stamp) (a b : Standing) (p q : Place (List SimpleMessage)) → Tame a → Asks p.dialogue → (g : meaning.Goes HubBecomes stamp a p b q) → Tame b × Asks q.dialogue
+walked stamp a b p q h asks g =
+    let far = walk stamp p.dialogue p.reads g.events q.dialogue q.reads g.walked asks in
+    (tame-moves a b g.events h g.became far.mild, far.asks)
+
+handle-goes : (script : List Command) (stamp : Stamp) (a b : Standing) (old new : HandleState) (did : Polling) → Tame a → Runs old.running →
+    HandleTurns HubBecomes script stamp a old b new did → HandleGoes b new
+handle-goes script stamp a b old new polling.Idle h q t = record {
+  tame = subst Tame (sym t.desk) h;
+  runs = subst (λ (x : HandleState). Runs x.running) (sym t.handle) q;
+}
+handle-goes script stamp a b old new polling.Began h q t =
+    let w = walked stamp a b t.from t.to h (starts script old true t.from q t.starts) t.pauses.goes in
+    record { tame = w.0; runs = subst (λ (x : HandleState). Runs x.running) (sym t.handle) w.1 }
+handle-goes script stamp a b old new polling.Waits h q t =
+    let w = walked stamp a b t.from t.to h (starts script old false t.from q t.starts) t.pauses.goes in
+    record { tame = w.0; runs = subst (λ (x : HandleState). Runs x.running) (sym t.handle) w.1 }
+handle-goes script stamp a b old new polling.Answered h q t =
+    let w = walked stamp a b t.from t.goes.last h (starts script old t.begins t.from q t.starts) t.goes.goes in
+    record { tame = w.0; runs = subst (λ (x : HandleState). Runs x.running) (sym t.handle) tt }
+
+tame-closes : (left : ℕ) (a b : Standing) → Tame a → Closes left a b → Tame b
+tame-closes zero a b h c = tame-moves a b (CloseRequests (Ok tt) ∷ []) h c (tt, tt)
+tame-closes (suc left) a b h c = subst Tame (sym c) h
+
+tame-behind : (did : Polling) (left : ℕ) (a b : Standing) → Tame a → ClosesBehind did left a b → Tame b
+tame-behind polling.Idle left a b h c = subst Tame (sym c) h
+tame-behind polling.Began left a b h c = subst Tame (sym c) h
+tame-behind polling.Waits left a b h c = subst Tame (sym c) (tame-untouched a h)
+tame-behind polling.Answered left a b h c = tame-closes (left - 1) a b h c
+
+tame-poll : (a b : Standing) (s t : Streams) (l m : LinkView) (old new : List AsyncMessage) (over : Bool) (answer : Poll (Option (Result AsyncMessage Error))) → Tame a →
+    PollAnswers HubBecomes a b s t l m answer → HandsOn answer old new over → Tame b
+tame-poll a b s t l m old new over Pending h p hands = tame-moves a b p.turns.goes.events h p.turns.goes.became (mild-engines p.turns.goes.events p.turns.goes.calls)
+tame-poll a b s t l m old new over (Ready None) h p hands = tame-moves a b p.turns.goes.events h p.turns.goes.became (mild-engines p.turns.goes.events p.turns.goes.calls)
+tame-poll a b s t l m old new over (Ready (Some (Ok message))) h p hands =
+    tame-moves a b p.turns.goes.events h p.turns.goes.became (mild-engines p.turns.goes.events p.turns.goes.calls)
+tame-poll a b s t l m old new over (Ready (Some (Err e))) h p hands = absurd hands
+
+asks-turn : (scripts : List (List Command)) (turn : ℕ) (s t : SessionState) (l m : LinkView) (over : Bool) → AsksQueries s → Makes scripts turn s t l m over → AsksQueries t
+asks-turn scripts turn s t l m over h (inl made) =
+    let go = made.made in
+    let goes = handle-goes go.script _ (untouched s.hub) go.hub go.old go.new made.did (tame-untouched s.hub h.hub) (run-at s.handles turn go.old h.handles go.old_at) go.turns in
+    record {
+      hub = tame-behind made.did s.unanswered go.hub t.hub goes.tame go.closes;
+      handles = subst AllRun (sym go.handles) (run-set s.handles turn go.new h.handles goes.runs);
+    }
+asks-turn scripts turn s t l m over h (inr made) = record {
+  hub = tame-poll s.hub t.hub s.streams t.streams l m s.asynchronous t.asynchronous over made.made.answer h.hub made.made.polled made.made.hands;
+  handles = subst AllRun (sym made.made.handles) h.handles;
+}
+
+pub asks-all : (scripts : List (List Command)) (turns : List ℕ) (s : SessionState) (l : LinkView) (t : SessionState) (m : LinkView) → AsksQueries s → MakesAll scripts turns s l t m → AsksQueries t
+asks-all scripts [] s l t m h made = subst AsksQueries (sym made.0) h
+asks-all scripts (turn ∷ turns) s l t m h made =
+    asks-all scripts turns made.1 made.2 t m (asks-turn scripts turn s made.1 made.0 made.2 false h made.4) made.5
+
+pub asks-new : (scripts : List (List Command)) (s : SessionState) → IsNewSession scripts s → AsksQueries s
+asks-new scripts s new = record {
+  hub = tame-closes (commands_in scripts) new.hub s.hub
+      (record { state = start 0 0; fits = new.new; tame = tame-out (start 0 0) new.hub new.new (record { works = refl; asks = tt }) }) new.closes;
+  handles = subst AllRun (sym new.handles) (run-new scripts);
+}

@@ -1,0 +1,113 @@
+-- A link that conforms holds its course in a call, so valid input ends well over it.
+use Rattle.std.proofs.Common.{◌≡◌, ◌≤◌, ◌+◌, ℕ, List, [], ◌++◌, length, take, Bool, true, false, ◌||◌, Option, Some, Err, refl, sym, ap, subst, ◌∙◌, arith}
+use Rattle.std.specs.Prelude.{IfSome, IsFalse}
+use Rattle.std.specs.List.{concat}
+use Rattle.pg_promises.specs.Causes.{Call, HasCause, OfDialogue, WithSettings}
+use Rattle.pg_spec.specs.Settings.{only_user, Settings}
+use Rattle.pg_promises.specs.ConnectionStrings.{Means}
+use Rattle.pg_spec.specs.Faults.{Failure}
+use Rattle.pg_spec.specs.Links.{Plan, Rose, added, due_by}
+use Rattle.pg_promises.specs.Promises.{Conforms, IsValid, MustEndWell, SentInOrder}
+use Rattle.pg_spec.specs.Sent.{turns_given, units}
+use Rattle.pg_wire.specs.LinkCalls.{Continues, Extends, Tells}
+use Rattle.pg_session.specs.Course.{HoldsCourse}
+use Rattle.pg_session.proofs.Complete.{ends-well, means-one}
+use Rattle.pg_session.proofs.SentSoFar.TurnsAsked.{few-turns}
+
+-- what is told holds of what is told
+pub of-some : {X : Type 0} (o : Option X) (x : X) (P : X → Type 0) → o ≡ Some x → IfSome o P → P x
+of-some o x P e p = subst (λ (o : Option _). IfSome o P) e p
+
+to-some : {X : Type 0} (o : Option X) (x : X) (P : X → Type 0) → o ≡ Some x → P x → IfSome o P
+to-some o x P e p = subst (λ (o : Option _). IfSome o P) (sym e) p
+
+-- neither is
+neither : (a b : Bool) → IsFalse (a || b) → IsFalse a × IsFalse b
+neither false b none = (refl, none)
+neither true b none = absurd cc
+
+-- a count that stands at 0 didn't rise
+never-rose : (before after : ℕ) → after ≡ 0 → Rose before after → ⊥
+never-rose before after none rose = omega (arith, none, rose)
+
+module _ (call : Call) (plan : Plan) (taken : List ℕ) (before : Tells call.before) (after : Tells call.after) (goes : Continues call.before call.after)
+    (none_given : call.before.given ≡ Some []) (none_taken : call.before.taken ≡ Some []) (planned : call.before.plan ≡ Some plan) (told : call.after.taken ≡ Some taken)
+    (calm : IsFalse plan.is_troubled) (endless : IsFalse plan.ends) where
+  -- it tells the bytes that it gave
+  all-given : (given : List ℕ) × (call.after.given ≡ Some given)
+  all-given = subst (λ (o : Option (List ℕ)). Extends o call.after.given) none_given goes.given
+
+  abbrev given : List ℕ
+  given = all-given.0
+
+  planned-after : call.after.plan ≡ Some plan
+  planned-after = goes.keeps.plan ∙ planned
+
+  -- of the plan and the bytes before, and after
+  of-before : (P : Plan → List ℕ → List ℕ → Type 0) → IfSome call.before.plan (λ p. IfSome call.before.given (λ g. IfSome call.before.taken (λ t. P p g t))) → P plan [] []
+  of-before P h =
+      of-some call.before.taken [] (P plan []) none_taken
+      (of-some call.before.given [] (λ g. IfSome call.before.taken (λ t. P plan g t)) none_given
+      (of-some call.before.plan plan (λ p. IfSome call.before.given (λ g. IfSome call.before.taken (λ t. P p g t))) planned h))
+
+  to-before : (P : Plan → List ℕ → List ℕ → Type 0) → P plan [] [] → IfSome call.before.plan (λ p. IfSome call.before.given (λ g. IfSome call.before.taken (λ t. P p g t)))
+  to-before P h =
+      to-some call.before.plan plan (λ p. IfSome call.before.given (λ g. IfSome call.before.taken (λ t. P p g t))) planned
+      (to-some call.before.given [] (λ g. IfSome call.before.taken (λ t. P plan g t)) none_given
+      (to-some call.before.taken [] (P plan []) none_taken h))
+
+  of-after : (P : Plan → List ℕ → List ℕ → Type 0) → IfSome call.after.plan (λ p. IfSome call.after.given (λ g. IfSome call.after.taken (λ t. P p g t))) → P plan given taken
+  of-after P h =
+      of-some call.after.taken taken (P plan given) told
+      (of-some call.after.given given (λ g. IfSome call.after.taken (λ t. P plan g t)) all-given.1
+      (of-some call.after.plan plan (λ p. IfSome call.after.given (λ g. IfSome call.after.taken (λ t. P p g t))) planned-after h))
+
+  in-plan : (rest : List ℕ) × (given ++ rest ≡ concat (take (turns_given taken) plan.entries))
+  in-plan = of-after (λ p g t. (rest : List ℕ) × (g ++ rest ≡ concat (take (turns_given t) p.entries)))
+      (goes.keeps.in_plan (to-before (λ p g t. (rest : List ℕ) × (g ++ rest ≡ concat (take (turns_given t) p.entries)))
+      (concat (take (turns_given []) plan.entries), refl)))
+
+  holds-course : turns_given taken ≤ 1 + length (units taken) → HoldsCourse call plan given taken
+  holds-course asked = record {
+    none_given = none_given;
+    none_taken = none_taken;
+    tells_given = all-given.1;
+    tells_taken = told;
+    steady = (of-before (λ p g t. (call.before.due ≡ Some (due_by p g t)) × (IsFalse p.is_troubled → _)) before.by_plan).1 calm;
+    due = (of-after (λ p g t. (call.after.due ≡ Some (due_by p g t)) × (IsFalse p.is_troubled → _)) after.by_plan).0;
+    rest = in-plan.0;
+    front = in-plan.1;
+    no_fault = never-rose call.before.faults call.after.faults
+        (of-some call.after.plan plan (λ p. IsFalse p.is_troubled → call.after.faults ≡ 0) planned-after after.no_fault calm);
+    no_end = never-rose call.before.ends call.after.ends
+        (of-some call.after.plan plan (λ p. IsFalse p.ends → call.after.ends ≡ 0) planned-after after.no_end endless);
+    asked = asked;
+  }
+
+  -- P of the bytes that crossed
+  of-bytes : (P : Settings → List ℕ → List ℕ → Type 0) → OfDialogue call P → (s : Settings) × Means call.config s × P s given taken
+  of-bytes P (s, means, crossed) =
+      let g : added call.before.given call.after.given ≡ Some given = ap (λ o. added o call.after.given) none_given ∙ ap (λ o. added (Some []) o) all-given.1 in
+      let t : added call.before.taken call.after.taken ≡ Some taken = ap (λ o. added o call.after.taken) none_taken ∙ ap (λ o. added (Some []) o) told in (
+        s,
+        means,
+        of-some (added call.before.taken call.after.taken) taken (λ t. P s given t) t
+            (of-some (added call.before.given call.after.given) given (λ g. IfSome (added call.before.taken call.after.taken) (λ t. P s g t)) g crossed),
+      )
+
+-- valid input over a link that conforms ends well
+pub must-end-well : (call : Call) (failure : Failure) → Tells call.before → Tells call.after → Continues call.before call.after →
+    (WithSettings call (λ s. Unit {0}) → OfDialogue call (λ s g t. SentInOrder call s g t)) → HasCause call failure → MustEndWell call (Err failure)
+must-end-well call failure before after goes sent cause plan s taken none_given none_taken planned told means valid conforms =
+    let user = means.0 in
+    let is : s ≡ only_user user = means.3 in
+    let as-user : Means call.config (only_user user) = subst (λ (x : Settings). Means call.config x) is means in
+    let calm = neither plan.is_troubled plan.ends conforms.untroubled in
+    let crossed = of-bytes call plan taken before after goes none_given none_taken planned told calm.0 calm.1 (λ s g t. SentInOrder call s g t) (sent (s, means, tt)) in
+    let given = all-given call plan taken before after goes none_given none_taken planned told calm.0 calm.1 in
+    let in-order : SentInOrder call (only_user user) given.0 taken = subst (λ (x : Settings). SentInOrder call x given.0 taken) (means-one call.config crossed.0 user crossed.1 as-user) crossed.2 in
+    ends-well call user plan given.0 taken as-user
+    (subst (λ (x : Settings). IsValid call x plan) is valid)
+    (subst (λ (x : Settings). Conforms call x plan taken) is conforms)
+    (holds-course call plan taken before after goes none_given none_taken planned told calm.0 calm.1 (few-turns call user given.0 taken in-order).units)
+    failure cause

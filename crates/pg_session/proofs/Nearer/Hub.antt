@@ -1,0 +1,235 @@
+-- What the events of a hub leave to do in it.
+use Rattle.std.proofs.Common.{◌≡◌, ◌≢◌, ℕ, zero, suc, ◌+◌, ◌*◌, ◌<◌, ◌≤◌, List, [], ◌∷◌, ◌++◌, length, drop, Bool, true, false, if◌then◌else◌, Ok, Err, refl, sym, ap, ◌∙◌, subst, arith, nat_lt, length-append, length-drop}
+use Rattle.std.specs.List.{list_any}
+use Rattle.std.proofs.lemmas.Bool.Decides.{nat_tests}
+use Rattle.std.proofs.lemmas.List.{length_push}
+use Rattle.pg_spec.specs.RawMessages.{RawMessage}
+use Rattle.pg_connect.specs.Passed.{IsEngineCall, AllEngineCalls, delivered_in, delivered_by, bytes_out_in, bytes_out_by, moves_in}
+use Rattle.pg_desk.specs.declared.event.Booking.{Booking}
+use Rattle.pg_desk.specs.declared.event.Deliver.TheVariants as delivering
+use Rattle.pg_desk.specs.declared.event.Event.{Event}
+use Rattle.pg_desk.specs.declared.event.Event.TheVariants.{Book, Take as TakeEvent, HangUp, NextStatement, NextPortal, NextOut, Deliver as DeliverEvent, CloseRequests, Fail}
+use Rattle.pg_desk.specs.declared.event.Out.TheVariants as out
+use Rattle.pg_spec.specs.declared.stamps.Stamp.{Stamp}
+use Rattle.pg_desk.specs.declared.event.Take.TheVariants as taking
+use Rattle.pg_desk.specs.History.{State, Delivery, Taken, wire, given, has_ended, has_open, may_let_go, next_owner, taken, waiting, is_hung_up, after, after_all, take_answer, take_of_waiting, out_of_rest, Allows, IsLegal}
+use Rattle.pg_desk.proofs.Owners.{given-own, given-other}
+use Rattle.pg_desk.proofs.Soundness.{taken-own, taken-other, wire-more, in-more-if}
+use Rattle.pg_hub.specs.declared.mailbox.Mailbox.{Mailbox}
+use Rattle.pg_hub.specs.declared.mailbox.Mailbox.TheVariants.{Empty, One, Two, HungUp}
+use Rattle.pg_hub.specs.Fits.{Fits, MailFits}
+use Rattle.pg_hub.specs.Mail.{waits, is_gone, at}
+use Rattle.pg_hub.specs.Standing.{Standing}
+use Rattle.pg_hub.specs.Waiting.{undelivered_in}
+use Rattle.pg_session.specs.Measure.{one_if, parts_left, hub_left}
+use Rattle.pg_session.proofs.Nearer.Sums.{one-or, total, total-more, total-less, total-falls, total-grows, undelivered-total, parts-behind}
+
+-- ---- what a state leaves to do
+
+-- the batches that wait for a reader, if it didn't hang up
+abbrev pub waits_for : State → ℕ → ℕ
+waits_for s k = if is_hung_up s k then 0 else length (waiting s k)
+
+-- all of them, and the parts that haven't gone out
+abbrev pub state_left : State → ℕ
+state_left s = total (waits_for s) (length s.book) + parts_left (drop (length s.gone_out) (wire s.book))
+
+none-waits : (m : Mailbox) → is_gone m ≡ true → length (waits m) ≡ 0
+none-waits Empty h = absurd cc
+none-waits (One a) h = absurd cc
+none-waits (Two a b) h = absurd cc
+none-waits HungUp h = refl
+
+-- a mailbox has as many
+mail-waits : (s : State) (k : ℕ) (m : Mailbox) → MailFits s k m → length (waits m) ≡ waits_for s k
+mail-waits s k m fits = by (is_hung_up s k) refl
+  where
+    by : (b : Bool) → is_hung_up s k ≡ b → length (waits m) ≡ (if b then 0 else length (waiting s k))
+    by true is = none-waits m (fits.gone ∙ is)
+    by false is = ap (λ (l : List (List RawMessage)). length l) (fits.waits is)
+
+-- a hub leaves what the state that it stands for does
+pub hub-state : (s : State) (h : Standing) → Fits s h → hub_left h ≡ state_left s
+hub-state s h fits =
+    let long : length h.mail ≡ length s.book = fits.standing.mail ∙ ap (λ (b : List Booking). length b) fits.book in
+    let mail : undelivered_in h.mail ≡ total (waits_for s) (length h.mail) =
+    undelivered-total h.mail (waits_for s) (λ k lt. mail-waits s k (at h.mail k) (fits.mail k (omega (arith, lt, long)))) in
+    let same : total (waits_for s) (length h.mail) ≡ total (waits_for s) (length s.book) = ap (total (waits_for s)) long in
+    let parts : parts_left h.outgoing ≡ parts_left (drop (length s.gone_out) (wire s.book)) = ap parts_left fits.outgoing in
+    omega (arith, mail, same, parts)
+
+-- ---- a booking
+
+none-behind : (n : ℕ) → length (drop n (let none : List (List RawMessage) = [] in none)) ≡ 0
+none-behind zero = refl
+none-behind (suc n) = refl
+
+none-given : (s : State) (k : ℕ) → given k s.deliveries ≡ [] → waits_for s k ≡ 0
+none-given s k none = by (is_hung_up s k)
+  where
+    by : (b : Bool) → (if b then 0 else length (waiting s k)) ≡ 0
+    by true = refl
+    by false = ap (λ (l : List (List RawMessage)). length (drop (length (taken k s.takes)) l)) none ∙ none-behind (length (taken k s.takes))
+
+-- a request adds its part
+pub book-left : (s : State) (h : Standing) (stamp : Stamp) (part : List ℕ) (copying : Bool) (id : ℕ) → Fits s h →
+    state_left (after s (Book stamp part copying (Ok id))) ≤ state_left s + suc (length part)
+book-left s h stamp part copying id fits =
+    let booking : Booking = record { stamp = stamp; parts = part ∷ [] } in
+    let long : length (s.book ++ booking ∷ []) ≡ suc (length s.book) = length_push s.book booking ∙ omega arith in
+    let standing = fits.standing in
+    let few : length s.gone_out ≤ length s.book =
+    omega (arith, standing.out, fits.gone_out, ap (λ (b : List Booking). length b) fits.book) in
+    let none : waits_for s (length s.book) ≡ 0 = none-given s (length s.book) (fits.none_given (length s.book) few) in
+    let batches : total (waits_for s) (length (s.book ++ booking ∷ [])) ≡ total (waits_for s) (length s.book) + waits_for s (length s.book) =
+    ap (total (waits_for s)) long ∙ total-more (waits_for s) (length s.book) in
+    let parts : parts_left (drop (length s.gone_out) (wire (s.book ++ booking ∷ []))) ≤ parts_left (drop (length s.gone_out) (wire s.book)) + parts_left (part ∷ []) =
+    subst (λ (ps : List (List ℕ)). parts_left (drop (length s.gone_out) ps) ≤ parts_left (drop (length s.gone_out) (wire s.book)) + parts_left (part ∷ []))
+    (sym (wire-more s.book booking)) (parts-behind (length s.gone_out) (wire s.book) (part ∷ [])) in
+    omega (arith, none, batches, parts)
+
+-- ---- a take
+
+first-waits : (s : State) (id : ℕ) (ms : List RawMessage) (l : List (List RawMessage)) → taking.Batch ms ≡ take_of_waiting s id l → 0 < length l
+first-waits s id ms (x ∷ l) h = omega arith
+first-waits s id ms [] h = by s.failed (has_ended id s.deliveries) h
+  where
+    by : (b c : Bool) → taking.Batch ms ≡ (if b then taking.Gone else (if c then taking.Over else taking.Empty)) → 0 < 0
+    by true c h = absurd cc
+    by false true h = absurd cc
+    by false false h = absurd cc
+
+-- a batch that is taken waited for a reader that didn't hang up
+record TakesFirst (s : State) (id : ℕ) : Type 0 where
+  booked : id < length s.book
+  reads : is_hung_up s id ≡ false
+  some : 0 < length (waiting s id)
+
+takes-first : (s : State) (id : ℕ) (ms : List RawMessage) → taking.Batch ms ≡ take_answer s id → TakesFirst s id
+takes-first s id ms h = by (nat_lt id (length s.book)) (is_hung_up s id) refl refl h
+  where
+    by : (b c : Bool) → nat_lt id (length s.book) ≡ b → is_hung_up s id ≡ c →
+        taking.Batch ms ≡ (if b then (if c then taking.Gone else take_of_waiting s id (waiting s id)) else taking.Gone) → TakesFirst s id
+    by false c p q h = absurd cc
+    by true true p q h = absurd cc
+    by true false p q h = record { booked = grind (arith, nat_tests); reads = q; some = first-waits s id ms (waiting s id) h }
+
+shorter : {A : Type 0} (n : ℕ) (xs : List A) → 0 < length (drop n xs) → length (drop (n + 1) xs) + 1 ≤ length (drop n xs)
+shorter n xs some = omega (arith, length-drop n xs, length-drop (n + 1) xs, some)
+
+pub take-left : (s : State) (id : ℕ) (ms : List RawMessage) → Allows s (TakeEvent id (Ok (taking.Batch ms))) →
+    state_left (after s (TakeEvent id (Ok (taking.Batch ms)))) + 1 ≤ state_left s
+take-left s id ms allows =
+    let t = after s (TakeEvent id (Ok (taking.Batch ms))) in
+    let first = takes-first s id ms allows in
+    let entry : Taken = record { id = id; messages = ms } in
+    let own : length (taken id (s.takes ++ entry ∷ [])) ≡ length (taken id s.takes) + 1 =
+    ap (λ (l : List (List RawMessage)). length l) (taken-own id s.takes entry refl) ∙ length-append (taken id s.takes) (ms ∷ []) in
+    let here : waits_for t id + 1 ≤ waits_for s id =
+    subst (λ (b : Bool). (if b then 0 else length (waiting t id)) + 1 ≤ (if b then 0 else length (waiting s id))) (sym first.reads)
+    (subst (λ (n : ℕ). length (drop n (given id s.deliveries)) + 1 ≤ length (waiting s id)) (sym own)
+    (shorter (length (taken id s.takes)) (given id s.deliveries) first.some)) in
+    let others : (k : ℕ) → k ≢ id → waits_for t k ≤ waits_for s k =
+    λ k apart. let same = ap (λ (l : List (List RawMessage)). if is_hung_up s k then 0 else length (drop (length l) (given k s.deliveries)))
+    (taken-other k s.takes entry (λ e. apart (sym e))) in omega (arith, same) in
+    let falls = total-falls (waits_for s) (waits_for t) id (length s.book) first.booked others here in
+    omega (arith, falls)
+
+-- ---- a reader hangs up
+
+gone-less : (b c : Bool) (n : ℕ) → (c ≡ false → b ≡ false) → (if c then 0 else n) ≤ (if b then 0 else n)
+gone-less b true n h = omega arith
+gone-less true false n h = let no : true ≡ false = h refl in absurd cc
+gone-less false false n h = omega arith
+
+pub hang-up-left : (s : State) (id : ℕ) → state_left (after s (HangUp id (Ok tt))) ≤ state_left s
+hang-up-left s id =
+    let t = after s (HangUp id (Ok tt)) in
+    let less = total-less (waits_for s) (waits_for t) (length s.book)
+    (λ k. gone-less (is_hung_up s k) (is_hung_up t k) (length (waiting s k)) (in-more-if (may_let_go s id) k id s.hung_up)) in
+    omega (arith, less)
+
+-- ---- a delivery
+
+one-behind : {A : Type 0} (n : ℕ) (xs : List A) (x : A) → length (drop n (xs ++ x ∷ [])) ≤ length (drop n xs) + 1
+one-behind n xs x = omega (arith, length-drop n (xs ++ x ∷ []), length-drop n xs, length_push xs x)
+
+pub deliver-left : (s : State) (batch : List RawMessage) (complete : Bool) →
+    state_left (after s (DeliverEvent batch complete delivering.Taken)) ≤ state_left s + 1
+deliver-left s batch complete =
+    let t = after s (DeliverEvent batch complete delivering.Taken) in
+    let place = next_owner s in
+    let entry : Delivery = record { owner = place; messages = batch; complete = complete } in
+    let own : given place t.deliveries ≡ given place s.deliveries ++ batch ∷ [] = given-own place s.deliveries entry refl in
+    let here : waits_for t place ≤ waits_for s place + 1 =
+    by (length (waiting t place)) (length (waiting s place)) (is_hung_up s place) (subst (λ (l : List (List RawMessage)). length (drop (length (taken place s.takes)) l) ≤ length (waiting s place) + 1) (sym own)
+    (one-behind (length (taken place s.takes)) (given place s.deliveries) batch)) in
+    let others : (k : ℕ) → k ≢ place → waits_for t k ≤ waits_for s k =
+    λ k apart. let same = ap (λ (l : List (List RawMessage)). if is_hung_up s k then 0 else length (drop (length (taken k s.takes)) l))
+    (given-other k s.deliveries entry (λ e. apart (sym e))) in omega (arith, same) in
+    let grows = total-grows (waits_for s) (waits_for t) place (length s.book) others here in
+    omega (arith, grows)
+  where
+    by : (m n : ℕ) (b : Bool) → m ≤ n + 1 → (if b then 0 else m) ≤ (if b then 0 else n) + 1
+    by m n true h = omega arith
+    by m n false h = h
+
+-- ---- a part goes out
+
+first-part : (s : State) (part : List ℕ) (l : List (List ℕ)) → out.Part part ≡ out_of_rest s l → (more : List (List ℕ)) × (l ≡ part ∷ more)
+first-part s part (x ∷ l) h = let same : x ≡ part = cc in (l, ap (λ (p : List ℕ). p ∷ l) same)
+first-part s part [] h = by (has_open s) s.closed h
+  where
+    by : (b c : Bool) → out.Part part ≡ (if b then out.Nothing else (if c then out.NoMore else out.Nothing)) → (more : List (List ℕ)) × (◌≡◌ {A = List (List ℕ)} [] (part ∷ more))
+    by true c h = absurd cc
+    by false true h = absurd cc
+    by false false h = absurd cc
+
+one-out : (n : ℕ) (ps : List (List ℕ)) (p : List ℕ) (more : List (List ℕ)) → drop n ps ≡ p ∷ more → parts_left (drop (suc n) ps) + suc (length p) ≡ parts_left (drop n ps)
+one-out n [] p more h = let none = ap (λ (l : List (List ℕ)). length l) h in absurd (omega (arith, none, length-drop n (let no : List (List ℕ) = [] in no)))
+one-out zero (q ∷ ps) p more h = let same : q ≡ p = cc in let long = ap (λ (l : List ℕ). length l) same in omega (arith, long)
+one-out (suc n) (q ∷ ps) p more h = one-out n ps p more h
+
+pub out-left : (s : State) (part : List ℕ) → Allows s (NextOut (Ok (out.Part part))) →
+    state_left (after s (NextOut (Ok (out.Part part)))) + suc (length part) ≤ state_left s
+out-left s part allows =
+    let first = first-part s part (drop (length s.gone_out) (wire s.book)) allows.1 in
+    let long : length (s.gone_out ++ part ∷ []) ≡ suc (length s.gone_out) = length_push s.gone_out part ∙ omega arith in
+    let parts = one-out (length s.gone_out) (wire s.book) part first.0 first.1 in
+    let same = ap (λ (n : ℕ). parts_left (drop n (wire s.book))) long in
+    omega (arith, parts, same)
+
+-- ---- a connection's calls
+
+engine-one : (s : State) (e : Event) → IsEngineCall e → Allows s e →
+    state_left (after s e) + (length (bytes_out_in e) + one_if (moves_in e)) ≤ state_left s + 2 * length (delivered_in e)
+engine-one s (NextOut (Ok (out.Part part))) call a = let h = out-left s part a in omega (arith, h)
+engine-one s (NextOut (Ok out.CopyWaits)) call a = omega arith
+engine-one s (NextOut (Ok out.Nothing)) call a = omega arith
+engine-one s (NextOut (Ok out.NoMore)) call a = omega arith
+engine-one s (NextOut (Err e)) call a = omega arith
+engine-one s (DeliverEvent batch complete delivering.Taken) call a =
+    let h = deliver-left s batch complete in
+    let some : 0 < length batch = call in
+    omega (arith, h, some)
+engine-one s (DeliverEvent batch complete (delivering.Full back)) call a = omega arith
+engine-one s (DeliverEvent batch complete (delivering.NoRequest back)) call a = omega arith
+engine-one s (DeliverEvent batch complete (delivering.OutOfMemory back)) call a = omega arith
+engine-one s (Book stamp part copying r) call a = absurd call
+engine-one s (TakeEvent id r) call a = absurd call
+engine-one s (HangUp id r) call a = absurd call
+engine-one s (NextStatement r) call a = absurd call
+engine-one s (NextPortal r) call a = absurd call
+engine-one s (CloseRequests r) call a = absurd call
+engine-one s (Fail r) call a = absurd call
+
+pub engine-left : (s : State) (es : List Event) → AllEngineCalls es → IsLegal s es →
+    state_left (after_all s es) + (length (bytes_out_by es) + one_if (list_any moves_in es)) ≤ state_left s + 2 * length (delivered_by es)
+engine-left s [] calls legal = omega arith
+engine-left s (e ∷ es) calls legal =
+    let one = engine-one s e calls.0 legal.0 in
+    let more = engine-left (after s e) es calls.1 legal.1 in
+    let bytes = length-append (bytes_out_in e) (bytes_out_by es) in
+    let batches = length-append (delivered_in e) (delivered_by es) in
+    let moved = one-or (moves_in e) (list_any moves_in es) in
+    omega (arith, one, more, bytes, batches, moved)
