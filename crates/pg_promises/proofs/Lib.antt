@@ -3,3 +3,4 @@ pub mod WorkedTurns
 pub mod WorkedPlans
 pub mod WorkedThree
 pub mod WorkedRefused
+pub mod Required

@@ -41,13 +41,21 @@ OfDialogue call P = WithSettings call (λ s. OfBytes call.before call.after (P s
 abbrev pub startup_after : Call → Settings → List ℕ → Startup
 startup_after call s g = startup s call.nonce (messages g)
 
+-- no TLS is required, so the session goes over the link as it is
+abbrev pub NeedsNoTls : Settings → Type 0
+NeedsNoTls s = s.ssl_mode ≢ Require
+
+-- TLS is required, and an SSLRequest asks for it
+abbrev pub MustAskForTls : Settings → Type 0
+MustAskForTls s = (s.ssl_mode ≡ Require) × (s.ssl_negotiation ≡ Postgres)
+
 -- the startup ends so
 abbrev pub InStartup : Failure → Call → Settings → List ℕ → Type 0
-InStartup failure call s g = (startup_after call s g).outcome ≡ Refused failure
+InStartup failure call s g = NeedsNoTls s × ((startup_after call s g).outcome ≡ Refused failure)
 
 -- the messages behind the startup, once it is done
 abbrev pub Behind : Call → Settings → List ℕ → (List RawMessage → Type 0) → Type 0
-Behind call s g P = (used : ℕ) × ((startup_after call s g).outcome ≡ Done used) × P (session_part s call.nonce (messages g))
+Behind call s g P = NeedsNoTls s × ((used : ℕ) × ((startup_after call s g).outcome ≡ Done used) × P (session_part s call.nonce (messages g)))
 
 -- the message in front of group j came though at most j requests were sent, and means this failure
 pub record OutOfTurn (failure : Failure) (taken : List ℕ) (later : List RawMessage) : Type 0 where
@@ -69,8 +77,8 @@ whole_groups later = count_by is_whole_group (groups later)
 -- Nothing more can come: all that startup writes was taken, or a request was taken whole whose reply isn't.
 abbrev pub IsAwaited : Call → Settings → List ℕ → List ℕ → Type 0
 IsAwaited call s g t =
-    (((startup_after call s g).outcome ≡ More) × (t ≡ concat (startup_after call s g).frames))
-    ⊎ ((t ≡ ssl_request) × (g ≡ []))
+    (NeedsNoTls s × ((startup_after call s g).outcome ≡ More) × (t ≡ concat (startup_after call s g).frames))
+    ⊎ (MustAskForTls s × (t ≡ ssl_request) × (g ≡ []))
     ⊎ Behind call s g (λ later. whole_groups later < whole_units t)
 
 -- the link had nothing more to give, and what it was to answer was taken
@@ -96,7 +104,8 @@ pub record IsPastLimit (call : Call) (given limit : ℕ) : Type 0 where
 -- why TLS can't be had, over a connector that has none: it is begun at once or after the server's `S`,
 -- and fails; or the server's byte is another
 abbrev pub NoTlsFor : Cause → Negotiation → List ℕ → Type 0
-NoTlsFor cause Direct g = cause ≡ Handshake
+NoTlsFor cause Direct [] = cause ≡ Handshake
+NoTlsFor cause Direct other = ⊥
 NoTlsFor cause Postgres (b ∷ []) = cause ≡ (if b == byte "S" then Handshake else faults.Refused)
 NoTlsFor cause Postgres other = ⊥
 
@@ -158,15 +167,15 @@ HasCause call (Authentication cause) = IsOfLogin cause × OfDialogue call (λ s 
 HasCause call (Db error) = OfDialogue call (λ s g t. InStartup (Db error) call s g ⊎ Behind call s g (OutOfTurn (Db error) t))
 HasCause call UnexpectedMessage = OfDialogue call (λ s g t. InStartup UnexpectedMessage call s g ⊎ Behind call s g (OutOfTurn UnexpectedMessage t))
 HasCause call (Parse cause) = IsOfBody cause × OfDialogue call (λ s g t.
-    InStartup (Parse cause) call s g ⊎ AsideUnreadable cause (messages g) ⊎ Behind call s g (OutOfTurn (Parse cause) t))
+    InStartup (Parse cause) call s g ⊎ (NeedsNoTls s × AsideUnreadable cause (messages g)) ⊎ Behind call s g (OutOfTurn (Parse cause) t))
 HasCause call (Io Link) = Rose call.before.faults call.after.faults
-HasCause call (Io Ended) = Rose call.before.ends call.after.ends × OfDialogue call (λ s g t. EndsInside g ⊎ ((s.ssl_mode ≡ Require) × (g ≡ [])))
+HasCause call (Io Ended) = Rose call.before.ends call.after.ends × OfDialogue call (λ s g t. (NeedsNoTls s × EndsInside g) ⊎ (MustAskForTls s × (g ≡ [])))
 HasCause call (Io (Wire wire.OutOfMemory)) = ⊥
 HasCause call (Io (Wire fault)) = OfDialogue call (λ s g t.
-    ((fault ≡ BadLength) × IsTrue (has_bad_header (bytes_left g)))
+    (NeedsNoTls s × (fault ≡ BadLength) × IsTrue (has_bad_header (bytes_left g)))
     ⊎ InStartup (Io (Wire fault)) call s g ⊎ Behind call s g (AsideBreaks fault))
 HasCause call Closed = Rose call.before.ends call.after.ends
-    × OfDialogue call (λ s g t. (bytes_left g ≡ []) × IsFalse (said_terminate t))
+    × OfDialogue call (λ s g t. NeedsNoTls s × (bytes_left g ≡ []) × IsFalse (said_terminate t))
 HasCause call (Stalled before after) = IsStalled call before after
 HasCause call (LimitReached given limit) = IsPastLimit call given limit
 HasCause call OutOfMemory = ⊤

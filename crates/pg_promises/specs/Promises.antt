@@ -2,7 +2,7 @@
 -- failed, and that no request is kept back.
 use Rattle.std.specs.Prelude.{◌≡◌, ◌≢◌, ℕ, ◌+◌, ◌≤◌, ◌<◌, ◌⊎◌, Bool, true, false, ◌||◌, IsTrue, IsFalse, List, [], ◌∷◌, ◌++◌, length, map, take, drop, filter, filter_map, count_by, sum_by, Option, Some, None, Result, Ok, Err, All, IsOk, IsSome, slice_get, ◌==◌, nat_lt, ⊤}
 use Rattle.std.specs.List.{concat, list_all}
-use Rattle.pg_promises.specs.Causes.{Call, OfDialogue, startup_after}
+use Rattle.pg_promises.specs.Causes.{Call, OfDialogue, MustAskForTls, NeedsNoTls, startup_after}
 use Rattle.pg_spec.specs.Passwords.{is_nonce}
 use Rattle.pg_spec.specs.Asides.{is_readable}
 use Rattle.pg_spec.specs.Built.{is_built}
@@ -86,15 +86,16 @@ InScriptOrder scripts book = (handle : ℕ) (script : List Command) → slice_ge
     (later : List (List (List ℕ))) × (map (λ b. b.parts) (filter (λ b. b.stamp.owner == handle) book) ++ later
     ≡ map (λ frame. frame ∷ []) (filter_map request_frame script))
 
--- a front of the SSLRequest or of the startup's frames, or, once the startup is done, these and then a
--- front of requests and Terminate
+-- Nothing; or, where TLS is required, a front of the SSLRequest and nothing else; or, where it isn't, a front of the
+-- startup's frames, or, once the startup is done, these and then a front of requests and Terminate.
 pub record SentInOrder (call : Call) (s : Settings) (g t : List ℕ) : Type 0 where
   pub book : List Booking
   pub owners : All (λ b. b.stamp.owner < length call.scripts) book
   pub order : InScriptOrder call.scripts book
-  pub front : IsFront t ssl_request ⊎ IsFront t (concat (startup_after call s g).frames)
+  pub front : (t ≡ []) ⊎ (MustAskForTls s × IsFront t ssl_request)
+      ⊎ (NeedsNoTls s × (IsFront t (concat (startup_after call s g).frames)
       ⊎ (((used : ℕ) × ((startup_after call s g).outcome ≡ Done used))
-      × IsFront t (concat (startup_after call s g).frames ++ wire book ++ terminate_frame))
+      × IsFront t (concat (startup_after call s g).frames ++ wire book ++ terminate_frame))))
 
 -- ---- no request is kept back
 

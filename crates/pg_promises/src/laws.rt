@@ -3,15 +3,16 @@
 ghost use Rattle.std.specs.Prelude.{◌≡◌, ◌+◌, ◌-◌, ◌^◌, ◌<◌, ◌≤◌, ◌∷◌, [], List, ℕ, length, codes, IsTrue, Err};
 ghost use Rattle.pg_spec.specs.Examples.{one_row};
 ghost use Rattle.pg_spec.specs.Faults.{Failure, OutOfMemory};
+ghost use Rattle.pg_spec.specs.Frames.{ssl_request};
 ghost use Rattle.pg_spec.specs.RawMessages.{messages};
 ghost use Rattle.pg_spec.specs.ReportText.{report_text};
 ghost use Rattle.pg_spec.specs.Sent.{units, turns_given};
-ghost use Rattle.pg_spec.specs.Settings.{only_user};
+ghost use Rattle.pg_spec.specs.Settings.{only_user, Direct, Require, Settings};
 ghost use Rattle.pg_spec.specs.Startup.{Done};
-ghost use Rattle.pg_promises.specs.Causes.{Call, IsStalled};
+ghost use Rattle.pg_promises.specs.Causes.{Call, InStartup, IsStalled};
 ghost use Rattle.pg_promises.specs.EndedWell.{EndedWell, startup_of, replies};
 ghost use Rattle.pg_promises.specs.Examples.{select_one, select_one_sent, select_one_text, two_clients, two_clients_sent, exchanged, asked, good_plan, broken_plan, hasty_plan, with_password, with_password_sent, three_commands, three_sent, early_reply, booked_later, one_for_two, synced_first, notice_left_out, first_value, bad_header, report_skipped, asked_so};
-ghost use Rattle.pg_promises.specs.Promises.{IsValid, Conforms, MustEndWell};
+ghost use Rattle.pg_promises.specs.Promises.{IsFront, IsValid, Conforms, MustEndWell, SentInOrder};
 
 /// Where a session stalled over a steady link, the last call that wasn't ready was its wait, the one before it was
 /// in the round that moved nothing, and the two counts are those around that round.
@@ -67,4 +68,12 @@ pub fn worked_plans()
         MustEndWell (asked_so good_plan taken) (Err failure) → failure ≡ OutOfMemory }
     ensures not_broken { Conforms (asked broken_plan) (only_user (codes "a")) broken_plan select_one_sent → ⊥ }
     ensures not_hasty { Conforms (asked hasty_plan) with_password hasty_plan with_password_sent → ⊥ }
+{}
+
+/// Where TLS is required a session that failed sent a front of the SSLRequest and nothing else, and nothing where TLS
+/// begins at once; and it failed for nothing that a startup, or what stands behind one, says.
+pub fn what_crosses_where_tls_is_required()
+    ensures asks { (call : Call) (s : Settings) (g t : List ℕ) → s.ssl_mode ≡ Require → SentInOrder call s g t → IsFront t ssl_request }
+    ensures nothing { (call : Call) (s : Settings) (g t : List ℕ) → s.ssl_mode ≡ Require → s.ssl_negotiation ≡ Direct → SentInOrder call s g t → t ≡ [] }
+    ensures no_startup { (failure : Failure) (call : Call) (s : Settings) (g : List ℕ) → s.ssl_mode ≡ Require → InStartup failure call s g → ⊥ }
 {}

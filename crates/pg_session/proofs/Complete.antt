@@ -11,7 +11,7 @@ use Rattle.std.proofs.lemmas.List.Elements.{recursion_from_All}
 use Rattle.std.proofs.lemmas.Bool.{true≢false}
 use Rattle.std.proofs.lemmas.Option.{same_Some}
 use Rattle.std.proofs.Math.Seq.{drop-append_seam}
-use Rattle.pg_promises.specs.Causes.{Call, HasCause, OfDialogue, InStartup, AsksMore, Behind, OutOfTurn, IsAwaited, IsPastLimit, whole_groups}
+use Rattle.pg_promises.specs.Causes.{Call, HasCause, OfDialogue, InStartup, AsksMore, Behind, NeedsNoTls, OutOfTurn, IsAwaited, IsPastLimit, whole_groups}
 use Rattle.pg_spec.specs.Asides.{AsideUnreadable, AsideBreaks, aside_fault, is_readable}
 use Rattle.pg_spec.specs.Built.{is_built}
 use Rattle.pg_spec.specs.Settings.{only_user, Settings}
@@ -124,7 +124,7 @@ module _ (call : Call) (user : List ℕ) (plan : Plan) (g t : List ℕ) (means :
   -- ---- the startup
 
   refused : (f : Failure) → InStartup f call s g → ⊥
-  refused f h = never-refused s call.nonce (messages g) front.more used f done-front h
+  refused f h = never-refused s call.nonce (messages g) front.more used f done-front h.1
 
   asks : AsksMore call s g → ⊥
   asks a =
@@ -166,7 +166,7 @@ module _ (call : Call) (user : List ℕ) (plan : Plan) (g t : List ℕ) (means :
       true≢false (sym read ∙ not-read)
 
   breaks : (fault : WireFault) → Behind call s g (AsideBreaks fault) → ⊥
-  breaks fault (u, done, h) =
+  breaks fault (plain, (u, done, h)) =
       let read : is_readable h.0 ≡ true = all-holds is_readable (session_part s call.nonce (messages g)) h.0
       (all-behind is_readable (used_of (dialogue_of (messages g)).outcome) (messages g) readable) h.1 in
       let not-read : is_readable h.0 ≡ false = ap (tells h.0) h.3 ∙ ap (λ (b : Bool). not b) h.2 in
@@ -211,7 +211,7 @@ module _ (call : Call) (user : List ℕ) (plan : Plan) (g t : List ℕ) (means :
 
   -- no message comes out of turn
   in-turn : (f : Failure) → Behind call s g (OutOfTurn f t) → ⊥
-  in-turn f (u, done, o) =
+  in-turn f (plain, (u, done, o)) =
       let low = some-turn u done in
       let given = front-of g k.rest come k.front in
       let fits : used ≤ length (messages g) = used-within s call.nonce (messages g) used (done ∙ ap Done (done-same u done)) in
@@ -251,14 +251,9 @@ module _ (call : Call) (user : List ℕ) (plan : Plan) (g t : List ℕ) (means :
         omega (arith, turns)
 
     not-awaited : IsAwaited call s g t → ⊥
-    not-awaited (inl (more, is)) = goes-on (startup-turn is) more
-    not-awaited (inr (inl (is, none))) =
-        let turns : turns_given t ≡ 1 = ap turns_given is in
-        let more : (dialogue_of (messages g)).outcome ≡ More =
-        ap (λ (l : List ℕ). (dialogue_of (messages l)).outcome) none
-        ∙ ap (λ (r : Result (List ℕ) FrameFault). (begun_by r (dialogue (plain_login s call.nonce) First [])).outcome) opening.1 in
-        goes-on (omega (arith, turns)) more
-    not-awaited (inr (inr (u, done, less))) =
+    not-awaited (inl (plain, more, is)) = goes-on (startup-turn is) more
+    not-awaited (inr (inl asked)) = v.no_tls asked.0.0
+    not-awaited (inr (inr (plain, (u, done, less)))) =
         let low = some-turn u done in
         let count : whole_groups (session_part s call.nonce (messages g)) ≡ length replies =
         ap whole_groups (session-is u done) ∙ ap (λ (l : List ℕ). whole_groups (drop used (messages l))) all-given
@@ -293,10 +288,10 @@ module _ (call : Call) (user : List ℕ) (plan : Plan) (g t : List ℕ) (means :
 
   -- nothing is wrong with the bytes
   no-fault : (fault : WireFault) → OfDialogue call (λ s g t.
-      ((fault ≡ faults.BadLength) × IsTrue (has_bad_header (bytes_left g)))
+      (NeedsNoTls s × (fault ≡ faults.BadLength) × IsTrue (has_bad_header (bytes_left g)))
       ⊎ InStartup (faults.Io (faults.Wire fault)) call s g ⊎ Behind call s g (AsideBreaks fault)) → ⊥
   no-fault fault h = elim (dialogue-says _ h) [
-    | inl header ↦ bad-header header.1
+    | inl header ↦ bad-header header.2
     | inr (inl start) ↦ refused (faults.Io (faults.Wire fault)) start
     | inr (inr later) ↦ breaks fault later
   ]
@@ -328,7 +323,7 @@ module _ (call : Call) (user : List ℕ) (plan : Plan) (g t : List ℕ) (means :
   ]
   ends-well (faults.Parse cause) h = elim (dialogue-says _ h.1) [
     | inl start ↦ refused (faults.Parse cause) start
-    | inr (inl aside) ↦ unreadable cause aside
+    | inr (inl aside) ↦ unreadable cause aside.1
     | inr (inr later) ↦ in-turn (faults.Parse cause) later
   ]
   ends-well (faults.Io faults.Link) h = k.no_fault h

@@ -11,7 +11,7 @@ use Rattle.pg_spec.specs.Book as said
 use Rattle.pg_promises.specs.Causes.{Call, OfDialogue}
 use Rattle.pg_promises.specs.ConnectionStrings.{Means}
 use Rattle.pg_spec.specs.Settings.{only_user}
-use Rattle.pg_spec.specs.Frames.{ssl_request, terminate_frame}
+use Rattle.pg_spec.specs.Frames.{terminate_frame}
 use Rattle.pg_spec.specs.Links.{LinkView}
 use Rattle.pg_promises.specs.Promises.{IsFront, InScriptOrder, SentInOrder}
 use Rattle.pg_spec.specs.RawMessages.{RawMessage, messages}
@@ -50,7 +50,7 @@ use Rattle.pg_session.proofs.LivesSession.{session-ends}
 use Rattle.pg_session.proofs.LivesTurns.{SessionStands}
 use Rattle.pg_session.proofs.SentSoFar.Order.{asked_by, asked-append, begun}
 use Rattle.pg_session.proofs.Stalled.Start.{rests-so}
-use Rattle.pg_session.proofs.Caused.Start.{of_grown}
+use Rattle.pg_session.proofs.Caused.Start.{needs-none, of_grown}
 
 -- ---- whose the requests are
 
@@ -138,8 +138,11 @@ sent-behind call user opening first later scripts s given taken asked frame done
       owners = subst (λ (x : List (List told.Command)). All (λ b. b.stamp.owner < length x) (book_in s.hub)) (sym asked) (owners scripts s stands);
       order = subst (λ (x : List (List told.Command)). InScriptOrder x (book_in s.hub)) (sym asked) (in-order scripts s stands);
       front = inr (inr (
-        (length first, started.outcome),
-        subst (λ (x : List ℕ). IsFront taken (x ++ said.wire (book_in s.hub) ++ terminate_frame)) (sym started.frames) front,
+        needs-none user,
+        inr (
+          (length first, started.outcome),
+          subst (λ (x : List ℕ). IsFront taken (x ++ said.wire (book_in s.hub) ++ terminate_frame)) (sym started.frames) front,
+        ),
       ));
     }
 
@@ -192,7 +195,7 @@ start-sent call user opening given taken rest frame front = record {
   book = [];
   owners = All-nil (λ b. b.stamp.owner < length call.scripts);
   order = none-order call.scripts;
-  front = inr (inl (rest, front ∙ sym (one-frame user call.nonce opening (messages given) frame)));
+  front = inr (inr (needs-none user, inl (rest, front ∙ sym (one-frame user call.nonce opening (messages given) frame))));
 }
 
 pub sent-failed : (call : Call) (user : List ℕ) (s : Startup) (e : Error) → Means call.config (only_user user) → Failed user call.nonce call.before call.after s e →
@@ -222,7 +225,7 @@ sent-untouched call user means same = (
   means,
   of_grown call.before call.after [] [] (λ g t. SentInOrder call (only_user user) g t) (grew_same call.before.given call.after.given (ap (λ (l : LinkView). l.given) same))
       (grew_same call.before.taken call.after.taken (ap (λ (l : LinkView). l.taken) same))
-      (record { book = []; owners = All-nil (λ b. b.stamp.owner < length call.scripts); order = none-order call.scripts; front = inl (ssl_request, refl) }),
+      (record { book = []; owners = All-nil (λ b. b.stamp.owner < length call.scripts); order = none-order call.scripts; front = inl refl }),
 )
 
 -- ---- around the turns

@@ -37,6 +37,7 @@ use Rattle.pg_text.specs.declared.command.Command.{Command}
 use Rattle.pg_session.specs.Failures.{PauseFails}
 use Rattle.pg_session.specs.States.{SessionState}
 use Rattle.pg_session.proofs.Caused.Asks.{AsksQueries, tame-in, wire-asks}
+use Rattle.pg_session.proofs.Caused.Start.{needs-none}
 use Rattle.pg_session.proofs.Caused.Frames.{AreQueries, front-queries}
 use Rattle.pg_session.proofs.Crossing.Chain.{StoodIn}
 use Rattle.pg_session.proofs.Crossing.End.{of-bytes, added-is}
@@ -215,7 +216,7 @@ module _ (call : Call) (user opening : List ℕ) (first : List RawMessage) (t : 
       let all : messages h.given ≡ first ++ later = h.came_off ∙ append_assoc first h.read (h.lost ++ messages t.streams.buffer.items) in
       let started = is-started user call.nonce opening first later (messages h.given) frame done all in
       let fewer : whole_groups later < whole_units h.taken = omega (arith, groups-are, units-are, less, h.fits.finished, h.fits.gone_out) in
-      inr (inr (length first, started.outcome, subst (λ (ms : List RawMessage). whole_groups ms < whole_units h.taken) (sym started.rest) fewer))
+      inr (inr (needs-none user, (length first, started.outcome, subst (λ (ms : List RawMessage). whole_groups ms < whole_units h.taken) (sym started.rest) fewer)))
 
 -- ---- the round
 

@@ -42,6 +42,7 @@ use Rattle.pg_connect.specs.declared.fault.ConnectionFault.TheVariants as fault
 use Rattle.pg_connect.specs.declared.streams.Streams.{Streams}
 use Rattle.pg_connect.proofs.Joining.{rose_later}
 use Rattle.pg_session.proofs.Caused.Asks.{IsTame, tame-all, mild-engines, never-closed, wire-asks}
+use Rattle.pg_session.proofs.Caused.Start.{needs-none}
 use Rattle.pg_session.proofs.Caused.Frames.{AreQueries, front-queries, TakesQueries, front-reads, frames-behind, never-said, few-units}
 use Rattle.pg_session.proofs.Crossing.Hub.{out-all}
 use Rattle.pg_session.proofs.Caused.Groups.{none-open, delivered-whole, InFront, in-front}
@@ -150,7 +151,7 @@ module _ (user : List ℕ) (call : Call) (former now : List Event) (t : Streams)
 
   -- what holds of the messages behind the startup
   pub behind : (P : List RawMessage → Type 0) → P later → Behind call (only_user user) f.broke.given P
-  behind P h = (length f.first, started.outcome, subst P (sym started.rest) h)
+  behind P h = (needs-none user, (length f.first, started.outcome, subst P (sym started.rest) h))
 
   -- what came behind the startup came
   among-all : (m : RawMessage) → Contains later m → Contains (messages f.broke.given) m
@@ -231,7 +232,7 @@ module _ (user : List ℕ) (call : Call) (former now : List Event) (t : Streams)
   pub ends-whole : (s : Streams) → EndsWhole (fresh s) (left_open t) l call.after → HasCause call faults.Closed
   ends-whole s ends = (
     rose_later call.before.ends l.ends call.after.ends f.keeps.counts.ends ends.rose,
-    of-taken _ (λ taken same front. (f.broke.rest ∙ ap bytes_left ends.buffer, never-said (tagged_frames taken) (took-queries ends.stays taken same front).all)),
+    of-taken _ (λ taken same front. (needs-none user, f.broke.rest ∙ ap bytes_left ends.buffer, never-said (tagged_frames taken) (took-queries ends.stays taken same front).all)),
   )
 
   closed-cause : (s : Streams) → EndsWhole (fresh s) (left_open t) l call.after ⊎ (last_is is_closed_out now ≡ true) → HasCause call faults.Closed
@@ -302,16 +303,16 @@ cause-of user call former now s t l f fault.Ended ends =
     let left : bytes_left f.broke.given ≡ t.buffer.items = f.broke.rest ∙ all-left t.buffer.items ends.decoded.none_whole in (
       rose_later call.before.ends l.ends call.after.ends f.keeps.counts.ends ends.rose,
       of-dialogue user call former now t l f _
-          (inl (subst (λ (x : List ℕ). x ≢ []) (sym left) (not-none t.buffer.items ends.some), ap has_bad_header left ∙ ends.decoded.no_bad_header)),
+          (inl (needs-none user, (subst (λ (x : List ℕ). x ≢ []) (sym left) (not-none t.buffer.items ends.some), ap has_bad_header left ∙ ends.decoded.no_bad_header))),
     )
 cause-of user call former now s t l f fault.BadLength ends =
-    of-dialogue user call former now t l f _ (inl (refl, ap has_bad_header f.broke.rest ∙ bad-left t.buffer.items ends.header))
+    of-dialogue user call former now t l f _ (inl (needs-none user, refl, ap has_bad_header f.broke.rest ∙ bad-left t.buffer.items ends.header))
 cause-of user call former now s t l f fault.Layout ends =
     of-dialogue user call former now t l f _ (inr (inr (behind user call former now t l f (AsideBreaks faults.Layout)
     (layout-breaks user call former now t l f (record { raw = ends.raw; rest = ends.rest; front = ends.front; aside = ends.aside; broken = ends.broken; held = ends.held })))))
 cause-of user call former now s t l f (fault.Unreadable c) ends = (
   aside-body c ends,
-  of-dialogue user call former now t l f _ (inr (inl (aside-stands user call former now t l f c (aside-in c ends)))),
+  of-dialogue user call former now t l f _ (inr (inl (needs-none user, aside-stands user call former now t l f c (aside-in c ends)))),
 )
   where
     aside-in : (c : Cause) → LeavesUnread (left_open t) c ⊎ (LeavesDelayed (left_open t) c × (now ≡ [])) → LeavesUnread t c ⊎ LeavesDelayed t c

@@ -2,9 +2,9 @@
 use Rattle.std.proofs.Common.{◌≡◌, ℕ, zero, suc, List, [], ◌∷◌, ◌++◌, length, take, Option, Some, None, Result, Ok, Err, inl, inr, append-nil, refl, sym, ◌∙◌, ap, subst}
 use Rattle.std.specs.Prelude.{IfSome, slice_get}
 use Rattle.std.proofs.Math.Seq.{drop-append_seam, take-append_seam}
-use Rattle.pg_promises.specs.Causes.{Call, OfDialogue, InStartup, AsksMore, HasCause}
+use Rattle.pg_promises.specs.Causes.{Call, OfDialogue, InStartup, AsksMore, HasCause, NeedsNoTls}
 use Rattle.pg_promises.specs.ConnectionStrings.{Means}
-use Rattle.pg_spec.specs.Settings.{only_user, Settings}
+use Rattle.pg_spec.specs.Settings.{only_user, Prefer, Require, Settings}
 use Rattle.pg_spec.specs.Faults.{FrameFault, ZeroByte, TooMany, TooLong, BadLength, Wire, Frame, Io, Ended, Closed, Config, NotBuilt, Encode, UnexpectedMessage, LimitReached}
 use Rattle.pg_spec.specs.Links.{LinkView, Grew, added, OfBytes}
 use Rattle.pg_spec.specs.RawMessages.{RawMessage, messages}
@@ -37,23 +37,29 @@ pub of_failed : (call : Call) (user : List ℕ) (s : Startup) (e : Error) (P : S
 of_failed call user s e P means f h =
     (only_user user, means, of_grown call.before call.after f.got f.sent (λ g t. P (only_user user) g t) f.given f.taken h)
 
+-- a user alone asks for no TLS
+pub needs-none : (user : List ℕ) → NeedsNoTls (only_user user)
+needs-none user = λ e. let no : Prefer ≡ Require = e in cc
+
 -- ---- each cause
 
 pub failed-ended : (call : Call) (user : List ℕ) (s : Startup) → Means call.config (only_user user) →
     Failed user call.nonce call.before call.after s (error.Io cause.Ended) → HasCause call (Io Ended)
 failed-ended call user s means f =
-    (f.fails.0, of_failed call user s (error.Io cause.Ended) _ means f (inl (f.fails.1, f.fails.2)))
+    (f.fails.0, of_failed call user s (error.Io cause.Ended) _ means f (inl (needs-none user, (f.fails.1, f.fails.2))))
 
 pub failed-header : (call : Call) (user : List ℕ) (s : Startup) → Means call.config (only_user user) →
     Failed user call.nonce call.before call.after s (error.Io (cause.Wire wire.BadLength)) → HasCause call (Io (Wire BadLength))
-failed-header call user s means f = of_failed call user s (error.Io (cause.Wire wire.BadLength)) _ means f (inl (refl, f.fails))
+failed-header call user s means f = of_failed call user s (error.Io (cause.Wire wire.BadLength)) _ means f (inl (needs-none user, refl, f.fails))
 
 -- a message that is refused ends the startup, whatever follows
 refused : (call : Call) (user opening got : List ℕ) → frame_of user ≡ Ok opening → MeetsRefused user call.nonce [] (messages got) → InStartup UnexpectedMessage call (only_user user) got
-refused call user opening got is m =
-    ap (λ (r : Result (List ℕ) FrameFault). (begun_by r (dialogue_of user call.nonce (messages got))).outcome) is
-    ∙ ap (λ (l : List RawMessage). (dialogue_of user call.nonce l).outcome) m.stands
-    ∙ m.refused.over m.rest
+refused call user opening got is m = (
+  needs-none user,
+  ap (λ (r : Result (List ℕ) FrameFault). (begun_by r (dialogue_of user call.nonce (messages got))).outcome) is
+      ∙ ap (λ (l : List RawMessage). (dialogue_of user call.nonce l).outcome) m.stands
+      ∙ m.refused.over m.rest,
+)
 
 pub failed-unexpected : (call : Call) (user : List ℕ) (s : Startup) → Means call.config (only_user user) →
     Failed user call.nonce call.before call.after s error.UnexpectedMessage → HasCause call UnexpectedMessage
@@ -71,7 +77,7 @@ failed-limit call user s given limit is f = record {
 pub failed-closed : (call : Call) (user : List ℕ) (s : Startup) → Means call.config (only_user user) →
     Failed user call.nonce call.before call.after s error.Closed → HasCause call Closed
 failed-closed call user s means f =
-    (f.fails.0, of_failed call user s error.Closed _ means f (f.fails.1, silent_front user s.opening.items f.sent f.front.0 f.frame f.front.1))
+    (f.fails.0, of_failed call user s error.Closed _ means f (needs-none user, f.fails.1, silent_front user s.opening.items f.sent f.front.0 f.frame f.front.1))
 
 -- a message that this version doesn't know
 
@@ -119,7 +125,7 @@ refused_frame call user fault means is = (
   only_user user,
   means,
   of-bytes call.before call.after (λ g t. InStartup (Encode (Frame fault)) call (only_user user) g)
-      (λ g t told took. ap (λ (r : Result (List ℕ) FrameFault). (begun_by r (dialogue_of user call.nonce (messages g))).outcome) is),
+      (λ g t told took. (needs-none user, ap (λ (r : Result (List ℕ) FrameFault). (begun_by r (dialogue_of user call.nonce (messages g))).outcome) is)),
 )
 
 -- where the startup's frame can't be made, it has its cause

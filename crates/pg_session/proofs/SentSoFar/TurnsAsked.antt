@@ -209,7 +209,8 @@ module _ (call : Call) (user g t : List ℕ) (h : SentInOrder call (only_user us
 
   pub few-turns : HasFewTurns t (requests_in call.scripts)
   few-turns = elim h.front [
-    | inl front ↦ one-turn t (requests_in call.scripts) (request-turns t front)
-    | inr (inl front) ↦ one-turn t (requests_in call.scripts) (startup-turns front)
-    | inr (inr w) ↦ session-turns w.0.0 w.0.1 w.1
+    | inl none ↦ one-turn t (requests_in call.scripts) (request-turns t (ssl_request, ap (λ (x : List ℕ). x ++ ssl_request) none))
+    | inr (inl asked) ↦ one-turn t (requests_in call.scripts) (request-turns t asked.1)
+    | inr (inr (plain, inl front)) ↦ one-turn t (requests_in call.scripts) (startup-turns front)
+    | inr (inr (plain, inr w)) ↦ session-turns w.0.0 w.0.1 w.1
   ]

@@ -17,7 +17,7 @@ use Rattle.pg_connect.proofs.Joining.{rose_later}
 use Rattle.pg_session.specs.Failures.{GivesUp, StopsOpening}
 use Rattle.pg_session.specs.Sessions.{Rests}
 use Rattle.pg_session.proofs.Order.{rests_none}
-use Rattle.pg_session.proofs.Caused.Start.{awaits, of_grown}
+use Rattle.pg_session.proofs.Caused.Start.{awaits, needs-none, of_grown}
 
 -- however it gave up, the link rests
 pub rests-so : (waited : Bool) (a b : LinkView) → GivesUp waited a b → Rests a b
@@ -71,6 +71,7 @@ waits-so call user s link o idle =
     let read : messages o.got ≡ o.read = o.came.messages ∙ ap (λ (l : List RawMessage). o.read ++ l) idle.heard ∙ append-nil o.read in
     let sent : o.sent ≡ s.opening.items = sym (append-nil o.sent) ∙ ap (λ (l : List ℕ). o.sent ++ l) (sym idle.sent) ∙ o.out in
     inl (
+      needs-none user,
       waits-more call user s link o idle,
       sent ∙ sym (ap (λ (l : List RawMessage). concat (startup (only_user user) call.nonce l).frames) read ∙ frames-of user call.nonce s.opening.items o.read (phase_of s.phase) o.frame o.leads),
     )
