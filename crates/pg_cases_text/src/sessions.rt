@@ -1,0 +1,139 @@
+//! Session texts, and what they ask for.
+
+use pg_cases::written;
+use pg_text::{Command, Session, TextFault, session_text};
+use pg_types::List;
+use pg_wire::{Link, LinkRead, LinkWrite, MemoryLink};
+use std::alloc::{AllocError, Global};
+
+/// A startup frame without a setting.
+const STARTUP: &[u8] = &[0, 0, 0, 8, 0, 3, 0, 0];
+
+fn tell_take(take: Option<u64>, out: &mut String) -> Result<(), AllocError> {
+    match take {
+        Some(count) => write!(out, " take {count}"),
+        None => Ok(()),
+    }
+}
+
+fn tell_command(command: &Command, out: &mut String) -> Result<(), AllocError> {
+    let Command::Simple { text, take } = command;
+    write!(out, " simple {:?}", text.as_str())?;
+    tell_take(*take, out)
+}
+
+fn tell_script(script: &List<Command>, out: &mut String) -> Result<(), AllocError> {
+    write!(out, " handle of {}:", script.as_slice().len())?;
+    for command in script.as_slice() {
+        tell_command(command, out)?;
+    }
+    Ok(())
+}
+
+fn tell_scripts(scripts: &[List<Command>], out: &mut String) -> Result<(), AllocError> {
+    for script in scripts {
+        tell_script(script, out)?;
+    }
+    Ok(())
+}
+
+fn tell_config(session: &Session, out: &mut String) -> Result<(), AllocError> {
+    let config = session.config.as_str();
+    let turns = session.turns.as_slice();
+    write!(
+        out,
+        " config {config:?} limit {} turns {turns:?}",
+        session.max_bytes
+    )
+}
+
+fn tell_session(session: &Session, out: &mut String) -> Result<(), AllocError> {
+    tell_config(session, out)?;
+    tell_scripts(session.scripts.as_slice(), out)?;
+    out.push_str(" nonce")?;
+    written::tell(session.nonce.as_slice(), out)
+}
+
+fn tell_fault(fault: TextFault, out: &mut String) -> Result<(), AllocError> {
+    match fault {
+        TextFault::Line(line) => write!(out, " refused {line}"),
+        TextFault::TooLong => out.push_str(" refused length"),
+        TextFault::OutOfMemory => Err(AllocError),
+    }
+}
+
+fn tell_read(read: &Result<Session, TextFault>, out: &mut String) -> Result<(), AllocError> {
+    match read {
+        Ok(session) => tell_session(session, out),
+        Err(fault) => tell_fault(*fault, out),
+    }
+}
+
+/// What a session text asks for, or the line at which it is refused.
+pub(crate) fn tell(alloc: Global, text: &[u8], out: &mut String) -> Result<(), AllocError> {
+    let read = session_text(alloc, text);
+    tell_read(&read, out)
+}
+
+/// What a read of a link gives.
+fn tell_piece(link: &mut MemoryLink, out: &mut String) -> Result<(), AllocError> {
+    let mut piece = [0; 8];
+    match link.read(&mut piece) {
+        LinkRead::Got(n) => written::tell(piece.get(..n).unwrap_or(b""), out),
+        other => write!(out, " {other:?}"),
+    }
+}
+
+/// What three reads of a link give that took a startup frame.
+fn tell_plan(link: &mut MemoryLink, out: &mut String) -> Result<(), AllocError> {
+    if link.write(STARTUP) != LinkWrite::Took(8) {
+        return out.push_str(" not taken");
+    }
+    for _ in 0..3 {
+        tell_piece(link, out)?;
+    }
+    Ok(())
+}
+
+fn tell_plan_read(
+    read: &mut Result<Session, TextFault>,
+    out: &mut String,
+) -> Result<(), AllocError> {
+    match read {
+        Ok(session) => tell_plan(&mut session.link, out),
+        Err(fault) => tell_fault(*fault, out),
+    }
+}
+
+/// What the plan of a session text gives behind the startup frame, in three reads of 8 bytes at most.
+pub(crate) fn tell_pieces(alloc: Global, text: &[u8], out: &mut String) -> Result<(), AllocError> {
+    let mut read = session_text(alloc, text);
+    tell_plan_read(&mut read, out)
+}
+
+fn tell_number(read: &Result<Session, TextFault>, out: &mut String) -> Result<(), AllocError> {
+    match read {
+        Ok(session) => write!(out, " {} scripts", session.scripts.as_slice().len()),
+        Err(fault) => tell_fault(*fault, out),
+    }
+}
+
+fn tell_count(alloc: Global, text: &[u8], out: &mut String) -> Result<(), AllocError> {
+    let read = session_text(alloc, text);
+    tell_number(&read, out)
+}
+
+fn put_handles(count: u32, text: &mut String) -> Result<(), AllocError> {
+    text.push_str("config \"a\"\n")?;
+    for _ in 0..count {
+        text.push_str("handle\n")?;
+    }
+    Ok(())
+}
+
+/// How many scripts are read of a text with one line for the connection string and so many for handles.
+pub(crate) fn tell_handles(alloc: Global, count: u32, out: &mut String) -> Result<(), AllocError> {
+    let mut text = String::new(alloc);
+    put_handles(count, &mut text)?;
+    tell_count(alloc, text.as_bytes(), out)
+}
