@@ -1,5 +1,5 @@
 -- What lists of events a hub stands for, and what its calls do to it.
-use Rattle.std.specs.Prelude.{◌≡◌, ◌≤◌, ◌<◌, ℕ, List, [], ◌∷◌, length, drop, Bool, true, false, ◌||◌, Ok}
+use Rattle.std.specs.Prelude.{◌≡◌, ◌≤◌, ◌<◌, ℕ, List, [], ◌∷◌, length, drop, Bool, false, ◌||◌}
 use Rattle.pg_hub.specs.declared.mailbox.Mailbox.{Mailbox}
 use Rattle.pg_desk.specs.declared.event.Event.{Event}
 use Rattle.pg_hub.specs.Standing.{Standing, IsStanding}

@@ -108,10 +108,8 @@ fn booking_of(alloc: Global, stamp: Stamp, part: &Bytes) -> Result<Booking, OutO
 {
     let part = Blob::from_slice(alloc, part.as_slice())?;
     let mut parts = List::empty(alloc);
-    match parts.push(part) {
-        Ok(()) => Ok(Booking { stamp, parts }),
-        Err(_) => Err(OutOfMemory),
-    }
+    parts.push(part)?;
+    Ok(Booking { stamp, parts })
 }
 
 impl Desk for Hub {
