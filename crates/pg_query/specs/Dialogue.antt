@@ -1,5 +1,5 @@
 -- What a command asks of its desk and what it answers, as a tree, and how events lead along it.
-use Rattle.std.specs.Prelude.{◌≡◌, ℕ, List, [], ◌∷◌, ◌++◌, Bool, false, if◌then◌else◌, Result, Ok, Err}
+use Rattle.std.specs.Prelude.{◌≡◌, ℕ, List, [], ◌∷◌, Bool, false, if◌then◌else◌, Result, Ok, Err}
 use Rattle.pg_spec.specs.RawMessages.{RawMessage}
 use Rattle.pg_spec.specs.declared.stamps.Stamp.{Stamp}
 use Rattle.pg_desk.specs.declared.event.DeskFault.{DeskFault}

@@ -53,10 +53,7 @@ impl<S: Script> Running<S> {
         ensures id { self.new.id ≡ self.old.id }
         ensures batch { self.new.batch ≡ self.old.batch }
     {
-        match self.script.next(alloc) {
-            Ok(want) => Ok(want),
-            Err(_) => Err(Error::OutOfMemory),
-        }
+        Ok(self.script.next(alloc)?)
     }
 
     /// Gives the script the next message that came. None comes exactly where there is none.
@@ -66,20 +63,14 @@ impl<S: Script> Running<S> {
     {
         match self.batch.next() {
             Ok(None) => Ok(None),
-            Ok(Some(message)) => match self.script.message(alloc, Ok(message)) {
-                Ok(want) => Ok(Some(want)),
-                Err(_) => Err(Error::OutOfMemory),
-            },
+            Ok(Some(message)) => Ok(Some(self.script.message(alloc, Ok(message))?)),
             Err(fault) => {
                 if is_want_of_memory(fault) {
                     return Err(Error::OutOfMemory);
                 }
                 // Nothing behind a malformed message is read.
                 self.batch = BackendMessages::empty();
-                match self.script.message(alloc, Err(fault)) {
-                    Ok(want) => Ok(Some(want)),
-                    Err(_) => Err(Error::OutOfMemory),
-                }
+                Ok(Some(self.script.message(alloc, Err(fault))?))
             }
         }
     }
@@ -91,10 +82,7 @@ impl<S: Script> Running<S> {
         ensures id { self.new.id ≡ self.old.id }
         ensures batch { self.new.batch ≡ self.old.batch }
     {
-        match self.script.reply(alloc, reply) {
-            Ok(want) => Ok(want),
-            Err(_) => Err(Error::OutOfMemory),
-        }
+        Ok(self.script.reply(alloc, reply)?)
     }
 
     fn ask<D: Desk>(
