@@ -1,6 +1,6 @@
 -- Lines are read as they are spelled.
-use Rattle.std.proofs.Common.{◌≡◌, ◌≢◌, ◌<◌, ◌≤◌, ◌+◌, ◌⊎◌, ℕ, Bool, true, false, List, [], ◌∷◌, ◌++◌, flat_map, Option, Some, None, codes, refl, sym, ap, subst, ◌∙◌, append_assoc, append-nil, inl, inr, arith}
-use Rattle.std.specs.Prelude.{IsUtf8, is_none, Result, Ok, Err, is_ok, is_err, cond, not, ◌&&◌, ◌==◌}
+use Rattle.std.proofs.Common.{◌≡◌, ◌≢◌, ◌<◌, ◌+◌, ◌⊎◌, ℕ, true, false, List, [], ◌∷◌, ◌++◌, Option, Some, None, codes, refl, sym, ap, subst, ◌∙◌, append_assoc, append-nil, inl, inr}
+use Rattle.std.specs.Prelude.{IsUtf8, is_none, cond, not, ◌&&◌, ◌==◌}
 use Rattle.std.specs.List.{AllZip, concat, join_with_byte, list_all}
 use Rattle.std.proofs.lemmas.Bool.{eqb-false}
 use Rattle.std.proofs.lemmas.List.Concat.{flat_map-append}
@@ -12,9 +12,9 @@ use Rattle.pg_text.specs.declared.line.Keyword.TheVariants.{Config, Limit, Turns
 use Rattle.pg_text.specs.declared.line.Line.{Line}
 use Rattle.pg_text.specs.declared.line.Line.TheVariants as line
 use Rattle.pg_text.specs.declared.command.Command.TheVariants as asked
-use Rattle.pg_text.specs.Lines.{first_word, ReadsLine, ReadsRest, SaysSomething, Stands, WordsOf}
-use Rattle.pg_text.specs.Words.{AllBytes, AllWords, behind, IsTextOf, IsUtf8Quoted, IsWord, left_text, NoSpace, OneWord, Takes, TakesNumber, TookAll}
-use Rattle.pg_text.proofs.WordLaws.{Ends, bytes_ends, left_same, number_ends, quoted_ends, word_ends}
+use Rattle.pg_text.specs.Lines.{first_word, ReadsLine, ReadsRest, SaysSomething, WordsOf}
+use Rattle.pg_text.specs.Words.{AllWords, behind, IsTextOf, IsUtf8Quoted, IsWord, left_text, NoSpace, OneWord, Takes, TakesNumber, TookAll}
+use Rattle.pg_text.proofs.WordLaws.{Ends, bytes_ends, number_ends, quoted_ends, word_ends}
 
 -- ---- words behind one another
 
@@ -186,11 +186,6 @@ simple_refused old new text taken more none l words (text', word, utf8, quoted, 
     some_left new more (after_word IsUtf8Quoted utf8_ends old new text taken text' word [] (utf8, quoted) (e ∙ ap behind same)).1
 simple_refused old new text taken more none l words (text', word, utf8, quoted, inr (n, number, is, digits, same)) e =
     none n number digits (after_word IsUtf8Quoted utf8_ends old new text taken text' word (codes "take" ∷ number ∷ []) (utf8, quoted) (e ∙ ap behind same)).1
-
--- a list that grew unless memory lacked
-pub grown : {A E : Type 0} (r : Result A E) (now more same : List ℕ) → false ≡ is_err r → now ≡ cond (is_ok r) more same → now ≡ more
-grown (Ok x) now more same e h = h
-grown (Err x) now more same e h = cc e
 
 -- ---- spelled lines
 

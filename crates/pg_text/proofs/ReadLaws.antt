@@ -10,7 +10,7 @@ use Rattle.pg_text.specs.Drafts.{IsEmpty, ReadsOn, SoFar, session_so_far}
 use Rattle.pg_text.specs.Scripts.{most_scripts}
 use Rattle.pg_text.specs.Sessions.{Finishes, ReadsText, session_of}
 use Rattle.pg_text.specs.Texts.{lines_of}
-use Rattle.pg_text.proofs.DraftLaws.{commands, Drafted, Said, SaidNothing, line_refused, line_said, may_begin, nothing_said, said_whole, same_scripts}
+use Rattle.pg_text.proofs.DraftLaws.{commands, Drafted, line_refused, line_said, may_begin, nothing_said, said_whole, same_scripts}
 use Rattle.pg_text.proofs.LineLaws.{one_line, zip_more}
 use Rattle.pg_text.proofs.TextLaws.{are_lines, lines_are}
 

@@ -1,8 +1,8 @@
 -- What the lines of a session text say so far.
-use Rattle.std.specs.Prelude.{◌≡◌, ◌<◌, ◌≤◌, ◌⊎◌, ℕ, Bool, true, false, List, [], ◌∷◌, ◌++◌, length, map, filter, flat_map, filter_map, Option, Some, None, IfSome, option_to_list, unwrap_or}
-use Rattle.std.specs.List.{All, concat, slice_split}
+use Rattle.std.specs.Prelude.{◌≡◌, ◌<◌, ◌≤◌, ℕ, Bool, true, false, List, [], ◌∷◌, ◌++◌, length, map, Option, Some, None, IfSome, unwrap_or}
+use Rattle.std.specs.List.{All, concat}
 use Rattle.pg_spec.specs.Report.{Command}
-use Rattle.pg_spec.specs.SessionText.{ConfigLine, CutLine, CommandLine, HandleLine, LimitLine, Line, Nothing, StepLine, TurnsLine, command_of, config_of, cut_of, is_handle, is_said, limit_of, step_of, turns_of, SessionText, Spells}
+use Rattle.pg_spec.specs.SessionText.{ConfigLine, CutLine, CommandLine, HandleLine, LimitLine, Line, Nothing, StepLine, TurnsLine, SessionText, Spells}
 use Rattle.pg_text.specs.declared.line.Line as read
 use Rattle.pg_text.specs.declared.line.Line.TheVariants as line
 use Rattle.pg_text.specs.declared.parse.Draft.{Draft}

@@ -1,5 +1,5 @@
 -- The parts of a report's text that several calls write.
-use Rattle.std.specs.Prelude.{ℕ, ℤ, List, [], ◌∷◌, ◌++◌, map, flat_map, codes, decimal}
+use Rattle.std.specs.Prelude.{◌≡◌, ℕ, ℤ, List, [], ◌∷◌, ◌++◌, map, flat_map, codes, decimal, string_bytes, OnOk, Result, String}
 use Rattle.std.specs.List.{enumerate_from, join_with_byte}
 use Rattle.pg_spec.specs.DbErrors.{DbError}
 use Rattle.hex.specs.Hex.{encode_lower}
@@ -11,6 +11,10 @@ use Rattle.pg_spec.specs.declared.stamps.Stamp.{Stamp}
 use Rattle.pg_text.specs.declared.command.Answer as command
 use Rattle.pg_text.specs.declared.report.Pair.{Pair}
 use Rattle.pg_text.specs.Views.{answer_of, booking_of}
+
+-- where memory was enough, this piece stands behind what stood there
+abbrev pub Adds : {A E Z : Type 0} → (piece : List ℕ) → (old new : String Z) → Result A E → Type 0
+Adds piece old new result = OnOk result (string_bytes new ≡ string_bytes old ++ piece)
 
 -- a line for each setting
 abbrev pub parameter_lines : List Pair → List ℕ

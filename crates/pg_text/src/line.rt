@@ -1,7 +1,7 @@
 //! The lines of a session text.
 
-ghost use Rattle.std.specs.Prelude.{◌≡◌, ◌<◌, IfOk, IfSome, option_map};
-ghost use Rattle.pg_spec.specs.SessionText.{IsBytes, IsNumber};
+ghost use Rattle.std.specs.Prelude.{◌<◌, IfOk, IfSome, option_map};
+ghost use Rattle.pg_spec.specs.SessionText.{IsNumber};
 ghost use Rattle.pg_text.specs.declared.line.Keyword.TheVariants as first;
 ghost use Rattle.pg_text.specs.Drafts.{HasCut};
 ghost use Rattle.pg_text.specs.Lines.{FirstWord, ReadsLine, ReadsRest, SaysSomething};
@@ -269,11 +269,7 @@ fn all_numbers(alloc: Global, words: &mut Words) -> Result<Option<Vec<u32>>, Out
     let mut turns = Vec::new(alloc);
     while !words.is_done() {
         match words.number(u32::MAX as u64) {
-            Some(turn) => {
-                if turns.push(turn as u32).is_err() {
-                    return Err(OutOfMemory);
-                }
-            }
+            Some(turn) => turns.push(turn as u32)?,
             None => return Ok(None),
         }
     }
@@ -287,11 +283,7 @@ fn all_bytes(alloc: Global, words: &mut Words) -> Result<Option<Vec<u8>>, OutOfM
     let mut entry = Vec::new(alloc);
     while !words.is_done() {
         match words.bytes(alloc)? {
-            Some(bytes) => {
-                if entry.extend_from_slice(bytes.as_slice()).is_err() {
-                    return Err(OutOfMemory);
-                }
-            }
+            Some(bytes) => entry.extend_from_slice(bytes.as_slice())?,
             None => return Ok(None),
         }
     }

@@ -177,10 +177,10 @@ impl Draft {
         ensures within { (n : ℕ) → IsWithin n self.old → OnOk result (IsWithin (n + 1) self.new) }
     {
         match &self.config {
-            Some(_) => match self.turns.extend_from_slice(turns.as_slice()) {
-                Ok(()) => Ok(true),
-                Err(_) => Err(OutOfMemory),
-            },
+            Some(_) => {
+                self.turns.extend_from_slice(turns.as_slice())?;
+                Ok(true)
+            }
             None => Ok(false),
         }
     }
@@ -191,10 +191,10 @@ impl Draft {
         ensures within { (n : ℕ) → IsWithin n self.old → OnOk result (IsWithin (n + 1) self.new) }
     {
         match &self.config {
-            Some(_) => match self.plan.push(entry) {
-                Ok(()) => Ok(true),
-                Err(_) => Err(OutOfMemory),
-            },
+            Some(_) => {
+                self.plan.push(entry)?;
+                Ok(true)
+            }
             None => Ok(false),
         }
     }
@@ -205,10 +205,10 @@ impl Draft {
         ensures within { (n : ℕ) → IsWithin n self.old → OnOk result (IsWithin (n + 1) self.new) }
     {
         match &self.config {
-            Some(_) => match self.scripts.push(List::empty(alloc)) {
-                Ok(()) => Ok(true),
-                Err(_) => Err(OutOfMemory),
-            },
+            Some(_) => {
+                self.scripts.push(List::empty(alloc))?;
+                Ok(true)
+            }
             None => Ok(false),
         }
     }
@@ -246,9 +246,7 @@ impl Draft {
         let Ok(scripts) = Scripts::new(List::new(scripts)) else {
             return Err(TextFault::Line(number));
         };
-        let Ok(nonce) = Blob::from_slice(alloc, DEFAULT_NONCE) else {
-            return Err(TextFault::OutOfMemory);
-        };
+        let nonce = Blob::from_slice(alloc, DEFAULT_NONCE)?;
         Ok(Session {
             config,
             scripts,
@@ -276,10 +274,8 @@ fn push_last(scripts: &mut Vec<List<Command>>, command: Command) -> Result<bool,
 fn push_command(script: &mut List<Command>, command: Command) -> Result<bool, OutOfMemory>
     ensures { IfOk result (λ stands. (stands ≡ true) × (script.new ≡ script.old ++ command ∷ [])) }
 {
-    match script.push(command) {
-        Ok(()) => Ok(true),
-        Err(_) => Err(OutOfMemory),
-    }
+    script.push(command)?;
+    Ok(true)
 }
 
 /// The link that gives this plan, at most `cut` bytes a read.

@@ -1,7 +1,7 @@
 //! The text of a report, line by line.
 
-ghost use Rattle.std.specs.Prelude.{◌≡◌, ◌++◌, ◌∷◌, [], map, flat_map, codes, decimal, string_bytes, IfOk, OnOk};
-ghost use Rattle.std.specs.List.{concat, enumerate_from, join_with_byte};
+ghost use Rattle.std.specs.Prelude.{◌≡◌, ◌++◌, ◌∷◌, [], map, flat_map, codes, decimal, IfOk};
+ghost use Rattle.std.specs.List.{concat, join_with_byte};
 ghost use Rattle.hex.specs.Hex.{encode_lower};
 ghost use Rattle.pg_spec.specs.Report as said;
 ghost use Rattle.pg_spec.specs.ReportText as spec;
@@ -9,6 +9,7 @@ ghost use Rattle.pg_spec.specs.SimpleQuery as simple;
 ghost use Rattle.pg_errors.specs.Views.{async_of};
 ghost use Rattle.pg_text.specs.Views.{answer_of, booking_of, item_of, report_of};
 ghost use Rattle.pg_text.specs.Written as written;
+ghost use Rattle.pg_text.specs.Written.{Adds};
 
 use crate::command::Answer;
 use crate::put::{put, put_hex, put_number, put_quoted, put_signed};
@@ -45,7 +46,7 @@ pub fn error_text(alloc: Global, error: &Error) -> Result<Blob, OutOfMemory>
 
 /// What is said of the session as a whole.
 fn put_session(alloc: Global, out: &mut String, report: &Report) -> Result<(), OutOfMemory>
-    ensures { OnOk result (string_bytes out.new ≡ string_bytes out.old ++ written.session_lines (report_of report.now)) }
+    ensures { Adds (written.session_lines (report_of report.now)) out.old out.new result }
 {
     put_process(alloc, out, report)?;
     put_parameters(alloc, out, report.parameters.as_slice())?;
@@ -54,7 +55,7 @@ fn put_session(alloc: Global, out: &mut String, report: &Report) -> Result<(), O
 
 /// What the scripts did, and what went over the link.
 fn put_work(alloc: Global, out: &mut String, report: &Report) -> Result<(), OutOfMemory>
-    ensures { OnOk result (string_bytes out.new ≡ string_bytes out.old ++ written.work_lines (report_of report.now)) }
+    ensures { Adds (written.work_lines (report_of report.now)) out.old out.new result }
 {
     put_answers(alloc, out, report.answers.as_slice())?;
     put_book(alloc, out, report.book.as_slice())?;
@@ -64,7 +65,7 @@ fn put_work(alloc: Global, out: &mut String, report: &Report) -> Result<(), OutO
 
 #[tactic(auto, unfolding(crate::specs::Written::process_line))]
 fn put_process(alloc: Global, out: &mut String, report: &Report) -> Result<(), OutOfMemory>
-    ensures { OnOk result (string_bytes out.new ≡ string_bytes out.old ++ written.process_line report.now.process_id report.now.secret_key) }
+    ensures { Adds (written.process_line report.now.process_id report.now.secret_key) out.old out.new result }
 {
     put(out, "process ")?;
     put_signed(alloc, out, report.process_id)?;
@@ -74,7 +75,7 @@ fn put_process(alloc: Global, out: &mut String, report: &Report) -> Result<(), O
 }
 
 fn put_sent(alloc: Global, out: &mut String, sent: &[u8]) -> Result<(), OutOfMemory>
-    ensures { OnOk result (string_bytes out.new ≡ string_bytes out.old ++ written.sent_line sent.now) }
+    ensures { Adds (written.sent_line sent.now) out.old out.new result }
 {
     put(out, "sent ")?;
     put_hex(alloc, out, sent)?;
@@ -82,7 +83,7 @@ fn put_sent(alloc: Global, out: &mut String, sent: &[u8]) -> Result<(), OutOfMem
 }
 
 fn put_parameters(alloc: Global, out: &mut String, pairs: &[Pair]) -> Result<(), OutOfMemory>
-    ensures { OnOk result (string_bytes out.new ≡ string_bytes out.old ++ written.parameter_lines pairs.now) }
+    ensures { Adds (written.parameter_lines pairs.now) out.old out.new result }
 {
     for pair in pairs {
         put_parameter(alloc, out, pair)?;
@@ -91,7 +92,7 @@ fn put_parameters(alloc: Global, out: &mut String, pairs: &[Pair]) -> Result<(),
 }
 
 fn put_parameter(alloc: Global, out: &mut String, pair: &Pair) -> Result<(), OutOfMemory>
-    ensures { OnOk result (string_bytes out.new ≡ string_bytes out.old ++ spec.line (codes "parameter" ∷ spec.quoted pair.now.name ∷ spec.quoted pair.now.value ∷ [])) }
+    ensures { Adds (spec.line (codes "parameter" ∷ spec.quoted pair.now.name ∷ spec.quoted pair.now.value ∷ [])) out.old out.new result }
 {
     put(out, "parameter")?;
     put_texts(alloc, out, pair.name.as_str(), pair.value.as_str())?;
@@ -103,7 +104,7 @@ fn put_asynchronous(
     out: &mut String,
     messages: &[AsyncMessage],
 ) -> Result<(), OutOfMemory>
-    ensures { OnOk result (string_bytes out.new ≡ string_bytes out.old ++ flat_map spec.async_line (map async_of messages.now)) }
+    ensures { Adds (flat_map spec.async_line (map async_of messages.now)) out.old out.new result }
 {
     for message in messages {
         put_async(alloc, out, message)?;
@@ -112,7 +113,7 @@ fn put_asynchronous(
 }
 
 fn put_async(alloc: Global, out: &mut String, message: &AsyncMessage) -> Result<(), OutOfMemory>
-    ensures { OnOk result (string_bytes out.new ≡ string_bytes out.old ++ spec.async_line (async_of message.now)) }
+    ensures { Adds (spec.async_line (async_of message.now)) out.old out.new result }
 {
     put(out, "async ")?;
     match message {
@@ -122,7 +123,7 @@ fn put_async(alloc: Global, out: &mut String, message: &AsyncMessage) -> Result<
 }
 
 fn put_notice(alloc: Global, out: &mut String, notice: &DbError) -> Result<(), OutOfMemory>
-    ensures { OnOk result (string_bytes out.new ≡ string_bytes out.old ++ written.notice_words notice.now) }
+    ensures { Adds (written.notice_words notice.now) out.old out.new result }
 {
     put(out, "notice ")?;
     put_db_error(alloc, out, notice)?;
@@ -134,7 +135,7 @@ fn put_notification(
     out: &mut String,
     notification: &Notification,
 ) -> Result<(), OutOfMemory>
-    ensures { OnOk result (string_bytes out.new ≡ string_bytes out.old ++ written.notification_words notification.now) }
+    ensures { Adds (written.notification_words notification.now) out.old out.new result }
 {
     put(out, "notification ")?;
     put_signed(alloc, out, notification.process_id())?;
@@ -144,7 +145,7 @@ fn put_notification(
 
 /// Two texts in quotes, each behind a space.
 fn put_texts(alloc: Global, out: &mut String, first: &str, second: &str) -> Result<(), OutOfMemory>
-    ensures { OnOk result (string_bytes out.new ≡ string_bytes out.old ++ 32 ∷ spec.quoted first.now ++ 32 ∷ spec.quoted second.now) }
+    ensures { Adds (32 ∷ spec.quoted first.now ++ 32 ∷ spec.quoted second.now) out.old out.new result }
 {
     put(out, " ")?;
     put_quoted(alloc, out, first.as_bytes())?;
@@ -154,7 +155,7 @@ fn put_texts(alloc: Global, out: &mut String, first: &str, second: &str) -> Resu
 
 /// Severity, code and message.
 fn put_db_error(alloc: Global, out: &mut String, error: &DbError) -> Result<(), OutOfMemory>
-    ensures { OnOk result (string_bytes out.new ≡ string_bytes out.old ++ written.error_fields error.now) }
+    ensures { Adds (written.error_fields error.now) out.old out.new result }
 {
     put_quoted(alloc, out, error.severity().as_bytes())?;
     put(out, " ")?;
@@ -164,7 +165,7 @@ fn put_db_error(alloc: Global, out: &mut String, error: &DbError) -> Result<(), 
 }
 
 fn put_answers(alloc: Global, out: &mut String, answers: &[List<Answer>]) -> Result<(), OutOfMemory>
-    ensures { OnOk result (string_bytes out.new ≡ string_bytes out.old ++ written.scripts_from 0 answers.now) }
+    ensures { Adds (written.scripts_from 0 answers.now) out.old out.new result }
 {
     for (handle, script) in answers.iter().enumerate() {
         put_script(alloc, out, handle as u64, script.as_slice())?;
@@ -178,7 +179,7 @@ fn put_script(
     handle: u64,
     answers: &[Answer],
 ) -> Result<(), OutOfMemory>
-    ensures { OnOk result (string_bytes out.new ≡ string_bytes out.old ++ written.answers_from handle 0 answers.now) }
+    ensures { Adds (written.answers_from handle 0 answers.now) out.old out.new result }
 {
     for (command, answer) in answers.iter().enumerate() {
         put_answer(alloc, out, handle, command as u64, answer)?;
@@ -193,7 +194,7 @@ fn put_answer(
     command: u64,
     answer: &Answer,
 ) -> Result<(), OutOfMemory>
-    ensures { OnOk result (string_bytes out.new ≡ string_bytes out.old ++ spec.answer_lines handle (command, answer_of answer.now)) }
+    ensures { Adds (spec.answer_lines handle (command, answer_of answer.now)) out.old out.new result }
 {
     put(out, "answer ")?;
     put_number(alloc, out, handle)?;
@@ -207,7 +208,7 @@ fn put_answer(
 
 /// How many messages there are, and a line for each.
 fn put_items(alloc: Global, out: &mut String, messages: &[SimpleMessage]) -> Result<(), OutOfMemory>
-    ensures { OnOk result (string_bytes out.new ≡ string_bytes out.old ++ written.answered (said.Items (map item_of messages.now))) }
+    ensures { Adds (written.answered (said.Items (map item_of messages.now))) out.old out.new result }
 {
     put(out, " messages ")?;
     put_number(alloc, out, messages.len() as u64)?;
@@ -216,7 +217,7 @@ fn put_items(alloc: Global, out: &mut String, messages: &[SimpleMessage]) -> Res
 }
 
 fn put_failed(alloc: Global, out: &mut String, error: &Error) -> Result<(), OutOfMemory>
-    ensures { OnOk result (string_bytes out.new ≡ string_bytes out.old ++ written.answered (said.Failed error.now)) }
+    ensures { Adds (written.answered (said.Failed error.now)) out.old out.new result }
 {
     put(out, " failed ")?;
     put_error(alloc, out, error)?;
@@ -228,7 +229,7 @@ fn put_messages(
     out: &mut String,
     messages: &[SimpleMessage],
 ) -> Result<(), OutOfMemory>
-    ensures { OnOk result (string_bytes out.new ≡ string_bytes out.old ++ flat_map spec.item_line (map item_of messages.now)) }
+    ensures { Adds (flat_map spec.item_line (map item_of messages.now)) out.old out.new result }
 {
     for message in messages {
         put_message(alloc, out, message)?;
@@ -237,7 +238,7 @@ fn put_messages(
 }
 
 fn put_message(alloc: Global, out: &mut String, message: &SimpleMessage) -> Result<(), OutOfMemory>
-    ensures { OnOk result (string_bytes out.new ≡ string_bytes out.old ++ spec.item_line (item_of message.now)) }
+    ensures { Adds (spec.item_line (item_of message.now)) out.old out.new result }
 {
     match message {
         SimpleMessage::Columns(names) => put_columns(alloc, out, names.as_slice()),
@@ -247,7 +248,7 @@ fn put_message(alloc: Global, out: &mut String, message: &SimpleMessage) -> Resu
 }
 
 fn put_columns(alloc: Global, out: &mut String, names: &[Text]) -> Result<(), OutOfMemory>
-    ensures { OnOk result (string_bytes out.new ≡ string_bytes out.old ++ spec.item_line (simple.Columns names.now)) }
+    ensures { Adds (spec.item_line (simple.Columns names.now)) out.old out.new result }
 {
     put(out, "columns")?;
     put_names(alloc, out, names)?;
@@ -255,7 +256,7 @@ fn put_columns(alloc: Global, out: &mut String, names: &[Text]) -> Result<(), Ou
 }
 
 fn put_row(alloc: Global, out: &mut String, cells: &[Option<Blob>]) -> Result<(), OutOfMemory>
-    ensures { OnOk result (string_bytes out.new ≡ string_bytes out.old ++ spec.item_line (simple.Row cells.now)) }
+    ensures { Adds (spec.item_line (simple.Row cells.now)) out.old out.new result }
 {
     put(out, "row")?;
     put_cells(alloc, out, cells)?;
@@ -263,7 +264,7 @@ fn put_row(alloc: Global, out: &mut String, cells: &[Option<Blob>]) -> Result<()
 }
 
 fn put_complete(alloc: Global, out: &mut String, affected: u64) -> Result<(), OutOfMemory>
-    ensures { OnOk result (string_bytes out.new ≡ string_bytes out.old ++ spec.item_line (simple.Complete affected)) }
+    ensures { Adds (spec.item_line (simple.Complete affected)) out.old out.new result }
 {
     put(out, "complete ")?;
     put_number(alloc, out, affected)?;
@@ -272,7 +273,7 @@ fn put_complete(alloc: Global, out: &mut String, affected: u64) -> Result<(), Ou
 
 /// Each name behind a space.
 fn put_names(alloc: Global, out: &mut String, names: &[Text]) -> Result<(), OutOfMemory>
-    ensures { OnOk result (string_bytes out.new ≡ string_bytes out.old ++ written.behind_spaces spec.quoted names.now) }
+    ensures { Adds (written.behind_spaces spec.quoted names.now) out.old out.new result }
 {
     for name in names {
         put(out, " ")?;
@@ -283,7 +284,7 @@ fn put_names(alloc: Global, out: &mut String, names: &[Text]) -> Result<(), OutO
 
 /// Each cell behind a space.
 fn put_cells(alloc: Global, out: &mut String, cells: &[Option<Blob>]) -> Result<(), OutOfMemory>
-    ensures { OnOk result (string_bytes out.new ≡ string_bytes out.old ++ written.behind_spaces spec.cell cells.now) }
+    ensures { Adds (written.behind_spaces spec.cell cells.now) out.old out.new result }
 {
     for cell in cells {
         put_cell(alloc, out, cell)?;
@@ -292,7 +293,7 @@ fn put_cells(alloc: Global, out: &mut String, cells: &[Option<Blob>]) -> Result<
 }
 
 fn put_cell(alloc: Global, out: &mut String, cell: &Option<Blob>) -> Result<(), OutOfMemory>
-    ensures { OnOk result (string_bytes out.new ≡ string_bytes out.old ++ 32 ∷ spec.cell cell.now) }
+    ensures { Adds (32 ∷ spec.cell cell.now) out.old out.new result }
 {
     put(out, " ")?;
     match cell {
@@ -302,7 +303,7 @@ fn put_cell(alloc: Global, out: &mut String, cell: &Option<Blob>) -> Result<(), 
 }
 
 fn put_book(alloc: Global, out: &mut String, book: &[Booking]) -> Result<(), OutOfMemory>
-    ensures { OnOk result (string_bytes out.new ≡ string_bytes out.old ++ written.book_from 0 book.now) }
+    ensures { Adds (written.book_from 0 book.now) out.old out.new result }
 {
     for (number, booking) in book.iter().enumerate() {
         put_booking(alloc, out, number as u64, booking)?;
@@ -316,7 +317,7 @@ fn put_booking(
     number: u64,
     booking: &Booking,
 ) -> Result<(), OutOfMemory>
-    ensures { OnOk result (string_bytes out.new ≡ string_bytes out.old ++ spec.book_line (number, booking_of booking.now)) }
+    ensures { Adds (spec.book_line (number, booking_of booking.now)) out.old out.new result }
 {
     put(out, "book")?;
     put_next(alloc, out, number)?;
@@ -327,7 +328,7 @@ fn put_booking(
 
 /// Owner, command and turn, each behind a space, and a space behind them.
 fn put_stamp(alloc: Global, out: &mut String, stamp: &Stamp) -> Result<(), OutOfMemory>
-    ensures { OnOk result (string_bytes out.new ≡ string_bytes out.old ++ written.stamp_words stamp.now) }
+    ensures { Adds (written.stamp_words stamp.now) out.old out.new result }
 {
     put_next(alloc, out, stamp.owner as u64)?;
     put_next(alloc, out, stamp.command as u64)?;
@@ -337,14 +338,14 @@ fn put_stamp(alloc: Global, out: &mut String, stamp: &Stamp) -> Result<(), OutOf
 
 /// A number behind a space.
 fn put_next(alloc: Global, out: &mut String, number: u64) -> Result<(), OutOfMemory>
-    ensures { OnOk result (string_bytes out.new ≡ string_bytes out.old ++ 32 ∷ decimal number) }
+    ensures { Adds (32 ∷ decimal number) out.old out.new result }
 {
     put(out, " ")?;
     put_number(alloc, out, number)
 }
 
 fn put_parts(alloc: Global, out: &mut String, parts: &[Blob]) -> Result<(), OutOfMemory>
-    ensures { OnOk result (string_bytes out.new ≡ string_bytes out.old ++ encode_lower (concat parts.now)) }
+    ensures { Adds (encode_lower (concat parts.now)) out.old out.new result }
 {
     for part in parts {
         put_hex(alloc, out, part.as_slice())?;
@@ -353,7 +354,7 @@ fn put_parts(alloc: Global, out: &mut String, parts: &[Blob]) -> Result<(), OutO
 }
 
 fn put_trace(alloc: Global, out: &mut String, trace: &[TurnMark]) -> Result<(), OutOfMemory>
-    ensures { OnOk result (string_bytes out.new ≡ string_bytes out.old ++ flat_map spec.turn_line trace.now) }
+    ensures { Adds (flat_map spec.turn_line trace.now) out.old out.new result }
 {
     for mark in trace {
         put_turn(alloc, out, *mark)?;
@@ -362,7 +363,7 @@ fn put_trace(alloc: Global, out: &mut String, trace: &[TurnMark]) -> Result<(), 
 }
 
 fn put_turn(alloc: Global, out: &mut String, mark: TurnMark) -> Result<(), OutOfMemory>
-    ensures { OnOk result (string_bytes out.new ≡ string_bytes out.old ++ spec.turn_line mark) }
+    ensures { Adds (spec.turn_line mark) out.old out.new result }
 {
     put(out, "turn ")?;
     put_number(alloc, out, mark.turn as u64)?;
@@ -373,7 +374,7 @@ fn put_turn(alloc: Global, out: &mut String, mark: TurnMark) -> Result<(), OutOf
 
 /// The name of an error, and what it carries.
 fn put_error(alloc: Global, out: &mut String, error: &Error) -> Result<(), OutOfMemory>
-    ensures { OnOk result (string_bytes out.new ≡ string_bytes out.old ++ join_with_byte 32 (spec.failure_words error.now)) }
+    ensures { Adds (join_with_byte 32 (spec.failure_words error.now)) out.old out.new result }
 {
     put(out, name_of(error))?;
     put_carried(alloc, out, error)
@@ -409,7 +410,7 @@ fn name_of(error: &Error) -> &'static str
 
 /// What an error carries, each word behind a space.
 fn put_carried(alloc: Global, out: &mut String, error: &Error) -> Result<(), OutOfMemory>
-    ensures { OnOk result (string_bytes out.new ≡ string_bytes out.old ++ written.words_behind (spec.failure_parts error.now)) }
+    ensures { Adds (written.words_behind (spec.failure_parts error.now)) out.old out.new result }
 {
     match error {
         Error::ToSql(place, _) => put_next(alloc, out, *place as u64),
@@ -431,7 +432,7 @@ fn put_carried(alloc: Global, out: &mut String, error: &Error) -> Result<(), Out
 
 /// Two numbers, each behind a space.
 fn put_two(alloc: Global, out: &mut String, first: u64, second: u64) -> Result<(), OutOfMemory>
-    ensures { OnOk result (string_bytes out.new ≡ string_bytes out.old ++ (32 ∷ decimal first ++ 32 ∷ decimal second)) }
+    ensures { Adds (32 ∷ decimal first ++ 32 ∷ decimal second) out.old out.new result }
 {
     put_next(alloc, out, first)?;
     put_next(alloc, out, second)

@@ -64,9 +64,7 @@ fn read_inside(alloc: Global, s: &[u8]) -> Result<Option<Quoted>, OutOfMemory>
     for (at, byte) in s.iter().enumerate() {
         match read_byte(inside, *byte) {
             Next::Byte(value) => {
-                if bytes.push(value).is_err() {
-                    return Err(OutOfMemory);
-                }
+                bytes.push(value)?;
                 inside = Inside::Plain;
             }
             Next::Goes(on) => {

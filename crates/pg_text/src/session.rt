@@ -1,7 +1,9 @@
 //! A session as its text asks for it.
 
+ghost use Rattle.std.specs.Prelude.{◌≡◌};
+
 use crate::scripts::Scripts;
-use pg_types::{Blob, List, Text};
+use pg_types::{Blob, List, OutOfMemory, Text};
 use pg_wire::MemoryLink;
 
 /// What a session text asks for.
@@ -27,4 +29,14 @@ pub enum TextFault {
     /// The text has more than 67,108,864 bytes.
     TooLong,
     OutOfMemory,
+}
+
+impl From<OutOfMemory> for TextFault {
+    ghost use Rattle.pg_text.specs.declared.session.TextFault.TheVariants.{OutOfMemory};
+
+    ghost from_gives = { λ _ fault. fault ≡ OutOfMemory };
+
+    fn from(_: OutOfMemory) -> TextFault {
+        TextFault::OutOfMemory
+    }
 }

@@ -1,6 +1,6 @@
 //! The words of a line, which single spaces separate.
 
-ghost use Rattle.std.specs.Prelude.{◌≡◌, ◌≢◌, ◌<◌, ◌≤◌, ◌↔◌, ℕ, length, drop, slice_index, EachIndex, IfOk, IfSome, MatchOption, IsTrue, is_none, option_map};
+ghost use Rattle.std.specs.Prelude.{◌≡◌, ◌≢◌, ◌<◌, ◌↔◌, ℕ, length, slice_index, EachIndex, IfOk, MatchOption, IsTrue, is_none, option_map};
 ghost use Rattle.std.specs.Int.{IsInRange};
 ghost use Rattle.pg_spec.specs.SessionText.{IsBytes, IsNumber, IsQuoted};
 ghost use Rattle.pg_text.specs.Words.{BeginsWithQuote, IsHexWord, IsWord, LeavesBehind, Means, Takes};

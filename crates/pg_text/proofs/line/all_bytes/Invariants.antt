@@ -1,6 +1,6 @@
 use Rattle.std.proofs.Common.{◌≡◌, ℕ, List, length}
 use Rattle.std.specs.List.{concat}
-use Rattle.pg_spec.specs.SessionText.{IsBytes, IsNumber}
+use Rattle.pg_spec.specs.SessionText.{IsBytes}
 use Rattle.pg_text.specs.Words.{left_text, TookAll}
 use Rattle.pg_text.proofs.line.all_bytes.Given as goal
 

@@ -1,8 +1,8 @@
-use Rattle.std.proofs.Common.{ℕ, List, [], ◌∷◌, ◌++◌, subst, sym}
+use Rattle.std.proofs.Common.{ℕ, List, subst, sym}
 use Rattle.pg_spec.specs.SessionText.{IsNumber}
 use Rattle.pg_text.specs.Words.{TookAll}
 use Rattle.pg_text.proofs.WordLaws.{number_ends}
-use Rattle.pg_text.proofs.LineLaws.{all_refused, grown, one_more}
+use Rattle.pg_text.proofs.LineLaws.{all_refused, one_more}
 use Rattle.pg_text.proofs.line.all_numbers.Goals as goal
 
 pub returns-in-None : goal.returns-in-None
@@ -11,6 +11,5 @@ returns-in-None c =
 
 pub loop-words-preserved : goal.loop-words-preserved
 loop-words-preserved c =
-    let is = grown c.push.result c.push.new.self.items (c.loop-words.turns.items ++ c.in-Some.turn ∷ []) c.loop-words.turns.items c.if-is_err.ensures.value c.push.ensures.items in
-    subst (λ (items : List ℕ). TookAll (IsNumber 4294967295) items c.args.words.now c.number.new.self) (sym is)
+    subst (λ (items : List ℕ). TookAll (IsNumber 4294967295) items c.args.words.now c.number.new.self) (sym c.in_ok-push-in-Some.ensures.items)
     (one_more (IsNumber 4294967295) c.loop-words.turns.items c.in-Some.turn c.args.words.now c.loop-words.words c.number.new.self c.loop-words.invariant c.in-Some.ensures)

@@ -1,6 +1,5 @@
-use Rattle.std.proofs.Common.{◌≡◌, ℕ, List, length}
-use Rattle.std.specs.List.{concat}
-use Rattle.pg_spec.specs.SessionText.{IsBytes, IsNumber}
+use Rattle.std.proofs.Common.{length}
+use Rattle.pg_spec.specs.SessionText.{IsNumber}
 use Rattle.pg_text.specs.Words.{left_text, TookAll}
 use Rattle.pg_text.proofs.line.all_numbers.Given as goal
 

@@ -1,4 +1,4 @@
-use Rattle.std.proofs.Common.{◌+◌, sym}
+use Rattle.std.proofs.Common.{◌+◌}
 use Rattle.std.proofs.lemmas.List.{take_rest}
 use Rattle.pg_text.proofs.TextLaws.{cut_at_end, cut_at_feed}
 use Rattle.pg_text.proofs.parse.cut_line.Goals as goal

@@ -1,4 +1,4 @@
-use Rattle.std.proofs.Common.{arith, refl, sym}
+use Rattle.std.proofs.Common.{refl, sym}
 use Rattle.pg_text.proofs.DraftLaws.{pushed_last}
 use Rattle.pg_text.proofs.parse.push_last.Goals as goal
 

@@ -1,4 +1,4 @@
-use Rattle.std.proofs.Common.{◌≡◌, ◌≤◌, ℕ, List, [], length, rules, arith}
+use Rattle.std.proofs.Common.{◌≡◌, ◌≤◌, ℕ, [], arith}
 use Rattle.std.proofs.lemmas.List.{nil_from_length}
 use Rattle.pg_text.specs.declared.parse.Draft.{Draft}
 use Rattle.pg_text.specs.Drafts.{IsWithin, so_far}

@@ -1,4 +1,4 @@
-use Rattle.pg_text.proofs.WordLaws.{bytes_quoted, bytes_hex}
+use Rattle.pg_text.proofs.WordLaws.{bytes_quoted}
 use Rattle.pg_text.proofs.word.Words.bytes.Goals as goal
 
 pub returns-then-is_at_quote : goal.returns-then-is_at_quote
