@@ -158,7 +158,8 @@ all-fails name nonce read old new at _ l h = (l, h)
 pub refused-all : (name nonce : List ℕ) (read : List RawMessage) (old mid new : List ℕ) (at : Phase) (fault : wire_faults.WireFault) → bytes_left mid ≡ bytes_left old →
     Walked name nonce read (messages old) (messages mid) at → Decodes mid new (Err fault) → HearsAll name nonce read old new at (Err (stop_of fault))
 refused-all name nonce read old mid new at wire.OutOfMemory l w d = (ap bytes_left d ∙ l, tt)
-refused-all name nonce read old mid new at wire.BadLength l w d = ap has_bad_header (sym l ∙ d.left) ∙ d.header
+refused-all name nonce read old mid new at wire.BadLength l w d =
+    (ap has_bad_header (sym l ∙ d.left) ∙ d.header, phase_of at, walked-all name nonce read (messages old) (messages mid) at w d.none)
 refused-all name nonce read old mid new at wire.Layout l w d =
     (ap bytes_left d.same ∙ l, malformed name nonce read (messages old) (messages mid) d.rest at d.raw _ w d.front d.broken)
 refused-all name nonce read old mid new at wire.UnknownTag l w d = absurd d

@@ -15,11 +15,22 @@ use Rattle.pg_connect.specs.StartupPolls.{Sends, OfferEnds, Reads, PieceEnds}
 use Rattle.pg_connect.specs.declared.startup.Phase.{Phase}
 use Rattle.pg_connect.proofs.Joining.{keeps_then, grew_then, rose_later}
 
+-- no whole message is left, and what is left isn't refused
+abbrev pub IsHeard : Startup → Type 0
+IsHeard s = (messages s.buffer.items ≡ []) × (has_bad_header (bytes_left s.buffer.items) ≡ false)
+
+-- by what is left
+pub is-heard : (s : Startup) → messages s.buffer.items ≡ [] → bytes_left s.buffer.items ≡ s.buffer.items → has_bad_header s.buffer.items ≡ false → IsHeard s
+is-heard s none whole header = (none, ap has_bad_header whole ∙ header)
+
 -- where all that came was heard, the dialogue waits for more
-pub undecided-at : (name nonce : List ℕ) (begin a : LinkView) (s : Startup) (o : Opening name nonce begin a s) → messages s.buffer.items ≡ [] → IsUndecided name nonce o.got
-undecided-at name nonce begin a s o none = (
-  phase_of s.phase,
-  subst (λ (l : List RawMessage). Leads name nonce l (phase_of s.phase)) (sym (o.came.messages ∙ ap (λ (l : List RawMessage). o.read ++ l) none ∙ append-nil o.read)) o.leads,
+pub undecided-at : (name nonce : List ℕ) (begin a : LinkView) (s : Startup) (o : Opening name nonce begin a s) → IsHeard s → IsUndecided name nonce o.got
+undecided-at name nonce begin a s o heard = (
+  (
+    phase_of s.phase,
+    subst (λ (l : List RawMessage). Leads name nonce l (phase_of s.phase)) (sym (o.came.messages ∙ ap (λ (l : List RawMessage). o.read ++ l) heard.0 ∙ append-nil o.read)) o.leads,
+  ),
+  ap has_bad_header o.came.left ∙ heard.1,
 )
 
 -- some of the frame was taken
@@ -43,9 +54,9 @@ opening-sends name nonce begin a b s t o sends = record {
 }
 
 -- a piece came
-pub opening-reads : (name nonce : List ℕ) (begin a b : LinkView) (s t : Startup) → Opening name nonce begin a s → messages s.buffer.items ≡ [] → s.flushed ≡ true → Reads s t a b →
+pub opening-reads : (name nonce : List ℕ) (begin a b : LinkView) (s t : Startup) → Opening name nonce begin a s → IsHeard s → s.flushed ≡ true → Reads s t a b →
     Opening name nonce begin b t
-opening-reads name nonce begin a b s t o none passed reads = record {
+opening-reads name nonce begin a b s t o heard passed reads = record {
   got = o.got ++ reads.got;
   sent = o.sent;
   read = o.read;
@@ -59,7 +70,7 @@ opening-reads name nonce begin a b s t o none passed reads = record {
     left = bytes_left-append o.got reads.got ∙ ap (λ (l : List ℕ). bytes_left (l ++ reads.got)) o.came.left
         ∙ sym (bytes_left-append s.buffer.items reads.got) ∙ ap bytes_left (sym reads.buffer);
   };
-  last = record { front = o.got; piece = reads.got; all = refl; fits = omega (arith, reads.count, reads.piece); needed = undecided-at name nonce begin a s o none };
+  last = record { front = o.got; piece = reads.got; all = refl; fits = omega (arith, reads.count, reads.piece); needed = undecided-at name nonce begin a s o heard };
   out = ap (λ (x : Startup). o.sent ++ x.unsent) reads.same ∙ o.out ∙ sym (ap (λ (x : Startup). x.opening.items) reads.same);
   frame = o.frame ∙ ap (λ (l : List ℕ). Ok l) (sym (ap (λ (x : Startup). x.opening.items) reads.same));
   leads = subst (λ (x : Startup). Leads name nonce o.read (phase_of x.phase)) (sym reads.same) o.leads;
@@ -167,7 +178,7 @@ meets_refused name nonce read ms all is m = record {
 -- a message that ends it was heard
 pub heard-fails : (name nonce : List ℕ) (begin a : LinkView) (s t : Startup) (e : Error) → (o : Opening name nonce begin a s) →
     HearsAll name nonce o.read s.buffer.items t.buffer.items t.phase (Err e) → FailsBy name nonce begin a o.got t e
-heard-fails name nonce begin a s t (error.Io (cause.Wire wire.BadLength)) o h = ap has_bad_header o.came.left ∙ h
+heard-fails name nonce begin a s t (error.Io (cause.Wire wire.BadLength)) o h = ap has_bad_header o.came.left ∙ h.0
 heard-fails name nonce begin a s t (error.Config cause.NotBuilt) o h = meets_more name nonce o.read (messages s.buffer.items) (messages o.got) o.came.messages h.1
 heard-fails name nonce begin a s t error.UnexpectedMessage o h = meets_refused name nonce o.read (messages s.buffer.items) (messages o.got) o.came.messages h.1
 heard-fails name nonce begin a s t error.OutOfMemory o h = tt
@@ -222,15 +233,18 @@ opening-again name nonce begin a s o = record {
 -- ---- while it waited for more
 
 -- a message that ended it isn't the link's
-pub heard-waited : (name nonce got : List ℕ) (read : List RawMessage) (old new : List ℕ) (at : Phase) (e : Error) → HearsAll name nonce read old new at (Err e) → StillWaited name nonce got e
-heard-waited name nonce got read old new at (error.Io cause.Ended) h = absurd h.1
-heard-waited name nonce got read old new at error.Closed h = absurd h.1
-heard-waited name nonce got read old new at _ h = tt
+pub heard-waited : (name nonce got : List ℕ) (read : List RawMessage) (old new : List ℕ) (at : Phase) (e : Error) → messages got ≡ read ++ messages old → HearsAll name nonce read old new at (Err e) → StillWaited name nonce got e
+heard-waited name nonce got read old new at (error.Io cause.Ended) came h = absurd h.1
+heard-waited name nonce got read old new at error.Closed came h = absurd h.1
+heard-waited name nonce got read old new at (error.Io (cause.Wire wire.BadLength)) came h =
+    (h.1, subst (λ (l : List RawMessage). Leads name nonce l h.1) (sym came) h.2)
+heard-waited name nonce got read old new at _ came h = tt
 
 -- nor is a frame that couldn't be sent
 pub offer-waited : (name nonce got : List ℕ) (a b : LinkView) (t : Startup) (e : Error) → OfferEnds t a b (Err e) → StillWaited name nonce got e
 offer-waited name nonce got a b t (error.Io cause.Ended) was = absurd was
 offer-waited name nonce got a b t error.Closed was = absurd was
+offer-waited name nonce got a b t (error.Io (cause.Wire wire.BadLength)) was = absurd was
 offer-waited name nonce got a b t _ was = tt
 
 none_more : (x g : List ℕ) → x ++ g ≡ x → g ≡ []
@@ -241,23 +255,24 @@ none_there : (x g : List ℕ) → x ++ g ≡ [] → g ≡ []
 none_there [] g none = none
 none_there (b ∷ x) g none = absurd cc
 
-reads-got : (name nonce : List ℕ) (begin a b : LinkView) (s t : Startup) (o : Opening name nonce begin a s) (none : messages s.buffer.items ≡ []) (passed : s.flushed ≡ true) (reads : Reads s t a b) →
-    (opening-reads name nonce begin a b s t o none passed reads).got ≡ o.got ++ reads.got
+reads-got : (name nonce : List ℕ) (begin a b : LinkView) (s t : Startup) (o : Opening name nonce begin a s) (heard : IsHeard s) (passed : s.flushed ≡ true) (reads : Reads s t a b) →
+    (opening-reads name nonce begin a b s t o heard passed reads).got ≡ o.got ++ reads.got
 unfolding opening-reads
-reads-got name nonce begin a b s t o none passed reads = refl
+reads-got name nonce begin a b s t o heard passed reads = refl
 
 -- a read that gave the end came while it waited for more
-pub reads-waited : (name nonce : List ℕ) (begin a b : LinkView) (s t : Startup) (e : Error) (o : Opening name nonce begin a s) (none : messages s.buffer.items ≡ []) (passed : s.flushed ≡ true) (reads : Reads s t a b) →
-    PieceEnds s t a b (Err e) → StillWaited name nonce (opening-reads name nonce begin a b s t o none passed reads).got e
-reads-waited name nonce begin a b s t e o none passed reads was = by e was
+pub reads-waited : (name nonce : List ℕ) (begin a b : LinkView) (s t : Startup) (e : Error) (o : Opening name nonce begin a s) (heard : IsHeard s) (passed : s.flushed ≡ true) (reads : Reads s t a b) →
+    PieceEnds s t a b (Err e) → StillWaited name nonce (opening-reads name nonce begin a b s t o heard passed reads).got e
+reads-waited name nonce begin a b s t e o heard passed reads was = by e was
   where
-    still : reads.got ≡ [] → IsUndecided name nonce (opening-reads name nonce begin a b s t o none passed reads).got
+    still : reads.got ≡ [] → IsUndecided name nonce (opening-reads name nonce begin a b s t o heard passed reads).got
     still nothing =
         subst (λ (l : List ℕ). IsUndecided name nonce l)
-        (sym (reads-got name nonce begin a b s t o none passed reads ∙ ap (λ (l : List ℕ). o.got ++ l) nothing ∙ append-nil o.got))
-        (undecided-at name nonce begin a s o none)
+        (sym (reads-got name nonce begin a b s t o heard passed reads ∙ ap (λ (l : List ℕ). o.got ++ l) nothing ∙ append-nil o.got))
+        (undecided-at name nonce begin a s o heard)
 
-    by : (e : Error) → PieceEnds s t a b (Err e) → StillWaited name nonce (opening-reads name nonce begin a b s t o none passed reads).got e
+    by : (e : Error) → PieceEnds s t a b (Err e) → StillWaited name nonce (opening-reads name nonce begin a b s t o heard passed reads).got e
     by (error.Io cause.Ended) is = still (none_more s.buffer.items reads.got (sym reads.buffer ∙ is.2))
     by error.Closed is = still (none_there s.buffer.items reads.got (sym reads.buffer ∙ is.1))
+    by (error.Io (cause.Wire wire.BadLength)) is = absurd is
     by _ is = tt

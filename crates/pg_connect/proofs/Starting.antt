@@ -103,7 +103,7 @@ opens name nonce begin s empty unsent frame at not_yet count = record {
   given = grew_none begin.given;
   taken = grew_none begin.taken;
   came = record { messages = ap messages (sym empty); left = ap bytes_left (sym empty) };
-  last = record { front = []; piece = []; all = refl; fits = omega arith; needed = (First, leads-none name nonce) };
+  last = record { front = []; piece = []; all = refl; fits = omega arith; needed = ((First, leads-none name nonce), refl) };
   out = unsent;
   frame = frame;
   leads = subst (λ (p : Phase). Leads name nonce [] p) (sym at) (leads-none name nonce);

@@ -4,7 +4,7 @@ use Rattle.pg_spec.specs.Links.{LinkView, Grew, Rose}
 use Rattle.futures.specs.declared.task.Poll.{Poll}
 use Rattle.futures.specs.declared.task.Poll.TheVariants.{Ready, Pending}
 use Rattle.pg_wire.specs.LinkCalls.{Keeps}
-use Rattle.pg_spec.specs.RawMessages.{messages}
+use Rattle.pg_spec.specs.RawMessages.{messages, has_bad_header}
 use Rattle.pg_connect.specs.Ends.{WasBlocked}
 use Rattle.pg_connect.specs.Passes.{Untouched}
 use Rattle.pg_connect.specs.Reads.{WasDry, piece_size}
@@ -87,10 +87,11 @@ start_left s = length s.unsent + (s.max_bytes - s.given)
 abbrev pub IsNearer : (old new : Startup) → Type 0
 IsNearer old new = start_left new + (if new.moved then 1 else 0) ≤ start_left old
 
--- The frame was taken, all that came was heard, and the link may give nothing now.
+-- The frame was taken, all that came was heard, what is left of it isn't refused, and the link may give nothing now.
 pub record IsIdle (s : Startup) (link : LinkView) : Type 0 where
   pub sent : s.unsent ≡ []
   pub heard : messages s.buffer.items ≡ []
+  pub header : has_bad_header s.buffer.items ≡ false
   pub empty : link.due ≡ Some []
 
 -- A poll that goes on met a link that wasn't ready. Where nothing moved, that is a lull of a link that was promised

@@ -140,15 +140,16 @@ pub record HeardAll (name nonce : List ℕ) (read : List RawMessage) (old new : 
   pub header : has_bad_header new ≡ false
   pub leads : Leads name nonce (read ++ messages old) (phase_of at)
 
--- where it waits for more, no whole message is left
+-- where it waits for more, no whole message is left, and no header that is none
 abbrev pub LeavesNone : List ℕ → Heard → Type 0
-LeavesNone left heard.More = messages left ≡ []
+LeavesNone left heard.More = (messages left ≡ []) × (has_bad_header left ≡ false)
 LeavesNone left heard.Done = Unit {0}
 
--- The same of all that is buffered; a header below 4 behind the messages ends it too.
+-- The same of all that is buffered; a header below 4 behind the messages, all of which led on, ends it too.
 abbrev pub HearsAll : (name nonce : List ℕ) (read : List RawMessage) (old new : List ℕ) → Phase → Result Heard Error → Type 0
 HearsAll name nonce read old new at (Ok heard.More) = HeardAll name nonce read old new at
-HearsAll name nonce read old new at (Err (error.Io (cause.Wire wire.BadLength))) = has_bad_header (bytes_left old) ≡ true
+HearsAll name nonce read old new at (Err (error.Io (cause.Wire wire.BadLength))) =
+    (has_bad_header (bytes_left old) ≡ true) × (next : startups.Phase) × Leads name nonce (read ++ messages old) next
 HearsAll name nonce read old new at result = (bytes_left new ≡ bytes_left old) × Hears name nonce read (messages old) (messages new) at result
 
 -- what was given, and the messages read off it
@@ -161,8 +162,12 @@ abbrev pub IsFlushed : Startup → LinkView → Type 0
 IsFlushed s link = s.flushed ≡ true → (s.unsent ≡ []) × IsFlushedFrom link link
 
 -- behind the messages of these bytes the dialogue waits for more
+abbrev pub AwaitsMore : (name nonce bytes : List ℕ) → Type 0
+AwaitsMore name nonce bytes = (at : startups.Phase) × Leads name nonce (messages bytes) at
+
+-- so it does, and what is left of them isn't refused
 abbrev pub IsUndecided : (name nonce bytes : List ℕ) → Type 0
-IsUndecided name nonce bytes = (at : startups.Phase) × Leads name nonce (messages bytes) at
+IsUndecided name nonce bytes = AwaitsMore name nonce bytes × (has_bad_header (bytes_left bytes) ≡ false)
 
 -- The last piece was read only while the dialogue waited for more.
 pub record LastPiece (name nonce got : List ℕ) : Type 0 where
@@ -172,10 +177,11 @@ pub record LastPiece (name nonce got : List ℕ) : Type 0 where
   pub fits : length piece ≤ piece_size
   pub needed : IsUndecided name nonce front
 
--- where the link gave its end, the dialogue waited for more
+-- where the link gave its end, the dialogue waited for more, and so it did behind the messages before a header that is none
 abbrev pub StillWaited : (name nonce got : List ℕ) → Error → Type 0
 StillWaited name nonce got (error.Io cause.Ended) = IsUndecided name nonce got
 StillWaited name nonce got error.Closed = IsUndecided name nonce got
+StillWaited name nonce got (error.Io (cause.Wire wire.BadLength)) = AwaitsMore name nonce got
 StillWaited name nonce got _ = Unit {0}
 
 -- What the link gave and took since the startup began, and where the startup stands. Nothing was read before

@@ -64,7 +64,7 @@ returns-in-Ok-Done-clause-heard c name nonce read leads =
 
 pub returns-in-Ok-None-clause-none : goal.returns-in-Ok-None-clause-none
 returns-in-Ok-None-clause-none c =
-    let t = rw c.in-Ok-None.field-0-is at c.in-Ok-None.ensures in ap messages t.same ∙ t.none
+    let t = rw c.in-Ok-None.field-0-is at c.in-Ok-None.ensures in (ap messages t.same ∙ t.none, ap has_bad_header t.same ∙ t.header)
 
 pub returns-in-Ok-None-clause-heard : goal.returns-in-Ok-None-clause-heard
 returns-in-Ok-None-clause-heard c name nonce read leads =

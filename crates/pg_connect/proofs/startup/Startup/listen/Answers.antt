@@ -1,5 +1,5 @@
 use Rattle.std.proofs.Common.{◌≡◌, inl, inr, ℕ, [], length, ap, sym, refl, subst, ◌∙◌, arith, Bool, false, Ok}
-use Rattle.pg_spec.specs.RawMessages.{messages}
+use Rattle.pg_spec.specs.RawMessages.{messages, has_bad_header}
 use Rattle.pg_connect.specs.StartupPolls.{PieceEnds}
 use Rattle.pg_connect.specs.Startups.{LeavesNone, IsWithinStart}
 use Rattle.pg_connect.specs.declared.startup.Heard.{Heard}
@@ -8,7 +8,7 @@ use Rattle.pg_connect.specs.declared.startup.Startup.{Startup}
 use Rattle.pg_connect.specs.declared.startup.Phase.{Phase}
 use Rattle.pg_connect.proofs.Calm.{calm_then}
 use Rattle.pg_connect.proofs.Joining.{keeps_then, promised_still, rose_later, untouched_then}
-use Rattle.pg_connect.proofs.Opening.{opening-reads, opening-heard, opening-done, opening-failed, heard-fails, heard-waited, piece-fails, reads-waited}
+use Rattle.pg_connect.proofs.Opening.{is-heard, opening-reads, opening-heard, opening-done, opening-failed, heard-fails, heard-waited, piece-fails, reads-waited}
 use Rattle.pg_connect.proofs.Within.{start-within}
 use Rattle.pg_connect.proofs.startup.Startup.listen.Goals as goal
 
@@ -27,7 +27,7 @@ returns-in-Err-clause-answer g c name nonce begin at =
     opening-failed name nonce begin v c.pieces.self t c.in-Err.error o (ap (λ s. s.opening.items) c.in-Err.ensures.same)
     (heard-fails name nonce begin v c.pieces.self t c.in-Err.error o (c.in-Err.ensures.heard name nonce o.read o.leads))
     (start-within c.in-Err.error (length o.got) t.max_bytes (omega (arith, o.count, ap (λ s. s.max_bytes) c.in-Err.ensures.same, c.pieces.invariant.within)))
-    (heard-waited name nonce o.got o.read c.pieces.self.buffer.items t.buffer.items t.phase c.in-Err.error (c.in-Err.ensures.heard name nonce o.read o.leads))
+    (heard-waited name nonce o.got o.read c.pieces.self.buffer.items t.buffer.items t.phase c.in-Err.error o.came.messages (c.in-Err.ensures.heard name nonce o.read o.leads))
 
 pub pieces-preserved : goal.pieces-preserved
 pieces-preserved g c = record {
@@ -50,7 +50,7 @@ pieces-preserved g c = record {
       let v = g.L.Link.view c.pieces.link in
       let h = rw c.in-Ok-More.field-0-is at (c.in-Ok-More.ensures.heard name nonce o.read o.leads) in
       opening-reads name nonce begin v _ t c.read_piece.new.self
-      (opening-heard name nonce begin v c.pieces.self t o c.hear_all.ensures.same h) h.none
+      (opening-heard name nonce begin v c.pieces.self t o c.hear_all.ensures.same h) (is-heard t h.none h.whole h.header)
       (ap (λ (x : Startup). x.flushed) c.hear_all.ensures.same ∙ ap (λ (x : Startup). x.flushed) c.pieces.invariant.same ∙ c.requires.flushed) c.in-Ok-true.ensures.reads;
   calm = calm_then _ _ _ c.pieces.invariant.calm c.in-Ok-true.ensures.no_lull;
   quiet = c.in-Ok-true.ensures.ready (ap (λ (b : Bool). Ok b) c.in-Ok-true.field-0-test) ∙ c.pieces.invariant.quiet;
@@ -63,7 +63,7 @@ returns-in-Ok-false-clause-answer g c name nonce begin at =
     let v = g.L.Link.view c.pieces.link in
     let h = rw c.in-Ok-More.field-0-is at (c.in-Ok-More.ensures.heard name nonce o.read o.leads) in
     opening-reads name nonce begin v _ t c.read_piece.new.self
-    (opening-heard name nonce begin v c.pieces.self t o c.hear_all.ensures.same h) h.none
+    (opening-heard name nonce begin v c.pieces.self t o c.hear_all.ensures.same h) (is-heard t h.none h.whole h.header)
     (ap (λ (x : Startup). x.flushed) c.hear_all.ensures.same ∙ ap (λ (x : Startup). x.flushed) c.pieces.invariant.same ∙ c.requires.flushed) c.in-Ok-false.ensures.reads
 
 pub returns-in-Err-read_piece-clause-answer : goal.returns-in-Err-read_piece-clause-answer
@@ -76,11 +76,12 @@ returns-in-Err-read_piece-clause-answer g c name nonce begin at =
     let h = rw c.in-Ok-More.field-0-is at (c.in-Ok-More.ensures.heard name nonce o.read o.leads) in
     let all = opening-heard name nonce begin v c.pieces.self t o c.hear_all.ensures.same h in
     let passed = ap (λ (x : Startup). x.flushed) c.hear_all.ensures.same ∙ ap (λ (x : Startup). x.flushed) c.pieces.invariant.same ∙ c.requires.flushed in
-    let r = opening-reads name nonce begin v w t u all h.none passed c.in-Err-read_piece.ensures.reads in
+    let heard = is-heard t h.none h.whole h.header in
+    let r = opening-reads name nonce begin v w t u all heard passed c.in-Err-read_piece.ensures.reads in
     opening-failed name nonce begin w u u c.in-Err-read_piece.error r refl
     (piece-fails name nonce begin v w t u c.in-Err-read_piece.error r o.link h.whole h.header c.in-Err-read_piece.ensures.end)
     (subst (λ (n : ℕ). IsWithinStart c.in-Err-read_piece.error n u.max_bytes) r.count c.in-Err-read_piece.ensures.within)
-    (reads-waited name nonce begin v w t u c.in-Err-read_piece.error all h.none passed c.in-Err-read_piece.ensures.reads c.in-Err-read_piece.ensures.end)
+    (reads-waited name nonce begin v w t u c.in-Err-read_piece.error all heard passed c.in-Err-read_piece.ensures.reads c.in-Err-read_piece.ensures.end)
 
 pub returns-in-Ok-false-clause-moved : goal.returns-in-Ok-false-clause-moved
 returns-in-Ok-false-clause-moved g c none =
@@ -107,7 +108,7 @@ returns-in-Ok-false-clause-pending g c =
           let later = reads.still unmoved in
           let before = c.pieces.invariant.still (sym (ap (λ (x : Startup). x.moved) c.hear_all.ensures.same) ∙ later.0) in
           rose_later a.lulls v.lulls w.lulls keeps.counts.lulls (end.0.lulls unmoved (promised_still a v before.1 promised));
-      idle = λ steady. record { sent = sent; heard = ap messages end.2 ∙ none; empty = end.0.empty (keeps.steady steady) };
+      idle = λ steady. record { sent = sent; heard = ap messages end.2 ∙ none.0; header = ap has_bad_header end.2 ∙ none.1; empty = end.0.empty (keeps.steady steady) };
     }
 
 pub returns-in-Ok-false-clause-listens : goal.returns-in-Ok-false-clause-listens
