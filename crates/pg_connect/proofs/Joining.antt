@@ -1,5 +1,5 @@
 -- What passed in some calls, and then in others, passed in all of them.
-use Rattle.std.proofs.Common.{◌≡◌, ℕ, ◌+◌, ◌-◌, ◌^◌, ◌≤◌, Bool, true, false, not, ◌||◌, ◌&&◌, IsTrue, List, [], ◌∷◌, ◌++◌, length, map, Option, Some, None, option_map, Err, refl, sym, ap, subst, ◌∙◌, arith, append_assoc, length-append}
+use Rattle.std.proofs.Common.{◌≡◌, ℕ, ◌+◌, ◌-◌, ◌^◌, ◌≤◌, Bool, true, false, not, ◌||◌, ◌&&◌, IsTrue, List, [], ◌∷◌, ◌++◌, length, map, Option, Some, None, option_map, Err, refl, sym, ap, subst, ◌∙◌, arith, append_assoc, length-append, ◌⊎◌, inl, inr}
 use Rattle.std.specs.Prelude.{min, max}
 use Rattle.std.specs.List.{list_all, list_any}
 use Rattle.std.proofs.lemmas.List.{append-nil}
@@ -28,8 +28,9 @@ use Rattle.pg_connect.specs.declared.streams.Streams.{Streams}
 use Rattle.pg_connect.specs.Faults.{of_desk}
 use Rattle.pg_connect.specs.Kept.{keep, keep_all}
 use Rattle.pg_connect.specs.Passed.{AllEngineCalls, delivered_in, delivered_by, bytes_out_in, bytes_out_by, moves_in}
-use Rattle.pg_connect.specs.Passes.{Passes, Goes, Untouched, waiting, delayed_in, IsUnread, goodbye, moves, risen}
+use Rattle.pg_connect.specs.Passes.{Passes, Goes, HoldsLast, Untouched, waiting, delayed_in, IsUnread, goodbye, moves, risen}
 use Rattle.pg_connect.specs.Ends.{WasBlocked, last_is, is_closed_out, OfferEnds, PartsEnds}
+use Rattle.pg_connect.proofs.LastParts.{rest-then}
 
 -- ---- lists
 
@@ -207,6 +208,14 @@ both_true false b one other = absurd cc
 pub all_then : {X : Type 0} (p : X → Bool) (xs ys : List X) → list_all p xs ≡ true → list_all p ys ≡ true → list_all p (xs ++ ys) ≡ true
 all_then p xs ys first then = list_all-append p xs ys ∙ both_true (list_all p xs) (list_all p ys) first then
 
+-- ---- what is held
+
+holds_then : (u v w r s : List RawMessage) → HoldsLast u v r → HoldsLast v w s → HoldsLast u w (r ++ s)
+holds_then u v w r s (inl first) (inl then) = inl (then.0 ∙ first.0, ap (λ (x : List RawMessage). x ++ s) first.1 ∙ then.1)
+holds_then u v w r s (inr first) (inl then) =
+    inr (first.0, ap (λ (x : List RawMessage). r ++ x) then.1 ∙ append-nil r ∙ first.1 ∙ ap (λ (x : List RawMessage). first.0 ++ x) (sym then.0))
+holds_then u v w r s first (inr then) = inr (r ++ then.0, ap (λ (x : List RawMessage). r ++ x) then.1 ∙ sym (append_assoc r then.0 w))
+
 -- ---- all together
 
 pub passes-joined : (a b c : Streams) (l m n : LinkView) (es fs : List Event) (hs js : List RawMessage) →
@@ -228,13 +237,11 @@ passes-joined a b c l m n es fs hs js p q = record {
   delivered = ap (λ x. waiting a.held ++ x) (filter-append _ p.read q.read)
       ∙ relay (waiting a.held) (sync_of p.read) (delivered_by es) (waiting b.held) (sync_of q.read) (delivered_by fs) (waiting c.held) p.delivered q.delivered
       ∙ ap (λ x. x ++ waiting c.held) (sym (delivered_by-append es fs));
-  held_last = (
-    p.held_last.0 ++ q.held_last.0,
-    ap (λ x. waiting a.held ++ x) (append_assoc p.read q.read q.lost)
-        ∙ relay (waiting a.held) p.read p.held_last.0 (waiting b.held) (q.read ++ q.lost) q.held_last.0 (waiting c.held)
-        (ap (λ x. waiting a.held ++ x) (sym (ap (λ (x : List RawMessage). p.read ++ x) (none_lost b.unread p.lost q.all_read p.unread) ∙ append-nil p.read)) ∙ p.held_last.1)
-        q.held_last.1,
-  );
+  held_last = subst (λ (x : List RawMessage). HoldsLast (waiting a.held) (waiting c.held) x) (sym (append_assoc p.read q.read q.lost))
+      (holds_then (waiting a.held) (waiting b.held) (waiting c.held) p.read (q.read ++ q.lost)
+      (subst (λ (x : List RawMessage). HoldsLast (waiting a.held) (waiting b.held) x)
+      (ap (λ (x : List RawMessage). p.read ++ x) (none_lost b.unread p.lost q.all_read p.unread) ∙ append-nil p.read) p.held_last)
+      q.held_last);
   handed_out = ap (λ x. delayed_in a ++ x) (filter-append _ p.read q.read)
       ∙ relay (delayed_in a) (async_of p.read) hs (delayed_in b) (async_of q.read) js (delayed_in c) p.handed_out q.handed_out;
   kept = q.kept ∙ ap (λ x. keep_all x (parameter_reports q.read)) p.kept
@@ -243,6 +250,7 @@ passes-joined a b c l m n es fs hs js p q = record {
   out = ap (λ x. (a.unsent ++ x) ++ goodbye a.closing c.closing) (bytes_out_by-append es fs)
       ∙ out_then a.closing b.closing c.closing a.unsent (bytes_out_by es) p.sent b.unsent (bytes_out_by fs) q.sent c.unsent
       p.still_closing q.still_closing (λ x. q.nothing_more x) p.out q.out;
+  one_part = rest-then a.closing b.closing c.closing a.unsent b.unsent c.unsent es fs p.still_closing q.still_closing q.nothing_more p.one_part q.one_part;
   still_closing = λ x. q.still_closing (p.still_closing x);
   nothing_more = λ x. bytes_out_by-append es fs ∙ ap (λ y. y ++ bytes_out_by fs) (p.nothing_more x) ∙ q.nothing_more (p.still_closing x);
   count = omega (arith, p.count, q.count, length-append p.got q.got);

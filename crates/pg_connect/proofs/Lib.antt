@@ -1,7 +1,9 @@
 pub mod Keeping
 pub mod LastValues
+pub mod LastParts
 pub mod Joining
 pub mod Sends
+pub mod Dues
 pub mod Pacing
 pub mod Parts
 pub mod Clearing

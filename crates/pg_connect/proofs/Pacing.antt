@@ -2,18 +2,23 @@
 use Rattle.std.proofs.Common.{◌≡◌, ℕ, ◌+◌, ◌≤◌, Bool, true, false, ◌||◌, List, [], ◌∷◌, ◌++◌, length, None, Result, Ok, Err, ◌⊎◌, refl, sym, ap, subst, ◌∙◌, arith, inl, inr, append_assoc, length-append}
 use Rattle.std.proofs.lemmas.List.{append-nil}
 use Rattle.pg_spec.specs.Links.{LinkView}
-use Rattle.pg_spec.specs.RawMessages.{RawMessage, messages, sync_of, async_of}
+use Rattle.std.specs.List.{list_all}
+use Rattle.pg_spec.specs.Asides.{is_readable}
+use Rattle.pg_spec.specs.RawMessages.{RawMessage, messages, bytes_left, has_bad_header, sync_of, async_of}
 use Rattle.pg_desk.specs.declared.event.Event.{Event}
 use Rattle.pg_connect.specs.declared.streams.Streams.{Streams}
 use Rattle.pg_connect.specs.Passed.{delivered_by}
 use Rattle.pg_connect.specs.Passes.{Passes, Goes, Hands, waiting, delayed_in, moves}
-use Rattle.pg_connect.specs.Reads.{AllDecoded, EndsAt, NeedsMore, NoneFull, Paced, ReadsOn, ReadStops, is_full, piece_size}
+use Rattle.pg_connect.specs.Reads.{AllDecoded, EndsAt, GaveDue, NeedsMore, NoneFull, Paced, ReadsOn, ReadStops, TakesIn, is_full, piece_size}
 use Rattle.pg_connect.specs.declared.fault.ConnectionFault.{ConnectionFault}
+use Rattle.pg_connect.specs.declared.fault.ConnectionFault.TheVariants as fault
 use Rattle.pg_connect.specs.declared.ends.ReadEnd.{ReadEnd}
 use Rattle.pg_connect.specs.declared.ends.ReadEnd.TheVariants as ending
 use Rattle.pg_connect.proofs.Joining.{calls-then, joined-got, passes-joined, delivered_by-append, none_lost, keeps_same, untouched_same}
 use Rattle.pg_connect.proofs.Parts.{Joins}
 use Rattle.pg_connect.proofs.Passing.{goes-quietly, none_full-then}
+use Rattle.pg_connect.proofs.Dues.{due_none, due_then}
+use Rattle.pg_connect.proofs.Sizes.{all-left}
 use Rattle.pg_connect.proofs.Taking.{piece_none}
 
 -- ---- lists
@@ -57,6 +62,7 @@ handed-as a c l n es hs js same p = record {
   handed_out = p.handed_out ∙ ap (λ (x : List RawMessage). x ++ delayed_in c) same;
   kept = p.kept;
   out = p.out;
+  one_part = p.one_part;
   still_closing = p.still_closing;
   nothing_more = p.nothing_more;
   count = p.count;
@@ -72,13 +78,15 @@ handed-as a c l n es hs js same p = record {
 
 -- ---- pieces
 
-pub paced_none : (s : Streams) (got : List ℕ) (es : List Event) → got ≡ [] → Paced s got es
+abbrev pub paced_none : (s : Streams) (got : List ℕ) (es : List Event) → got ≡ [] → Paced s got es
 paced_none s got es none = record { front = []; piece = []; all = none; fits = omega arith; needed = inl none }
 
-needs_later : (s : Streams) (front : List ℕ) (es fs : List Event) → NeedsMore s front es → NeedsMore s front (es ++ fs)
+pub needs_later : (s : Streams) (front : List ℕ) (es fs : List Event) → NeedsMore s front es → NeedsMore s front (es ++ fs)
 needs_later s front es fs n = record {
   no_delayed = n.no_delayed;
   none_aside = n.none_aside;
+  readable = n.readable;
+  no_bad_header = n.no_bad_header;
   earlier = n.earlier;
   later = n.later ++ fs;
   calls = ap (λ (x : List Event). x ++ fs) n.calls ∙ append_assoc n.earlier n.later fs;
@@ -88,16 +96,20 @@ needs_later s front es fs n = record {
 }
 
 -- calls behind, in which nothing is read
-pub paced_later : (s : Streams) (got more : List ℕ) (es fs : List Event) → more ≡ [] → Paced s got es → Paced s (got ++ more) (es ++ fs)
-paced_later s got more es fs none was =
-    let same : got ++ more ≡ got = ap (λ (x : List ℕ). got ++ x) none ∙ append-nil got in
-    record {
-      front = was.front;
-      piece = was.piece;
-      all = same ∙ was.all;
-      fits = was.fits;
-      needed = elim was.needed [ inl nothing ↦ inl (same ∙ nothing) | inr n ↦ inr (needs_later s was.front es fs n) ];
-    }
+abbrev pub paced_later : (s : Streams) (got all : List ℕ) (es fs : List Event) → all ≡ got → Paced s got es → Paced s all (es ++ fs)
+paced_later s got all es fs same was = record {
+  front = was.front;
+  piece = was.piece;
+  all = same ∙ was.all;
+  fits = was.fits;
+  needed = elim was.needed [ inl nothing ↦ inl (same ∙ nothing) | inr n ↦ inr (needs_later s was.front es fs n) ];
+}
+
+-- what was given in both, where the later calls read nothing
+pub got_before : (a b c : Streams) (l m n : LinkView) (es fs : List Event) (hs js : List RawMessage) (p : Passes a b l m es hs) (q : Passes b c m n fs js) → c.given ≡ b.given →
+    (passes-joined a b c l m n es fs hs js p q).got ≡ p.got
+got_before a b c l m n es fs hs js p q same =
+    joined-got a b c l m n es fs hs js p q ∙ ap (λ (x : List ℕ). p.got ++ x) (no_more b c m n fs js q same) ∙ append-nil p.got
 
 -- where all that came is passed on, and no mailbox was full
 needs_more : (s t : Streams) (l m : LinkView) (es : List Event) (p : Passes s t l m es []) → AllDecoded t → t.held ≡ None → t.unread ≡ None → delayed_in s ≡ [] → delayed_in t ≡ [] →
@@ -108,6 +120,8 @@ needs_more s t l m es p decoded held unread early late none within =
     ∙ ap (λ (x : List RawMessage). p.read ++ x) decoded.none_whole ∙ append-nil p.read in
     record {
       no_delayed = early;
+      readable = ap (list_all is_readable) all ∙ p.readable;
+      no_bad_header = ap has_bad_header (p.rest ∙ all-left t.buffer.items decoded.none_whole) ∙ decoded.no_bad_header;
       none_aside = ap async_of all ∙ sym (ap (λ (x : List RawMessage). x ++ async_of p.read) early) ∙ p.handed_out ∙ late;
       earlier = es;
       later = [];
@@ -124,12 +138,14 @@ needs_more s t l m es p decoded held unread early late none within =
 pub record PacedGoes {H : Type 0} (becomes : H → List Event → H → Type 0) (a b : H) (old new : Streams) (before after : LinkView) : Type 0 where
   pub goes : Goes becomes a b old new before after [] NoneFull
   pub paced : Paced old goes.passes.got goes.events
+  pub due : GaveDue before.due after.due goes.passes.got
 
 -- nothing yet
 pub paced-start : {H : Type 0} (becomes : H → List Event → H → Type 0) (h : H) → becomes h [] h → (s : Streams) (v : LinkView) → s.unread ≡ None → PacedGoes becomes h h s s v v
 paced-start becomes h stays s v read =
     let goes = goes-quietly becomes h stays s s v v [] NoneFull (piece_none s s.buffer v v read refl (untouched_same v) (keeps_same v)) refl in
-    record { goes = goes; paced = paced_none s goes.passes.got goes.events (no_more s s v v goes.events [] goes.passes refl) }
+    let none = no_more s s v v goes.events [] goes.passes refl in
+    record { goes = goes; paced = paced_none s goes.passes.got goes.events none; due = due_none v.due v.due goes.passes.got refl none }
 
 -- what was buffered was passed on
 pub paced-all : {H : Type 0} (becomes : H → List Event → H → Type 0) → Joins becomes → (h i k : H) (s t u : Streams) (l v : LinkView) →
@@ -147,23 +163,27 @@ paced-all becomes joins h i k s t u l v so_far more same =
         passes = passes-joined s t u l v v es fs [] [] p q;
         ended = none_full-then es fs so_far.goes.ended more.ended;
       };
-      paced = subst (λ (x : List ℕ). Paced s x (es ++ fs)) (sym (joined-got s t u l v v es fs [] [] p q))
-          (paced_later s p.got q.got es fs (no_more t u v v fs [] q same) so_far.paced);
+      paced = paced_later s p.got (passes-joined s t u l v v es fs [] [] p q).got es fs (got_before s t u l v v es fs [] [] p q same) so_far.paced;
+      due = subst (λ (x : List ℕ). GaveDue l.due v.due x) (sym (got_before s t u l v v es fs [] [] p q same)) so_far.due;
     }
 
 -- what a piece leads to
-paced_piece : (s u w : Streams) (l v n : LinkView) (es : List Event) (p : Passes s u l v es []) (q : Passes u w v n [] []) → AllDecoded u → u.held ≡ None → u.unread ≡ None →
+abbrev paced_piece : (s u w : Streams) (l v n : LinkView) (es : List Event) (p : Passes s u l v es []) (q : Passes u w v n [] []) → AllDecoded u → u.held ≡ None → u.unread ≡ None →
     delayed_in s ≡ [] → delayed_in u ≡ [] → NoneFull es → u.given ≤ u.max_bytes → w.given ≤ u.given + piece_size →
     Paced s (passes-joined s u w l v n es [] [] [] p q).got (es ++ [])
-paced_piece s u w l v n es p q decoded held unread early late none within small =
-    subst (λ (x : List ℕ). Paced s x (es ++ [])) (sym (joined-got s u w l v n es [] [] [] p q))
-    (record {
-      front = p.got;
-      piece = q.got;
-      all = refl;
-      fits = omega (arith, q.count, small);
-      needed = inr (needs_later s p.got es [] (needs_more s u l v es p decoded held unread early late none within));
-    })
+paced_piece s u w l v n es p q decoded held unread early late none within small = record {
+  front = p.got;
+  piece = q.got;
+  all = joined-got s u w l v n es [] [] [] p q;
+  fits = omega (arith, q.count, small);
+  needed = inr (needs_later s p.got es [] (needs_more s u l v es p decoded held unread early late none within));
+}
+
+-- what was given in both was due
+due_piece : (s u w : Streams) (l v n : LinkView) (es : List Event) (p : Passes s u l v es []) (q : Passes u w v n [] []) → GaveDue l.due v.due p.got → GaveDue v.due n.due q.got →
+    GaveDue l.due n.due (passes-joined s u w l v n es [] [] [] p q).got
+due_piece s u w l v n es p q first then =
+    subst (λ (x : List ℕ). GaveDue l.due n.due x) (sym (joined-got s u w l v n es [] [] [] p q)) (due_then l.due v.due n.due p.got q.got first then)
 
 -- all that came is passed on, so a piece may be read
 pub record MayRead (s u : Streams) : Type 0 where
@@ -176,8 +196,9 @@ pub record MayRead (s u : Streams) : Type 0 where
 
 -- a piece came
 pub paced-piece : {H : Type 0} (becomes : H → List Event → H → Type 0) → Joins becomes → ((h : H) → becomes h [] h) → (h i : H) (s u w : Streams) (l v n : LinkView) →
-    PacedGoes becomes h i s u l v → Passes u w v n [] [] → MayRead s u → w.given ≤ u.given + piece_size → PacedGoes becomes h i s w l n
-paced-piece becomes joins stays h i s u w l v n so_far q may small =
+    PacedGoes becomes h i s u l v → TakesIn u w v n → MayRead s u → w.given ≤ u.given + piece_size → PacedGoes becomes h i s w l n
+paced-piece becomes joins stays h i s u w l v n so_far took may small =
+    let q = took.passes in
     let es = so_far.goes.events in
     let p = so_far.goes.passes in
     record {
@@ -189,13 +210,16 @@ paced-piece becomes joins stays h i s u w l v n so_far q may small =
         ended = none_full-then es [] so_far.goes.ended refl;
       };
       paced = paced_piece s u w l v n es p q may.decoded may.held may.unread may.early may.late so_far.goes.ended may.within small;
+      due = due_piece s u w l v n es p q so_far.due took.due;
     }
 
 -- reading ended at the link, or with a piece
 pub paced-last : {H : Type 0} (becomes : H → List Event → H → Type 0) → Joins becomes → ((h : H) → becomes h [] h) → (h i : H) (s u w : Streams) (l v n : LinkView) (W : List RawMessage → Type 0)
-    (F : List Event → Type 0) (S : List ℕ → Type 0) →
-    PacedGoes becomes h i s u l v → Passes u w v n [] [] → MayRead s u → w.given ≤ u.given + piece_size → W [] → ((es : List Event) → F es) → ((got : List ℕ) → S got) → ReadsOn becomes h i s w l n W F S
-paced-last becomes joins stays h i s u w l v n W F S so_far q may small none ends stops =
+    (F : List Event → Type 0) (S : (got piece : List ℕ) → Type 0) →
+    PacedGoes becomes h i s u l v → (took : TakesIn u w v n) → MayRead s u → w.given ≤ u.given + piece_size → W [] → ((es : List Event) → F es) → ((got : List ℕ) → S got took.passes.got) →
+    ReadsOn becomes h i s w l n W F S
+paced-last becomes joins stays h i s u w l v n W F S so_far took may small none ends stops =
+    let q = took.passes in
     let es = so_far.goes.events in
     let p = so_far.goes.passes in
     record {
@@ -212,12 +236,13 @@ paced-last becomes joins stays h i s u w l v n W F S so_far q may small none end
       };
       paced = paced_piece s u w l v n es p q may.decoded may.held may.unread may.early may.late so_far.goes.ended may.within small;
       stops_there = stops (passes-joined s u w l v n es [] [] [] p q).got;
+      due = due_piece s u w l v n es p q so_far.due took.due;
     }
 
 -- passing on ended the step
-pub paced-hands : {H : Type 0} (becomes : H → List Event → H → Type 0) → Joins becomes → (h i k : H) (s t u : Streams) (l v : LinkView) (W V : List RawMessage → Type 0) (F G : List Event → Type 0) (S : List ℕ → Type 0) →
+pub paced-hands : {H : Type 0} (becomes : H → List Event → H → Type 0) → Joins becomes → (h i k : H) (s t u : Streams) (l v : LinkView) (W V : List RawMessage → Type 0) (F G : List Event → Type 0) (S : (got piece : List ℕ) → Type 0) →
     (so_far : PacedGoes becomes h i s t l v) (more : Hands becomes i k t u v v W F) → u.given ≡ t.given → ((handed : List RawMessage) → W handed → V handed) →
-    ((es fs : List Event) → F fs → G (es ++ fs)) → (F more.goes.events → S so_far.goes.passes.got) → ReadsOn becomes h k s u l v V G S
+    ((es fs : List Event) → F fs → G (es ++ fs)) → (F more.goes.events → S so_far.goes.passes.got so_far.paced.piece) → ReadsOn becomes h k s u l v V G S
 paced-hands becomes joins h i k s t u l v W V F G S so_far more same which ends stops =
     let es = so_far.goes.events in
     let fs = more.goes.events in
@@ -235,24 +260,30 @@ paced-hands becomes joins h i k s t u l v W V F G S so_far more same which ends 
           ended = ends es fs more.goes.ended;
         };
       };
-      paced = subst (λ (x : List ℕ). Paced s x (es ++ fs)) (sym (joined-got s t u l v v es fs [] more.handed p q))
-          (paced_later s p.got q.got es fs (no_more t u v v fs more.handed q same) so_far.paced);
-      stops_there = subst S (sym (joined-got s t u l v v es fs [] more.handed p q ∙ ap (λ (x : List ℕ). p.got ++ x) (no_more t u v v fs more.handed q same) ∙ append-nil p.got))
-          (stops more.goes.ended);
+      paced = paced_later s p.got (passes-joined s t u l v v es fs [] more.handed p q).got es fs (got_before s t u l v v es fs [] more.handed p q same) so_far.paced;
+      stops_there = subst (λ (x : List ℕ). S x so_far.paced.piece) (sym (got_before s t u l v v es fs [] more.handed p q same)) (stops more.goes.ended);
+      due = subst (λ (x : List ℕ). GaveDue l.due v.due x) (sym (got_before s t u l v v es fs [] more.handed p q same)) so_far.due;
     }
 
 -- nothing was read
-pub paced-still : {H : Type 0} (becomes : H → List Event → H → Type 0) (h i : H) (s t : Streams) (l m : LinkView) (W : List RawMessage → Type 0) (F : List Event → Type 0) (S : List ℕ → Type 0) →
-    Hands becomes h i s t l m W F → t.given ≡ s.given → S [] → ReadsOn becomes h i s t l m W F S
-paced-still becomes h i s t l m W F S hands same stops =
-    let none = no_more s t l m hands.goes.events hands.handed hands.goes.passes same in
-    record { hands = hands; paced = paced_none s hands.goes.passes.got hands.goes.events none; stops_there = subst S (sym none) stops }
+pub paced-still : {H : Type 0} (becomes : H → List Event → H → Type 0) (h i : H) (s t : Streams) (l : LinkView) (W : List RawMessage → Type 0) (F : List Event → Type 0)
+    (S : (got piece : List ℕ) → Type 0) → Hands becomes h i s t l l W F → t.given ≡ s.given → S [] [] → ReadsOn becomes h i s t l l W F S
+paced-still becomes h i s t l W F S hands same stops =
+    let none = no_more s t l l hands.goes.events hands.handed hands.goes.passes same in
+    record {
+      hands = hands;
+      paced = paced_none s hands.goes.passes.got hands.goes.events none;
+      stops_there = subst (λ (x : List ℕ). S x []) (sym none) stops;
+      due = due_none l.due l.due hands.goes.passes.got refl none;
+    }
 
 needs_behind : (s t : Streams) (front : List ℕ) (es fs : List Event) → t.given ≡ s.given → t.max_bytes ≡ s.max_bytes → t.buffer.items ≡ s.buffer.items → delayed_in s ≡ [] → waiting t.held ≡ [] →
     delivered_by es ≡ waiting s.held → NoneFull es → NeedsMore t front fs → NeedsMore s front (es ++ fs)
 needs_behind s t front es fs given limit buffer early held delivered none n = record {
   no_delayed = early;
   none_aside = ap (λ (x : List ℕ). async_of (messages (x ++ front))) (sym buffer) ∙ n.none_aside;
+  readable = ap (λ (x : List ℕ). list_all is_readable (messages (x ++ front))) (sym buffer) ∙ n.readable;
+  no_bad_header = ap (λ (x : List ℕ). has_bad_header (bytes_left (x ++ front))) (sym buffer) ∙ n.no_bad_header;
   earlier = es ++ n.earlier;
   later = n.later;
   calls = ap (λ (x : List Event). es ++ x) n.calls ∙ sym (append_assoc es n.earlier n.later);
@@ -264,15 +295,17 @@ needs_behind s t front es fs given limit buffer early held delivered none n = re
 }
 
 -- what was held was delivered, and then the link was read
-pub paced-behind : {H : Type 0} (becomes : H → List Event → H → Type 0) → Joins becomes → (h i k : H) (s t u : Streams) (v n : LinkView) (W : List RawMessage → Type 0) (F G : List Event → Type 0) (R S : List ℕ → Type 0) →
+pub paced-behind : {H : Type 0} (becomes : H → List Event → H → Type 0) → Joins becomes → (h i k : H) (s t u : Streams) (v n : LinkView) (W : List RawMessage → Type 0) (F G : List Event → Type 0) (R S : (got piece : List ℕ) → Type 0) →
     (first : Goes becomes h i s t v v [] NoneFull) → ReadsOn becomes i k t u v n W F R → t.given ≡ s.given → t.buffer.items ≡ s.buffer.items → delayed_in t ≡ [] → t.held ≡ None → t.unread ≡ None →
-    ((es fs : List Event) → F fs → G (es ++ fs)) → ((got : List ℕ) → R got → S got) → ReadsOn becomes h k s u v n W G S
+    ((es fs : List Event) → F fs → G (es ++ fs)) → ((got piece : List ℕ) → R got piece → S got piece) → ReadsOn becomes h k s u v n W G S
 paced-behind becomes joins h i k s t u v n W F G R S first more given buffer late held unread ends stops =
     let es = first.events in
     let fs = more.hands.goes.events in
     let p = first.passes in
     let q = more.hands.goes.passes in
     let none : p.got ≡ [] = no_more s t v v es [] p given in
+    let all : (passes-joined s t u v v n es fs [] more.hands.handed p q).got ≡ q.got =
+    joined-got s t u v v n es fs [] more.hands.handed p q ∙ ap (λ (x : List ℕ). x ++ q.got) none in
     let read : p.read ≡ [] =
     none_before p.read p.lost (messages t.buffer.items) (messages (s.buffer.items ++ p.got)) p.came_off
     (ap (λ (x : List ℕ). length (messages (s.buffer.items ++ x))) none ∙ ap (λ (x : List ℕ). length (messages x)) (append-nil s.buffer.items ∙ sym buffer)) in
@@ -292,24 +325,28 @@ paced-behind becomes joins h i k s t u v n W F G R S first more given buffer lat
           ended = ends es fs more.hands.goes.ended;
         };
       };
-      paced = subst (λ (x : List ℕ). Paced s x (es ++ fs)) (sym (joined-got s t u v v n es fs [] more.hands.handed p q ∙ ap (λ (x : List ℕ). x ++ q.got) none))
-          (record {
-            front = more.paced.front;
-            piece = more.paced.piece;
-            all = more.paced.all;
-            fits = more.paced.fits;
-            needed = elim more.paced.needed [
-              | inl nothing ↦ inl nothing
-              | inr needs ↦ inr (needs_behind s t more.paced.front es fs given p.limit buffer early (ap waiting held) delivered first.ended needs)
-            ];
-          });
-      stops_there = subst S (sym (joined-got s t u v v n es fs [] more.hands.handed p q ∙ ap (λ (x : List ℕ). x ++ q.got) none)) (stops q.got more.stops_there);
+      paced = record {
+        front = more.paced.front;
+        piece = more.paced.piece;
+        all = all ∙ more.paced.all;
+        fits = more.paced.fits;
+        needed = elim more.paced.needed [
+          | inl nothing ↦ inl (all ∙ nothing)
+          | inr needs ↦ inr (needs_behind s t more.paced.front es fs given p.limit buffer early (ap waiting held) delivered first.ended needs)
+        ];
+      };
+      stops_there = subst (λ (x : List ℕ). S x more.paced.piece) (sym all) (stops q.got more.paced.piece more.stops_there);
+      due = subst (λ (x : List ℕ). GaveDue v.due n.due x) (sym all) more.due;
     }
 
+-- where nothing was read
+pub still_stops : (s t : Streams) (e : ConnectionFault) → ReadStops s t (Err e) [] []
+still_stops s t (fault.LimitReached given most) = (t.buffer.items, sym (append-nil t.buffer.items))
+still_stops s t _ = tt
+
 -- how reading stopped, where the same bytes stood there before, and no notice is delayed any more
-pub stops_before : (s t u : Streams) (r : Result ReadEnd ConnectionFault) (got : List ℕ) → t.buffer.items ≡ s.buffer.items → t.delayed.items ≡ [] → ReadStops t u r got → ReadStops s u r got
-stops_before s t u (Ok (ending.Handed message)) got same none (inl was) = absurd (omega (arith, was.delayed, ap length none))
-stops_before s t u (Ok (ending.Handed message)) got same none (inr was) = inr (subst (λ (x : List ℕ). EndsAt (x ++ got) u.buffer.items message) same was)
-stops_before s t u (Ok ending.Full) got same none was = tt
-stops_before s t u (Ok ending.Dry) got same none was = tt
-stops_before s t u (Err e) got same none was = tt
+pub stops_before : (s t u : Streams) (r : Result ReadEnd ConnectionFault) (got piece : List ℕ) → t.buffer.items ≡ s.buffer.items → t.delayed.items ≡ [] → ReadStops t u r got piece → ReadStops s u r got piece
+stops_before s t u (Ok (ending.Handed message)) got piece same none (inl was) = absurd (omega (arith, was.delayed, ap length none))
+stops_before s t u (Ok (ending.Handed message)) got piece same none (inr was) = inr (subst (λ (x : List ℕ). EndsAt (x ++ got) u.buffer.items message) same was)
+stops_before s t u (Err (fault.LimitReached given most)) got piece same none was = was
+stops_before s t u _ got piece same none was = tt

@@ -9,7 +9,7 @@ use Rattle.pg_desk.specs.declared.event.Out.TheVariants as out
 use Rattle.pg_desk.specs.declared.event.Event.{Event}
 use Rattle.pg_desk.specs.declared.event.Event.TheVariants.{NextOut}
 use Rattle.pg_connect.specs.declared.streams.Streams.{Streams}
-use Rattle.pg_connect.specs.Passed.{bytes_out_in, moves_in}
+use Rattle.pg_connect.specs.Passed.{bytes_out_in, moves_in, parts_out_in}
 use Rattle.pg_connect.specs.Passes.{Passes, Goes}
 use Rattle.pg_connect.proofs.Joining.{passes-joined, goes-then, keeps_same, untouched_same}
 use Rattle.pg_connect.proofs.Sends.{passes_part, passes_nothing}
@@ -26,13 +26,13 @@ Joins {H} becomes = (a b c : H) (es fs : List Event) → becomes a es b → beco
 pub answered : {H : Type 0} (becomes : H → List Event → H → Type 0) → Joins becomes →
     (h i k : H) (a b c : Streams) (l m n : LinkView) (given answer : Result Out DeskFault) (F : List Event → Type 0) →
     Goes becomes h i a b l m [] Anything → Passes b c m n [] [] → c.unread ≡ None → becomes i (NextOut given ∷ []) k → given ≡ answer →
-    bytes_out_in (NextOut answer) ≡ [] → moves_in (NextOut answer) ≡ false →
+    bytes_out_in (NextOut answer) ≡ [] → parts_out_in (NextOut answer) ≡ [] → moves_in (NextOut answer) ≡ false →
     ((es : List Event) → F (es ++ NextOut answer ∷ [])) → Goes becomes h k a c l n [] F
-answered becomes joins h i k a b c l m n given answer F so_far offered read event is none still ends =
+answered becomes joins h i k a b c l m n given answer F so_far offered read event is none no_part still ends =
     goes-then becomes joins h i k a b c l m n [] [] (NextOut answer ∷ []) Anything F so_far (tt, tt)
     (subst (λ (r : Result Out DeskFault). becomes i (NextOut r ∷ []) k) is event)
     (passes-joined b c c m n n [] (NextOut answer ∷ []) [] [] offered
-    (passes_nothing c n n (NextOut answer ∷ []) read (untouched_same n) (keeps_same n) refl (ap (λ x. x ++ []) none) (ap (λ (b : Bool). b || false) still)))
+    (passes_nothing c n n (NextOut answer ∷ []) read (untouched_same n) (keeps_same n) refl (ap (λ x. x ++ []) none) (ap (λ x. x ++ []) no_part) (ap (λ (b : Bool). b || false) still)))
     (λ es was. ends es)
 
 -- a part came out
@@ -45,5 +45,5 @@ came_out becomes joins h i k a b c d l m n given part so_far offered read event 
     goes-then becomes joins h i k a b d l m n [] [] (e ∷ []) Anything Anything so_far (tt, tt)
     (subst (λ (r : Result Out DeskFault). becomes i (NextOut r ∷ []) k) is event)
     (passes-joined b c d m n n [] (e ∷ []) [] [] offered
-    (subst (λ (x : Streams). Passes c x n n (e ∷ []) []) (sym queued) (passes_part c n part (e ∷ []) read sent active refl (append-nil part) refl)))
+    (subst (λ (x : Streams). Passes c x n n (e ∷ []) []) (sym queued) (passes_part c n part (e ∷ []) read sent active refl (append-nil part) refl refl)))
     (λ es was. tt)

@@ -16,7 +16,7 @@ use Rattle.pg_connect.specs.declared.ends.Step.TheVariants as step
 use Rattle.pg_connect.specs.declared.ends.ReadEnd.{ReadEnd}
 use Rattle.pg_connect.specs.declared.ends.ReadEnd.TheVariants as ending
 use Rattle.pg_connect.specs.declared.streams.Streams.{Streams}
-use Rattle.pg_connect.specs.Passes.{Passes, PassesOn, Goes, Hands, Untouched, waiting}
+use Rattle.pg_connect.specs.Passes.{Passes, PassesOn, Goes, Hands, Untouched, delayed_in, waiting}
 use Rattle.pg_connect.specs.Ends.{last_is, some_is}
 use Rattle.pg_connect.specs.Reads.{HandedOff, OffEnds, DeliverEnds, PassEnds, AllEnds, PieceEnds, ReadEnds, HandedIn, HandedAll, AllDecoded, EndsAt, LastGivesBack, MeetsFull, MeetsNoRequest, NoneFull, WasDry, EndsInside, LeavesDelayed, RefusesFirst, is_full}
 use Rattle.pg_connect.proofs.Joining.{calls-then, none_lost, passes-joined, promised_still, rose_later, unmoved_before}
@@ -195,21 +195,22 @@ held_refused t a b (fault.LimitReached given most) events is = absurd is
 pub decoded_same : (s t : Streams) → t.buffer.items ≡ s.buffer.items → AllDecoded s → AllDecoded t
 decoded_same s t same was = record { none_whole = ap messages same ∙ was.none_whole; no_bad_header = ap has_bad_header same ∙ was.no_bad_header }
 
-pub piece_refused : (s t : Streams) (a b c : LinkView) (e : ConnectionFault) (events : List Event) → Keeps a b → AllDecoded s → t.held ≡ None → PieceEnds s t b c (Err e) → ReadEnds t a c (Err e) events
-piece_refused s t a b c fault.Link events keeps decoded none is = rose_later a.faults b.faults c.faults keeps.counts.faults is
-piece_refused s t a b c fault.Closed events keeps decoded none is = (rose_later a.ends b.ends c.ends keeps.counts.ends is.0, is.1, ap waiting none)
-piece_refused s t a b c fault.Ended events keeps decoded none is = record {
+pub piece_refused : (s t : Streams) (a b c : LinkView) (e : ConnectionFault) (events : List Event) → Keeps a b → AllDecoded s → t.held ≡ None → delayed_in t ≡ [] → PieceEnds s t b c (Err e) → ReadEnds t a c (Err e) events
+piece_refused s t a b c fault.Link events keeps decoded none late is = rose_later a.faults b.faults c.faults keeps.counts.faults is
+piece_refused s t a b c fault.Closed events keeps decoded none late is = (rose_later a.ends b.ends c.ends keeps.counts.ends is.0, is.1, ap waiting none, late)
+piece_refused s t a b c fault.Ended events keeps decoded none late is = record {
   rose = rose_later a.ends b.ends c.ends keeps.counts.ends is.0;
   some = is.1;
   decoded = decoded_same s t is.2 decoded;
   held = ap waiting none;
+  delayed = late;
 }
-piece_refused s t a b c (fault.LimitReached given most) events keeps decoded none is = (is.0, is.1, is.2, record { piece = is.3; undecoded = is.4; held = ap waiting none })
-piece_refused s t a b c fault.OutOfMemory events keeps decoded none is = tt
-piece_refused s t a b c fault.BadLength events keeps decoded none is = absurd is
-piece_refused s t a b c fault.Layout events keeps decoded none is = absurd is
-piece_refused s t a b c (fault.Unreadable cause) events keeps decoded none is = absurd is
-piece_refused s t a b c (fault.Unasked e) events keeps decoded none is = absurd is
+piece_refused s t a b c (fault.LimitReached given most) events keeps decoded none late is = (is.0, is.1, is.2, record { piece = is.3; undecoded = is.4; held = ap waiting none; delayed = late })
+piece_refused s t a b c fault.OutOfMemory events keeps decoded none late is = tt
+piece_refused s t a b c fault.BadLength events keeps decoded none late is = absurd is
+piece_refused s t a b c fault.Layout events keeps decoded none late is = absurd is
+piece_refused s t a b c (fault.Unreadable cause) events keeps decoded none late is = absurd is
+piece_refused s t a b c (fault.Unasked e) events keeps decoded none late is = absurd is
 
 -- what was taken off, at the arm's own value
 pub record TakenOff (s t : Streams) (x : Off) : Type 0 where

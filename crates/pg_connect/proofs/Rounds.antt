@@ -24,11 +24,12 @@ use Rattle.pg_connect.specs.declared.streams.Streams.{Streams}
 use Rattle.pg_connect.specs.Passes.{Passes, Goes, Hands, OnlyReads, OnlySends, Untouched, waiting}
 use Rattle.pg_connect.specs.Ends.{IsFlushedFrom, WasBlocked, last_is, some_is, has_no_more, Closes, Written, WriteEnds}
 use Rattle.pg_connect.specs.Reads.{EndsAt, Paced, ReadsOn, ReadStops, StopsAt, ReadEnds, LastGivesBack, NothingDue, WasDry, AllDecoded, IsCleared, EndsInside, Carries, HandedBy, is_full}
-use Rattle.pg_connect.specs.Polls.{Shuts, SomeGivesBack, TurnStops, is_last_turn, is_over_sent, is_shut_down, ClosesThen, FlushEnds, SendEnds, SendWaits, Sends, StopsWriting, TurnEnds, TurnFails, ClosesBy, Turns, HandedTurn, Waits, ReadDry, BeganToClose, NothingDueBefore}
+use Rattle.pg_connect.specs.Polls.{Shuts, SomeGivesBack, TurnStops, is_last_turn, is_over_sent, is_shut_down, ClosesThen, FlushEnds, SendEnds, SendWaits, Sends, StopsWriting, TurnEnds, TurnFails, ClosesBy, Turns, HandedTurn, Waits, WasDue, ReadDry, BeganToClose, NothingDueBefore}
 use Rattle.pg_connect.proofs.Clearing.{still_cleared}
-use Rattle.pg_connect.proofs.Joining.{calls-then, joined-got, passes-joined, goes-also, rose_later, rose_before, blocked_later, unmoved_before}
+use Rattle.pg_connect.proofs.Joining.{calls-then, passes-joined, goes-also, rose_later, rose_before, blocked_later, unmoved_before}
+use Rattle.pg_connect.proofs.Dues.{none_due, was_due}
 use Rattle.pg_connect.proofs.Sends.{passes_nothing}
-use Rattle.pg_connect.proofs.Pacing.{paced_later, paced_none, no_more, handed-as}
+use Rattle.pg_connect.proofs.Pacing.{paced_later, paced_none, no_more, got_before, handed-as}
 use Rattle.pg_connect.proofs.Parts.{Joins}
 use Rattle.pg_connect.proofs.Passing.{last_behind, decoded_same, untouched_first}
 
@@ -44,7 +45,7 @@ pub flushed : {H : Type 0} (becomes : H → List Event → H → Type 0) (h i : 
     ((es : List Event) → Keeps l m → (t.moved ≡ false → Untouched l m) → WriteEnds t l m (Ok writes.AllTaken) es → SendEnds t l n r es) →
     Goes becomes h i s t l n [] (Sends s t l n may r)
 flushed becomes h i s t l m n may w r read all goes same keeps shuts ends =
-    goes-also becomes h i s t t l m n [] [] (Written s t l m may (Ok w)) (Sends s t l n may r) goes (passes_nothing t m n [] read same keeps refl refl refl)
+    goes-also becomes h i s t t l m n [] [] (Written s t l m may (Ok w)) (Sends s t l n may r) goes (passes_nothing t m n [] read same keeps refl refl refl refl)
     (λ es was. record {
       end = ends es goes.passes.link goes.passes.still (subst (λ (x : WriteEnd). WriteEnds t l m (Ok x) es) all was.end);
       shut = shuts;
@@ -183,6 +184,11 @@ send_error s t l m n fault.Closed es fs keeps is = inr (last_behind _ es fs is)
 send_error s t l m n fault.OutOfMemory es fs keeps is = tt
 send_error s t l m n _ es fs keeps is = absurd is
 
+-- sending never meets the limit
+stops_sent : (s t : Streams) (l m : LinkView) (e : ConnectionFault) (es : List Event) (got piece : List ℕ) → SendEnds t l m (Err e) es → TurnStops s t (Err e) got piece
+stops_sent s t l m (fault.LimitReached given limit) es got piece is = absurd is
+stops_sent s t l m _ es got piece is = tt
+
 -- where it closes, it did so before, or began by what the hub said last
 closes_by : (s mid t : Streams) (may : Bool) (es fs : List Event) → mid.closing ≡ s.closing → Closes mid t may fs → ClosesBy s t (es ++ fs)
 closes_by s mid t may es fs same closes x = elim (closes x) [
@@ -192,7 +198,7 @@ closes_by s mid t may es fs same closes x = elim (closes x) [
 
 read_fails : (s t : Streams) (l n : LinkView) (e : ConnectionFault) (es : List Event) → s.closing ≡ false → t.closing ≡ s.closing → ReadEnds t l n (Err e) es → TurnFails s t l n e es
 read_fails s t l n fault.Link es active same is = is
-read_fails s t l n fault.Closed es active same is = inl (record { rose = is.0; buffer = is.1; held = is.2; active = active; stays = same ∙ active })
+read_fails s t l n fault.Closed es active same is = inl (record { rose = is.0; buffer = is.1; held = is.2; delayed = is.3; active = active; stays = same ∙ active })
 read_fails s t l n fault.Ended es active same is = is
 read_fails s t l n fault.BadLength es active same is = is
 read_fails s t l n fault.Layout es active same is = is
@@ -210,6 +216,11 @@ handed_stops a b c message got same held (inl was) =
     inl (record { delayed = was.delayed; none_read = was.none_read; buffer = same ∙ was.buffer; held = ap waiting held ∙ was.held })
 handed_stops a b c message got same held (inr was) = inr (subst (λ (x : List ℕ). EndsAt (a.buffer.items ++ got) x message) (sym same) was)
 
+-- where a read step failed
+stops_read : (s t : Streams) (e : ConnectionFault) (got piece : List ℕ) → ReadStops s t (Err e) got piece → TurnStops s t (Err e) got piece
+stops_read s t (fault.LimitReached given limit) got piece was = was
+stops_read s t _ got piece was = tt
+
 -- a turn whose read step failed
 pub turned_read : {H : Type 0} (becomes : H → List Event → H → Type 0) (h i : H) (s t : Streams) (l m : LinkView) (e : ConnectionFault) → s.closing ≡ false → t.closing ≡ s.closing →
     ReadsOn becomes h i s t l m (HandedBy (Err e)) (ReadEnds t l m (Err e)) (ReadStops s t (Err e)) → m.shut ≡ l.shut → Turns becomes h i s t l m (Err e)
@@ -226,21 +237,23 @@ turned_read becomes h i s t l m e active same first shuts =
         ended = read_error s t l m e goes.events active same goes.ended;
       };
       paced = first.paced;
-      stops = tt;
+      stops = stops_read s t e goes.passes.got first.paced.piece first.stops_there;
+      reads_first = was_due l.due m.due goes.passes.got first.due;
       shut = shuts;
     }
 
 -- both steps, with what each says of its events, as one turn
 turns-all : {H : Type 0} (becomes : H → List Event → H → Type 0) → Joins becomes → (h i k : H) (a b c : Streams) (l m n : LinkView)
-    (W : List RawMessage → Type 0) (E F : List Event → Type 0) (S : List ℕ → Type 0) (r : Result TurnEnd ConnectionFault) →
+    (W : List RawMessage → Type 0) (E F : List Event → Type 0) (S : (got piece : List ℕ) → Type 0) (r : Result TurnEnd ConnectionFault) →
     (first : ReadsOn becomes h i a b l m W E S) → Goes becomes i k b c m n [] F → c.given ≡ b.given → HandedTurn r first.hands.handed →
-    ((es fs : List Event) → E es → F fs → TurnEnds a c l n r (es ++ fs)) → ((got : List ℕ) → S got → TurnStops a c r got) → Shuts (is_last_turn r) l n → Turns becomes h k a c l n r
+    ((es fs : List Event) → E es → F fs → TurnEnds a c l n r (es ++ fs)) → ((got piece : List ℕ) → S got piece → TurnStops a c r got piece) → Shuts (is_last_turn r) l n → Turns becomes h k a c l n r
 turns-all becomes joins h i k a b c l m n W E F S r first more same which ends stops shuts =
     let hs = first.hands.handed in
     let goes = first.hands.goes in
     let es = goes.events in
     let fs = more.events in
     let passes : Passes a c l n (es ++ fs) (hs ++ []) = passes-joined a b c l m n es fs hs [] goes.passes more.passes in
+    let all : passes.got ≡ goes.passes.got = got_before a b c l m n es fs hs [] goes.passes more.passes same in
     record {
       handed = hs;
       which = which;
@@ -251,12 +264,9 @@ turns-all becomes joins h i k a b c l m n W E F S r first more same which ends s
         passes = handed-as a c l n (es ++ fs) (hs ++ []) hs (append-nil hs) passes;
         ended = ends es fs goes.ended more.ended;
       };
-      paced = subst (λ (x : List ℕ). Paced a x (es ++ fs))
-          (sym (joined-got a b c l m n es fs hs [] goes.passes more.passes))
-          (paced_later a goes.passes.got more.passes.got es fs (no_more b c m n fs [] more.passes same) first.paced);
-      stops = subst (λ (x : List ℕ). TurnStops a c r x)
-          (sym (joined-got a b c l m n es fs hs [] goes.passes more.passes ∙ ap (λ (x : List ℕ). goes.passes.got ++ x) (no_more b c m n fs [] more.passes same) ∙ append-nil goes.passes.got))
-          (stops goes.passes.got first.stops_there);
+      paced = paced_later a goes.passes.got passes.got es fs all first.paced;
+      stops = subst (λ (x : List ℕ). TurnStops a c r x first.paced.piece) (sym all) (stops goes.passes.got first.paced.piece first.stops_there);
+      reads_first = subst (λ (x : List ℕ). WasDue l x) (sym all) (was_due l.due m.due goes.passes.got first.due);
       shut = shuts;
     }
 
@@ -278,7 +288,7 @@ turned_handed becomes joins h i k a b c l m n message active reads sends first m
       active = active;
       stays = stays_open a b c fs active reads.closing f.closes;
       writing = written_later c l m n es fs first.hands.goes.passes.link reads.shut (untouched_first a b c l m n _ _ _ _ first.hands.goes.passes more.passes) f.end.writing;
-    }) (λ got was. handed_stops a b c message got sends.buffer sends.held was) (more.ended.shut ∙ reads.shut)
+    }) (λ got piece was. handed_stops a b c message got sends.buffer sends.held was) (more.ended.shut ∙ reads.shut)
 
 pub turned_full : {H : Type 0} (becomes : H → List Event → H → Type 0) → Joins becomes → (h i k : H) (a b c : Streams) (l m n : LinkView) →
     a.closing ≡ false → OnlyReads a b l m → OnlySends b c m n → ReadsOn becomes h i a b l m (HandedBy (Ok ending.Full)) (ReadEnds b l m (Ok ending.Full)) (ReadStops a b (Ok ending.Full)) →
@@ -293,7 +303,7 @@ turned_full becomes joins h i k a b c l m n active reads sends first more =
       began = λ x. absurd (not_both c.closing x (stays_open a b c fs active reads.closing f.closes));
       must = λ allowed none. absurd (not_full (some_is is_full (es ++ fs)) (some_of_last is_full es fs e.0.0) allowed);
       still = λ x. absurd (not_both a.closing x active);
-    }) (λ got was. tt) (more.ended.shut ∙ reads.shut)
+    }) (λ got piece was. tt) (more.ended.shut ∙ reads.shut)
 
 pub turned_dry : {H : Type 0} (becomes : H → List Event → H → Type 0) → Joins becomes → (h i k : H) (a b c : Streams) (l m n : LinkView) →
     a.closing ≡ false → OnlyReads a b l m → OnlySends b c m n → ReadsOn becomes h i a b l m (HandedBy (Ok ending.Dry)) (ReadEnds b l m (Ok ending.Dry)) (ReadStops a b (Ok ending.Dry)) →
@@ -310,7 +320,7 @@ turned_dry becomes joins h i k a b c l m n active reads sends first more =
       began = closes_dry a b c l n es fs reads.closing dry f.closes;
       must = λ allowed none. must_close c l m n es fs first.hands.goes.passes.link (untouched_first a b c l m n _ _ _ _ first.hands.goes.passes more.passes) f.end.writing f.must none;
       still = λ x. absurd (not_both a.closing x active);
-    }) (λ got was. tt) (more.ended.shut ∙ reads.shut)
+    }) (λ got piece was. tt) (more.ended.shut ∙ reads.shut)
 
 pub turned_over : {H : Type 0} (becomes : H → List Event → H → Type 0) → Joins becomes → (h i k : H) (a b c : Streams) (l m n : LinkView) →
     a.closing ≡ false → OnlyReads a b l m → OnlySends b c m n → ReadsOn becomes h i a b l m (HandedBy (Ok ending.Dry)) (ReadEnds b l m (Ok ending.Dry)) (ReadStops a b (Ok ending.Dry)) →
@@ -324,7 +334,7 @@ turned_over becomes joins h i k a b c l m n active reads sends first more =
       shut = f.shut;
       began = closes_dry a b c l n es fs reads.closing (dry_turn a b c l m n more.events more.passes reads sends e) f.closes;
       still = λ x. absurd (not_both a.closing x active);
-    }) (λ got was. tt) more.ended.shut
+    }) (λ got piece was. tt) more.ended.shut
 
 -- a connection that may not close isn't over
 pub never_over : {H R : Type 0} (becomes : H → List Event → H → Type 0) (i k : H) (a b c : Streams) (l m n : LinkView) → a.closing ≡ false → OnlyReads a b l m →
@@ -333,22 +343,24 @@ never_over becomes i k a b c l m n active reads more =
     absurd (not_both c.closing more.ended.end.0 (stays_open a b c more.events active reads.closing more.ended.closes))
 
 pub turned_error : {H : Type 0} (becomes : H → List Event → H → Type 0) → Joins becomes → (h i k : H) (a b c : Streams) (l m n : LinkView) (may : Bool)
-    (W : List RawMessage → Type 0) (E : List Event → Type 0) (S : List ℕ → Type 0) (e : ConnectionFault) →
+    (W : List RawMessage → Type 0) (E : List Event → Type 0) (S : (got piece : List ℕ) → Type 0) (e : ConnectionFault) →
     a.closing ≡ false → OnlyReads a b l m → OnlySends b c m n → ReadsOn becomes h i a b l m W E S → Goes becomes i k b c m n [] (Sends b c m n may (Err e)) → Turns becomes h k a c l n (Err e)
 turned_error becomes joins h i k a b c l m n may W E S e active reads sends first more =
     turns-all becomes joins h i k a b c l m n W E (Sends b c m n may (Err e)) S (Err e) first more sends.count tt
-    (λ es fs x f. (closes_by a b c may es fs reads.closing f.closes, send_error a c l m n e es fs first.hands.goes.passes.link f.end, λ x. absurd (not_both a.closing x active))) (λ got was. tt) (more.ended.shut ∙ reads.shut)
+    (λ es fs x f. (closes_by a b c may es fs reads.closing f.closes, send_error a c l m n e es fs first.hands.goes.passes.link f.end, λ x. absurd (not_both a.closing x active)))
+    (λ got piece was. stops_sent a c m n e more.events got piece more.ended.end) (more.ended.shut ∙ reads.shut)
 
 -- a turn that reads nothing
 pub turned_closing : {H : Type 0} (becomes : H → List Event → H → Type 0) (h i : H) (s t : Streams) (l m : LinkView) (x : SendEnd) (r : Result TurnEnd ConnectionFault) →
-    ((handed : List RawMessage) → handed ≡ [] → HandedTurn r handed) → ((got : List ℕ) → TurnStops s t r got) → OnlySends s t l m → Goes becomes h i s t l m [] (Sends s t l m false (Ok x)) →
+    ((handed : List RawMessage) → handed ≡ [] → HandedTurn r handed) → ((got piece : List ℕ) → TurnStops s t r got piece) → OnlySends s t l m → Goes becomes h i s t l m [] (Sends s t l m false (Ok x)) →
     ((es : List Event) → Sends s t l m false (Ok x) es → TurnEnds s t l m r es) → is_over_sent (Ok x) ≡ is_last_turn r → Turns becomes h i s t l m r
 turned_closing becomes h i s t l m x r none stops only goes ends told = record {
   handed = [];
   which = none [] refl;
   goes = record { events = goes.events; calls = goes.calls; became = goes.became; passes = goes.passes; ended = ends goes.events goes.ended };
   paced = paced_none s goes.passes.got goes.events (no_more s t l m goes.events [] goes.passes only.count);
-  stops = stops goes.passes.got;
+  stops = stops goes.passes.got [];
+  reads_first = none_due l.due goes.passes.got (no_more s t l m goes.events [] goes.passes only.count);
   shut = subst (λ (b : Bool). Shuts b l m) told goes.ended.shut;
 }
 
@@ -379,6 +391,7 @@ closing_error becomes h i s t l m e closing only goes = record {
   which = tt;
   goes = record { events = goes.events; calls = goes.calls; became = goes.became; passes = goes.passes; ended = (λ x. inl closing, closing_failed s t l m e goes.events goes.ended.end, λ x. only) };
   paced = paced_none s goes.passes.got goes.events (no_more s t l m goes.events [] goes.passes only.count);
-  stops = tt;
+  stops = stops_sent s t l m e goes.events goes.passes.got [] goes.ended.end;
+  reads_first = none_due l.due goes.passes.got (no_more s t l m goes.events [] goes.passes only.count);
   shut = goes.ended.shut;
 }

@@ -10,6 +10,7 @@ use Rattle.pg_spec.specs.RawMessages.{RawMessage, messages, bytes_left, message_
 use Rattle.pg_spec.proofs.Readers.{items_of-some, items_of-none}
 use Rattle.pg_spec.proofs.MessageLaws.{message_at-Shrinks}
 use Rattle.pg_wire.specs.Decode.{CutsOff}
+use Rattle.pg_wire.proofs.Cuts.{messages_of_one, left_of_none}
 
 -- the bytes of the messages
 abbrev pub sizes : List RawMessage → ℕ
@@ -77,3 +78,11 @@ some_came_off old new [] cut =
     let none = cut.messages in
     absurd (omega (arith, sized old, sized new, ap sizes none, ap length cut.left, cut.shorter))
 some_came_off old new (m ∷ front) cut = omega arith
+
+-- where no message is whole, all is left
+pub all-left : (bytes : List ℕ) → messages bytes ≡ [] → bytes_left bytes ≡ bytes
+all-left bytes none = by_front (message_at bytes) refl
+  where
+    by_front : (o : Option (RawMessage × List ℕ)) → message_at bytes ≡ o → bytes_left bytes ≡ bytes
+    by_front None e = left_of_none bytes e
+    by_front (Some first) e = absurd (let no : first.0 ∷ messages first.1 ≡ [] = sym (messages_of_one bytes first.0 first.1 e) ∙ none in cc)

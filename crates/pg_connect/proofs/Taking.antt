@@ -1,4 +1,5 @@
 -- What is taken off the front of the bytes.
+use Rattle.std.proofs.lemmas.List.{append-nil}
 use Rattle.std.proofs.Common.{◌≡◌, ℕ, ◌<◌, ◌+◌, Bool, true, false, not, List, [], ◌∷◌, ◌++◌, length, map, take, drop, Option, Some, None, Result, Ok, Err, refl, sym, ap, subst, ◌∙◌}
 use Rattle.std.specs.declared.alloc.Global.{Global}
 use Rattle.bytes.specs.declared.unique.BytesMut.{BytesMut}
@@ -22,8 +23,9 @@ use Rattle.pg_connect.specs.declared.streams.Streams.{Streams}
 use Rattle.pg_connect.specs.Kept.{keep}
 use Rattle.pg_connect.specs.Passes.{Passes, PassesOn, Untouched, notice_of, delayed_in, waiting}
 use Rattle.pg_spec.specs.RawMessages.{messages}
-use Rattle.pg_connect.specs.Reads.{TakesAside, HandedOff, OffEnds, Carries, FirstReads}
+use Rattle.pg_connect.specs.Reads.{TakesAside, TakesIn, HandedOff, OffEnds, Carries, FirstReads}
 use Rattle.pg_connect.specs.declared.fault.ConnectionFault.TheVariants as fault
+use Rattle.pg_connect.proofs.Dues.{due_none, due_front}
 use Rattle.pg_connect.proofs.Joining.{keeps_same}
 use Rattle.pg_connect.proofs.Sends.{or_false, or_true, some_taken}
 use Rattle.pg_connect.proofs.Sorting.{sorted_handed, kept_aside}
@@ -66,9 +68,9 @@ aside_taken s mid t l message (Err e) read free none cut same takes =
     }
 
 -- how taking a message aside off ended
-pub aside_ends : (s mid t : Streams) (message : Message) (r : Result Off ConnectionFault) → s.held ≡ None → CutsAside s.buffer.items mid.buffer.items message →
+pub aside_ends : (s mid t : Streams) (message : Message) (r : Result Off ConnectionFault) → s.held ≡ None → delayed_in s ≡ [] → CutsAside s.buffer.items mid.buffer.items message →
     mid ≡ record s { buffer = mid.buffer } → TakesAside mid t message r → OffEnds s t r
-aside_ends s mid t message (Ok (off.Handed handed)) none cut same takes =
+aside_ends s mid t message (Ok (off.Handed handed)) none late cut same takes =
     let left : mid.buffer.items ≡ t.buffer.items = sym (ap (λ (x : Streams). x.buffer.items) takes.1) in
     record {
       front = [];
@@ -76,21 +78,22 @@ aside_ends s mid t message (Ok (off.Handed handed)) none cut same takes =
       is = cut.cuts.messages ∙ ap (λ (x : List ℕ). cut.raw ∷ messages x) left;
       means = (sorted_handed cut.raw (message_view message) (errors.async_of handed) cut.aside cut.means takes.0).1;
     }
-aside_ends s mid t message (Ok off.Kept) none cut same takes =
+aside_ends s mid t message (Ok off.Kept) none late cut same takes =
     let kept = kept_aside mid t message cut.raw cut.aside cut.means takes in (
       subst (λ (x : Streams). length x.buffer.items < length s.buffer.items) (sym kept.same) cut.cuts.shorter,
       ap (λ (x : Streams). x.held) kept.same ∙ ap (λ (x : Streams). x.held) same ∙ none,
     )
-aside_ends s mid t message (Ok off.Held) none cut same takes = absurd takes
-aside_ends s mid t message (Ok off.Nothing) none cut same takes = absurd takes
-aside_ends s mid t message (Err (fault.Unreadable c)) none cut same takes = record {
+aside_ends s mid t message (Ok off.Held) none late cut same takes = absurd takes
+aside_ends s mid t message (Ok off.Nothing) none late cut same takes = absurd takes
+aside_ends s mid t message (Err (fault.Unreadable c)) none late cut same takes = record {
   message = message;
   unread = ap (λ (x : Streams). x.unread) takes.1;
   means = takes.0;
   held = ap (λ (x : Streams). waiting x.held) takes.1 ∙ ap (λ (x : Streams). waiting x.held) same ∙ ap waiting none;
+  delayed = ap delayed_in takes.1 ∙ ap delayed_in same ∙ late;
 }
-aside_ends s mid t message (Err fault.OutOfMemory) none cut same takes = tt
-aside_ends s mid t message (Err _) none cut same takes = absurd takes.0
+aside_ends s mid t message (Err fault.OutOfMemory) none late cut same takes = tt
+aside_ends s mid t message (Err _) none late cut same takes = absurd takes.0
 
 -- a refusal leaves the bytes
 pub decode_refused : (old new : List ℕ) (e : WireFault) → Decodes old new (Err e) → new ≡ old
@@ -106,11 +109,15 @@ not_true false e = refl
 
 -- the link gave a piece, and it was taken in
 pub piece_taken : (s t : Streams) (l m : LinkView) (out : List ℕ) (n : ℕ) → s.unread ≡ None → Gives l m out n → Keeps l m →
-    t.buffer.items ≡ s.buffer.items ++ take n out → t ≡ record s { buffer = t.buffer; given = s.given + length (take n out); moved = true } → Passes s t l m [] []
+    t.buffer.items ≡ s.buffer.items ++ take n out → t ≡ record s { buffer = t.buffer; given = s.given + length (take n out); moved = true } → TakesIn s t l m
 piece_taken s t l m out n read gives keeps buffer same =
-    subst (λ (x : Streams). Passes s x l m [] []) (sym same)
-    (reads_piece s (record s { buffer = t.buffer; given = s.given + length (take n out); moved = true }) l m (take n out) read read gives.given gives.taken buffer
-    refl refl refl refl refl (record { unsent = refl; closing = refl; limit = refl; ended = refl; at_end = refl }) (not_true (is_nothing (take n out)) (some_taken n out gives.some gives.fits)) refl keeps)
+    subst (λ (x : Streams). TakesIn s x l m) (sym same)
+    (record {
+      passes = reads_piece s (record s { buffer = t.buffer; given = s.given + length (take n out); moved = true }) l m (take n out) read read gives.given gives.taken buffer
+          refl refl refl refl refl (record { unsent = refl; closing = refl; limit = refl; ended = refl; at_end = refl }) (not_true (is_nothing (take n out)) (some_taken n out gives.some gives.fits)) refl keeps;
+      buffer = buffer;
+      due = due_front l.due m.due n (take n out) gives.front gives.due;
+    })
 
 -- nothing was read: the bytes are as before, wherever they stand
 pub piece_none : (s : Streams) (b : BytesMut Global) (l m : LinkView) → s.unread ≡ None → b.items ≡ s.buffer.items → Untouched l m → Keeps l m →
@@ -120,13 +127,27 @@ piece_none s b l m read same bytes keeps =
     (record { buffer = same; unread = read; held = refl; delayed = refl; parameters = refl; given = refl; delivered = refl })
     (record { unsent = refl; closing = refl; limit = refl; ended = refl; at_end = refl }) refl keeps
 
+-- the same of a read
+pub piece_still : (s : Streams) (b : BytesMut Global) (l m : LinkView) → s.unread ≡ None → b.items ≡ s.buffer.items → Untouched l m → Keeps l m →
+    TakesIn s (record s { buffer = b }) l m
+piece_still s b l m read same bytes keeps = record {
+  passes = reads_nothing s (record s { buffer = b }) l m read bytes
+      (record { buffer = same; unread = read; held = refl; delayed = refl; parameters = refl; given = refl; delivered = refl })
+      (record { unsent = refl; closing = refl; limit = refl; ended = refl; at_end = refl }) refl keeps;
+  buffer = same ∙ sym (append-nil s.buffer.items);
+  due = due_none l.due m.due [] bytes.bytes.due refl;
+}
+
 -- the link gave its end
 pub piece_end : (s : Streams) (b : BytesMut Global) (l m : LinkView) → s.unread ≡ None → b.items ≡ s.buffer.items → SameBytes l m → Rose l.ends m.ends → Keeps l m →
-    Passes s (record s { buffer = b; moved = true; at_end = true }) l m [] []
-piece_end s b l m read same bytes rose keeps =
-    reads_end s (record s { buffer = b; moved = true; at_end = true }) l m read bytes
-    (record { buffer = same; unread = read; held = refl; delayed = refl; parameters = refl; given = refl; delivered = refl })
-    (record { unsent = refl; closing = refl; limit = refl; ended = refl }) refl refl rose keeps
+    TakesIn s (record s { buffer = b; moved = true; at_end = true }) l m
+piece_end s b l m read same bytes rose keeps = record {
+  passes = reads_end s (record s { buffer = b; moved = true; at_end = true }) l m read bytes
+      (record { buffer = same; unread = read; held = refl; delayed = refl; parameters = refl; given = refl; delivered = refl })
+      (record { unsent = refl; closing = refl; limit = refl; ended = refl }) refl refl rose keeps;
+  buffer = same ∙ sym (append-nil s.buffer.items);
+  due = due_none l.due m.due [] bytes.due refl;
+}
 
 -- a notice that was delayed is handed out
 pub delayed_taken : (s t : Streams) (l : LinkView) (e : DbError) → s.unread ≡ None → FirstReads s e → t.delayed.items ≡ drop 1 s.delayed.items →

@@ -26,6 +26,21 @@ abbrev pub bytes_out_by : List Event → List ℕ
 bytes_out_by [] = []
 bytes_out_by (e ∷ es) = bytes_out_in e ++ bytes_out_by es
 
+-- a part that went out
+abbrev pub parts_out_in : Event → List (List ℕ)
+parts_out_in (NextOut (Ok (Part part))) = part ∷ []
+parts_out_in _ = []
+
+-- the parts that went out, in order
+abbrev pub parts_out_by : List Event → List (List ℕ)
+parts_out_by [] = []
+parts_out_by (e ∷ es) = parts_out_in e ++ parts_out_by es
+
+-- the last of some parts, or else these bytes
+abbrev pub last_part : List ℕ → List (List ℕ) → List ℕ
+last_part bytes [] = bytes
+last_part bytes (part ∷ parts) = last_part part parts
+
 -- the hub took or discarded a batch, or handed a part out
 abbrev pub moves_in : Event → Bool
 moves_in (NextOut (Ok (Part part))) = true

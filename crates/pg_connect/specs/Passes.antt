@@ -1,5 +1,5 @@
 -- What some calls of a connection passed on, from the link to the hub and from the hub to the link.
-use Rattle.std.specs.Prelude.{◌≡◌, ℕ, ◌+◌, ◌-◌, ◌^◌, min, max, Bool, true, false, not, ◌||◌, IsTrue, List, [], ◌∷◌, ◌++◌, length, map, Option, Some, None, Ok}
+use Rattle.std.specs.Prelude.{◌≡◌, ℕ, ◌+◌, ◌-◌, ◌^◌, ◌⊎◌, min, max, Bool, true, false, not, ◌||◌, IsTrue, List, [], ◌∷◌, ◌++◌, length, map, Option, Some, None, Ok}
 use Rattle.std.specs.List.{list_all, list_any}
 use Rattle.std.specs.Str.{byte}
 use Rattle.pg_spec.specs.Batches.{is_nothing}
@@ -17,7 +17,7 @@ use Rattle.pg_desk.specs.declared.event.Event.{Event}
 use Rattle.pg_connect.specs.declared.streams.Held.{Held}
 use Rattle.pg_connect.specs.declared.streams.Streams.{Streams}
 use Rattle.pg_connect.specs.Kept.{keep_all}
-use Rattle.pg_connect.specs.Passed.{AllEngineCalls, delivered_by, bytes_out_by, moves_in}
+use Rattle.pg_connect.specs.Passed.{AllEngineCalls, delivered_by, bytes_out_by, last_part, moves_in, parts_out_by}
 
 -- the messages of a batch that is held
 abbrev pub waiting : Option Held → List RawMessage
@@ -54,6 +54,12 @@ goodbye true later = []
 goodbye false true = terminate_frame
 goodbye false false = []
 
+-- the same, as the parts that are queued
+abbrev pub farewell : Bool → Bool → List (List ℕ)
+farewell true later = []
+farewell false true = terminate_frame ∷ []
+farewell false false = []
+
 -- a byte was given or taken, a message handed out, a batch delivered or discarded, or a part taken out
 abbrev pub moves : (got sent : List ℕ) (handed : List RawMessage) (events : List Event) → Bool
 moves got sent handed events = (not (is_nothing got) || not (is_nothing sent)) || (not (is_nothing handed) || list_any moves_in events)
@@ -67,9 +73,13 @@ pub record Untouched (before after : LinkView) : Type 0 where
   pub bytes : SameBytes before after
   pub promised : after.promised ≡ before.promised
 
--- this batch is the last of these messages
-abbrev pub StandsLast : (batch all : List RawMessage) → Type 0
-StandsLast batch all = (front : List RawMessage) × (all ≡ front ++ batch)
+-- these are the last of all
+abbrev pub StandsLast : {X : Type 0} → (last all : List X) → Type 0
+StandsLast {X} last all = (front : List X) × (all ≡ front ++ last)
+
+-- The batch that is held is the one that was, and nothing came off, or it is the last of what came off.
+abbrev pub HoldsLast : (before now off : List RawMessage) → Type 0
+HoldsLast before now off = ((now ≡ before) × (off ≡ [])) ⊎ StandsLast now off
 
 -- In these calls the link gave and took bytes, messages were read, the hub took messages and handed out
 -- parts by these events, and these messages were handed out.
@@ -92,14 +102,16 @@ pub record Passes (old new : Streams) (before after : LinkView) (events : List E
   pub readable : IsTrue (list_all is_readable read)
   -- what was held or read is delivered in order, or held
   pub delivered : waiting old.held ++ sync_of read ≡ delivered_by events ++ waiting new.held
-  -- the batch that is held is the last of what was held or came off
-  pub held_last : StandsLast (waiting new.held) (waiting old.held ++ (read ++ lost))
+  -- the batch that is held was so before, or came off last
+  pub held_last : HoldsLast (waiting old.held) (waiting new.held) (read ++ lost)
   -- what was delayed or read is handed out in order, or delayed
   pub handed_out : delayed_in old ++ async_of read ≡ handed ++ delayed_in new
   -- of the reports that were read the last for each name is kept
   pub kept : new.parameters ≡ keep_all old.parameters (parameter_reports read)
   -- what was unsent or went out is taken in order, or unsent; Terminate comes last
   pub out : (old.unsent ++ bytes_out_by events) ++ goodbye old.closing new.closing ≡ sent ++ new.unsent
+  -- and no more than the rest of one part is unsent: a part goes out once the one before was taken
+  pub one_part : StandsLast new.unsent (last_part old.unsent (parts_out_by events ++ farewell old.closing new.closing))
   pub still_closing : IsTrue old.closing → IsTrue new.closing
   pub nothing_more : IsTrue old.closing → bytes_out_by events ≡ []
   pub count : new.given ≡ old.given + length got

@@ -1,5 +1,5 @@
 -- How a turn of the connection ends, and why.
-use Rattle.std.specs.Prelude.{◌≡◌, ℕ, ◌<◌, ◌⊎◌, Bool, true, false, not, IsTrue, ◌||◌, List, [], ◌∷◌, length, Some, IfSome, OnOk, Result, Ok, Err}
+use Rattle.std.specs.Prelude.{◌≡◌, ℕ, ◌<◌, ◌⊎◌, Bool, true, false, not, IsTrue, ◌||◌, List, [], ◌∷◌, ◌++◌, length, Some, IfSome, OnOk, Result, Ok, Err}
 use Rattle.pg_spec.specs.Links.{LinkView, Rose, due_by}
 use Rattle.pg_spec.specs.RawMessages.{RawMessage}
 use Rattle.pg_desk.specs.declared.event.Event.{Event}
@@ -13,7 +13,7 @@ use Rattle.pg_connect.specs.declared.ends.TurnEnd.{TurnEnd}
 use Rattle.pg_connect.specs.declared.ends.TurnEnd.TheVariants as turn
 use Rattle.pg_connect.specs.declared.streams.Streams.{Streams}
 use Rattle.pg_connect.specs.Ends.{IsFlushedFrom, WasBlocked, last_is, some_is, has_none, has_no_more, is_closed_out, Closes}
-use Rattle.pg_connect.specs.Passes.{waiting, delayed_in, Goes, OnlySends}
+use Rattle.pg_connect.specs.Passes.{waiting, delayed_in, Goes, OnlySends, StandsLast}
 use Rattle.pg_connect.specs.Reads.{AllDecoded, BreaksHeader, BreaksLayout, Carries, EndsInside, GivesBack, IsCleared, IsOnePastLimit, IsUnasked, LastGivesBack, LeavesDelayed, LeavesUnread, Paced, StopsAt, is_full, has_no_request}
 
 -- the link was shut down, or not
@@ -126,11 +126,13 @@ pub record IsOver (old new : Streams) (before after : LinkView) (events : List E
   pub began : BeganToClose old new before after events
   pub still : old.closing ≡ true → OnlySends old new before after
 
--- The link gave its end behind a whole message, while the connection was active, and no batch is held.
+-- The link gave its end behind a whole message, while the connection was active. No batch is held, and no notice
+-- delayed.
 pub record EndsWhole (old new : Streams) (before after : LinkView) : Type 0 where
   pub rose : Rose before.ends after.ends
   pub buffer : new.buffer.items ≡ []
   pub held : waiting new.held ≡ []
+  pub delayed : delayed_in new ≡ []
   pub active : old.closing ≡ false
   pub stays : new.closing ≡ false
 
@@ -165,10 +167,15 @@ TurnEnds old new before after (Ok turn.Waits) events = Waits old new before afte
 TurnEnds old new before after (Ok turn.Over) events = IsOver old new before after events
 TurnEnds old new before after (Err e) events = ClosesBy old new events × TurnFails old new before after e events × (old.closing ≡ true → OnlySends old new before after)
 
--- a turn that hands a message out reads and takes in nothing behind it
-abbrev pub TurnStops : Streams → Streams → Result TurnEnd ConnectionFault → List ℕ → Type 0
-TurnStops old new (Ok (turn.Handed message)) got = StopsAt old new message got
-TurnStops old new _ got = Unit {0}
+-- a turn that hands a message out reads and takes in nothing behind it, and past the limit all of the last piece lies there
+abbrev pub TurnStops : Streams → Streams → Result TurnEnd ConnectionFault → (got piece : List ℕ) → Type 0
+TurnStops old new (Ok (turn.Handed message)) got piece = StopsAt old new message got
+TurnStops old new (Err (fault.LimitReached given limit)) got piece = StandsLast piece new.buffer.items
+TurnStops old new _ got piece = Unit {0}
+
+-- what was read was due before the call, so before anything was written in it
+abbrev pub WasDue : LinkView → List ℕ → Type 0
+WasDue before got = IfSome before.due (λ due. (rest : List ℕ) × (due ≡ got ++ rest))
 
 -- What a turn did to the hub, the link and what stands between them, how far it read, and how it ended. The link is
 -- shut down in a turn that answers its end, and in no other.
@@ -177,5 +184,6 @@ pub record Turns {H : Type 0} (becomes : H → List Event → H → Type 0) (a b
   pub which : HandedTurn result handed
   pub goes : Goes becomes a b old new before after handed (TurnEnds old new before after result)
   pub paced : Paced old goes.passes.got goes.events
-  pub stops : TurnStops old new result goes.passes.got
+  pub stops : TurnStops old new result goes.passes.got paced.piece
+  pub reads_first : WasDue before goes.passes.got
   pub shut : Shuts (is_last_turn result) before after

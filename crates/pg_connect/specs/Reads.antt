@@ -1,11 +1,12 @@
 -- How the parts of a read step may end, and why.
 use Rattle.std.specs.Prelude.{◌≡◌, ℕ, ◌+◌, ◌<◌, ◌≤◌, ◌⊎◌, Bool, true, false, IsTrue, List, [], ◌∷◌, ◌++◌, length, Option, Some, None, IfSome, Result, Ok, Err}
-use Rattle.pg_spec.specs.Asides.{aside_fault, unasked, out_of_turn}
+use Rattle.std.specs.List.{list_all}
+use Rattle.pg_spec.specs.Asides.{aside_fault, is_readable, unasked, out_of_turn}
 use Rattle.pg_spec.specs.DbErrors.{db_error_of}
 use Rattle.pg_spec.specs.Faults as faults
 use Rattle.pg_spec.specs.Links.{LinkView, Rose, due_by}
 use Rattle.pg_spec.specs.Messages.{message_of, NoticeResponse, ParameterStatus}
-use Rattle.pg_spec.specs.RawMessages.{RawMessage, messages, has_bad_header, is_aside, sync_of, async_of as asides_of}
+use Rattle.pg_spec.specs.RawMessages.{RawMessage, messages, bytes_left, has_bad_header, is_aside, sync_of, async_of as asides_of}
 use Rattle.pg_spec.specs.Report.{async_message, async_of_raw}
 use Rattle.pg_wire.specs.declared.body.ErrorResponseBody.{ErrorResponseBody}
 use Rattle.pg_wire.specs.declared.message.Message.{Message}
@@ -33,7 +34,7 @@ use Rattle.pg_connect.specs.declared.streams.Streams.{Streams}
 use Rattle.pg_connect.specs.Ends.{last_is, some_is}
 use Rattle.pg_connect.specs.Kept.{keep}
 use Rattle.pg_connect.specs.Passed.{delivered_by}
-use Rattle.pg_connect.specs.Passes.{Goes, Hands, waiting, delayed_in}
+use Rattle.pg_connect.specs.Passes.{Goes, Hands, Passes, StandsLast, waiting, delayed_in}
 
 -- ---- messages that no request asked for
 
@@ -152,11 +153,13 @@ abbrev pub MeetsNoRequest : Streams → Error → List Event → Type 0
 MeetsNoRequest new e events =
     (last_is has_no_request events ≡ true) × IsUnasked (waiting new.held) (fault.Unasked e) × LastGivesBack (waiting new.held) events
 
--- More was given than the limit allows: by one piece, of which nothing is decoded. No batch is held.
+-- More was given than the limit allows: by one piece, of which nothing is decoded. No batch is held, and no notice
+-- delayed.
 pub record IsOnePastLimit (s : Streams) (given limit : ℕ) : Type 0 where
   pub piece : given ≤ limit + piece_size
   pub undecoded : given ≤ limit + length s.buffer.items
   pub held : waiting s.held ≡ []
+  pub delayed : delayed_in s ≡ []
 
 -- every whole message that was given is decoded, and what is left isn't refused
 pub record AllDecoded (s : Streams) : Type 0 where
@@ -176,12 +179,13 @@ pub record EndsAt (bytes left : List ℕ) (message : AsyncMessage) : Type 0 wher
   pub is : messages bytes ≡ front ++ (raw ∷ messages left)
   pub means : async_of_raw raw ≡ Some (async_of message)
 
--- A header is in front that is none, and no batch is held.
+-- A header is in front that is none, no batch is held, and no notice delayed.
 pub record BreaksHeader (s : Streams) : Type 0 where
   pub header : has_bad_header s.buffer.items ≡ true
   pub held : waiting s.held ≡ []
+  pub delayed : delayed_in s ≡ []
 
--- The message in front, which no request asked for, breaks its layout, and no batch is held.
+-- The message in front, which no request asked for, breaks its layout. No batch is held, and no notice delayed.
 pub record BreaksLayout (s : Streams) : Type 0 where
   pub raw : RawMessage
   pub rest : List RawMessage
@@ -189,13 +193,15 @@ pub record BreaksLayout (s : Streams) : Type 0 where
   pub aside : is_aside raw ≡ true
   pub broken : message_of raw ≡ Err faults.Layout
   pub held : waiting s.held ≡ []
+  pub delayed : delayed_in s ≡ []
 
--- The message that came off last can't be read, and no batch is held.
+-- The message that came off last can't be read. No batch is held, and no notice delayed.
 pub record LeavesUnread (s : Streams) (c : Cause) : Type 0 where
   pub message : Message
   pub unread : s.unread ≡ Some message
   pub means : aside_fault (message_view message) ≡ Some c
   pub held : waiting s.held ≡ []
+  pub delayed : delayed_in s ≡ []
 
 -- ---- the steps
 
@@ -283,6 +289,17 @@ pub record WasDry (moved : Bool) (before after : LinkView) : Type 0 where
   pub empty : IsTrue before.steady → after.due ≡ Some []
   pub lulls : moved ≡ false → IsTrue before.promised → Rose before.lulls after.lulls
 
+-- these bytes were due, and what was due behind them still is
+abbrev pub GaveDue : (before after : Option (List ℕ)) → List ℕ → Type 0
+GaveDue None after got = Unit {0}
+GaveDue (Some due) after got = (rest : List ℕ) × (due ≡ got ++ rest) × (after ≡ Some rest)
+
+-- What passed where a piece was read: it lies behind the bytes that lay there, and it was due.
+pub record TakesIn (old new : Streams) (before after : LinkView) : Type 0 where
+  pub passes : Passes old new before after [] []
+  pub buffer : new.buffer.items ≡ old.buffer.items ++ passes.got
+  pub due : GaveDue before.due after.due passes.got
+
 -- how a piece was read
 abbrev pub PieceEnds : Streams → Streams → LinkView → LinkView → Result Bool ConnectionFault → Type 0
 PieceEnds old new before after (Ok true) = (old.given < new.given) × (new.given ≤ new.max_bytes)
@@ -305,12 +322,13 @@ abbrev pub HandedBy : Result ReadEnd ConnectionFault → List RawMessage → Typ
 HandedBy (Ok (reads.Handed message)) handed = Carries handed message
 HandedBy _ handed = handed ≡ []
 
--- The input ended inside a message, and no batch is held.
+-- The input ended inside a message. No batch is held, and no notice delayed.
 pub record EndsInside (s : Streams) (before after : LinkView) : Type 0 where
   pub rose : Rose before.ends after.ends
   pub some : 0 < length s.buffer.items
   pub decoded : AllDecoded s
   pub held : waiting s.held ≡ []
+  pub delayed : delayed_in s ≡ []
 
 -- How a read step ended: a message is handed out, a mailbox is full, or the link isn't ready, all is decoded
 -- and nothing of it lies there. Or why it was broken off.
@@ -319,7 +337,7 @@ ReadEnds new before after (Ok (reads.Handed message)) events = Unit {0}
 ReadEnds new before after (Ok reads.Full) events = MeetsFull new events × (delayed_in new ≡ [])
 ReadEnds new before after (Ok reads.Dry) events = WasDry new.moved before after × AllDecoded new × IsCleared new
 ReadEnds new before after (Err fault.Link) events = Rose before.faults after.faults
-ReadEnds new before after (Err fault.Closed) events = Rose before.ends after.ends × (new.buffer.items ≡ []) × (waiting new.held ≡ [])
+ReadEnds new before after (Err fault.Closed) events = Rose before.ends after.ends × (new.buffer.items ≡ []) × (waiting new.held ≡ []) × (delayed_in new ≡ [])
 ReadEnds new before after (Err fault.Ended) events = EndsInside new before after
 ReadEnds new before after (Err fault.BadLength) events = BreaksHeader new
 ReadEnds new before after (Err fault.Layout) events = BreaksLayout new
@@ -332,10 +350,13 @@ ReadEnds new before after (Err fault.OutOfMemory) events = Unit {0}
 -- ---- how far reading goes
 
 -- Behind these bytes more had to be read: no notice was delayed, all that had come was passed on, with no message to
--- hand out and no full mailbox, and no more was given than the limit allows.
+-- hand out, none that can't be read, no header that is none and no full mailbox, and no more was given than the limit
+-- allows.
 pub record NeedsMore (old : Streams) (front : List ℕ) (events : List Event) : Type 0 where
   pub no_delayed : delayed_in old ≡ []
   pub none_aside : asides_of (messages (old.buffer.items ++ front)) ≡ []
+  pub readable : IsTrue (list_all is_readable (messages (old.buffer.items ++ front)))
+  pub no_bad_header : has_bad_header (bytes_left (old.buffer.items ++ front)) ≡ false
   pub earlier : List Event
   pub later : List Event
   pub calls : events ≡ earlier ++ later
@@ -362,14 +383,16 @@ pub record ComesFirst (old new : Streams) (got : List ℕ) : Type 0 where
 abbrev pub StopsAt : Streams → Streams → AsyncMessage → List ℕ → Type 0
 StopsAt old new message got = ComesFirst old new got ⊎ EndsAt (old.buffer.items ++ got) new.buffer.items message
 
--- the same of a read step
-abbrev pub ReadStops : Streams → Streams → Result ReadEnd ConnectionFault → List ℕ → Type 0
-ReadStops old new (Ok (reads.Handed message)) got = StopsAt old new message got
-ReadStops old new _ got = Unit {0}
+-- the same of a read step; past the limit all of the last piece lies there
+abbrev pub ReadStops : Streams → Streams → Result ReadEnd ConnectionFault → (got piece : List ℕ) → Type 0
+ReadStops old new (Ok (reads.Handed message)) got piece = StopsAt old new message got
+ReadStops old new (Err (fault.LimitReached given most)) got piece = StandsLast piece new.buffer.items
+ReadStops old new _ got piece = Unit {0}
 
--- By some calls of a read step the hub became another, these messages were handed out, and it read so far.
+-- By some calls of a read step the hub became another, these messages were handed out, and it read so far, what was due.
 pub record ReadsOn {H : Type 0} (becomes : H → List Event → H → Type 0) (a b : H) (old new : Streams) (before after : LinkView)
-    (which : List RawMessage → Type 0) (ends : List Event → Type 0) (stops : List ℕ → Type 0) : Type 0 where
+    (which : List RawMessage → Type 0) (ends : List Event → Type 0) (stops : (got piece : List ℕ) → Type 0) : Type 0 where
   pub hands : Hands becomes a b old new before after which ends
   pub paced : Paced old hands.goes.passes.got hands.goes.events
-  pub stops_there : stops hands.goes.passes.got
+  pub stops_there : stops hands.goes.passes.got paced.piece
+  pub due : GaveDue before.due after.due hands.goes.passes.got

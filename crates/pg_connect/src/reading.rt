@@ -4,8 +4,8 @@ ghost use Rattle.std.specs.Prelude.{◌≡◌, ◌^◌, ◌<◌, ◌≤◌, ◌+
 ghost use Rattle.pg_spec.specs.Batches.{is_batch};
 ghost use Rattle.pg_spec.specs.Links.{LinkView};
 ghost use Rattle.pg_connect.specs.Calm.{MissesNone, MissesOne, StaysCalm};
-ghost use Rattle.pg_connect.specs.Passes.{Passes, PassesOn, Goes, Hands, OnlyReads, risen, waiting};
-ghost use Rattle.pg_connect.specs.Reads.{IsUnasked, HandedOff, OffEnds, DeliverEnds, HandedIn, PassEnds, IsWithin, HandedAll, AllEnds, PieceEnds, HandedBy, ReadEnds, ReadStops, ReadsOn, piece_size};
+ghost use Rattle.pg_connect.specs.Passes.{PassesOn, Goes, Hands, OnlyReads, risen, waiting};
+ghost use Rattle.pg_connect.specs.Reads.{IsUnasked, HandedOff, OffEnds, DeliverEnds, HandedIn, PassEnds, IsWithin, HandedAll, AllEnds, PieceEnds, HandedBy, ReadEnds, ReadStops, ReadsOn, TakesIn, piece_size};
 
 use crate::asides::unasked;
 use crate::{ConnectionFault, Held, Off, ReadEnd, Step, Streams};
@@ -178,7 +178,7 @@ impl Streams {
         requires limit { self.old.max_bytes < 2 ^ 63 }
         requires given { self.old.given ≤ self.old.max_bytes }
         requires unread { self.old.unread ≡ None }
-        ensures passes { Passes self.old self.new (L.view link.old) (L.view link.new) [] [] }
+        ensures takes { TakesIn self.old self.new (L.view link.old) (L.view link.new) }
         ensures only { OnlyReads self.old self.new (L.view link.old) (L.view link.new) }
         ensures end { PieceEnds self.old self.new (L.view link.old) (L.view link.new) result }
         ensures held { self.new.held ≡ self.old.held }

@@ -309,14 +309,14 @@ cause-of user call former now s t l f fault.BadLength ends =
     of-dialogue user call former now t l f _ (inl (needs-none user, refl, ap has_bad_header f.broke.rest ∙ bad-left t.buffer.items ends.header))
 cause-of user call former now s t l f fault.Layout ends =
     of-dialogue user call former now t l f _ (inr (inr (behind user call former now t l f (AsideBreaks faults.Layout)
-    (layout-breaks user call former now t l f (record { raw = ends.raw; rest = ends.rest; front = ends.front; aside = ends.aside; broken = ends.broken; held = ends.held })))))
+    (layout-breaks user call former now t l f (record { raw = ends.raw; rest = ends.rest; front = ends.front; aside = ends.aside; broken = ends.broken; held = ends.held; delayed = ends.delayed })))))
 cause-of user call former now s t l f (fault.Unreadable c) ends = (
   aside-body c ends,
   of-dialogue user call former now t l f _ (inr (inl (needs-none user, aside-stands user call former now t l f c (aside-in c ends)))),
 )
   where
     aside-in : (c : Cause) → LeavesUnread (left_open t) c ⊎ (LeavesDelayed (left_open t) c × (now ≡ [])) → LeavesUnread t c ⊎ LeavesDelayed t c
-    aside-in c (inl h) = inl (record { message = h.message; unread = h.unread; means = h.means; held = h.held })
+    aside-in c (inl h) = inl (record { message = h.message; unread = h.unread; means = h.means; held = h.held; delayed = h.delayed })
     aside-in c (inr h) = inr (record { notice = h.0.notice; others = h.0.others; first = h.0.first; means = h.0.means })
 
     aside-body : (c : Cause) → LeavesUnread (left_open t) c ⊎ (LeavesDelayed (left_open t) c × (now ≡ [])) → IsOfBody c

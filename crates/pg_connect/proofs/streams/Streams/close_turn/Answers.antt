@@ -11,7 +11,7 @@ returns-in-Ok-Waits-clause-turns g c =
     let l = g.L.Link.view c.args.link.now in
     let m = g.L.Link.view c.send.new.link in
     let w = c.in-Ok-Waits in
-    turned_closing _ _ _ s t l m sending.Waits (Ok turn.Waits) (λ handed is. is) (λ got. tt) w.ensures.only (at_send _ _ _ s t l m _ sending.Waits w.field-0 w.field-0-is w.ensures.goes)
+    turned_closing _ _ _ s t l m sending.Waits (Ok turn.Waits) (λ handed is. is) (λ got piece. tt) w.ensures.only (at_send _ _ _ s t l m _ sending.Waits w.field-0 w.field-0-is w.ensures.goes)
     (λ es was. closing_waits s t l m es c.requires.closing (w.ensures.goes.passes.still_closing c.requires.closing) w.ensures.only was) refl
 
 pub returns-in-Ok-Over-clause-turns : goal.returns-in-Ok-Over-clause-turns
@@ -21,7 +21,7 @@ returns-in-Ok-Over-clause-turns g c =
     let l = g.L.Link.view c.args.link.now in
     let m = g.L.Link.view c.send.new.link in
     let w = c.in-Ok-Over in
-    turned_closing _ _ _ s t l m sending.Over (Ok turn.Over) (λ handed is. is) (λ got. tt) w.ensures.only (at_send _ _ _ s t l m _ sending.Over w.field-0 w.field-0-is w.ensures.goes)
+    turned_closing _ _ _ s t l m sending.Over (Ok turn.Over) (λ handed is. is) (λ got piece. tt) w.ensures.only (at_send _ _ _ s t l m _ sending.Over w.field-0 w.field-0-is w.ensures.goes)
     (λ es was. closing_over s t l m es c.requires.closing w.ensures.only was) refl
 
 pub returns-in-Err-clause-turns : goal.returns-in-Err-clause-turns

@@ -45,7 +45,7 @@ returns-in-Full-clause-goes g c =
       events = e ∷ [];
       calls = (c.in-Some.held.some, tt);
       became = c.in-Full.ensures.event;
-      passes = delivered_back c.args.self.now c.take.new.self c.hold.new.self l e c.in-Full.batch c.requires refl refl refl
+      passes = delivered_back c.args.self.now c.take.new.self c.hold.new.self l e c.in-Full.batch c.requires refl refl refl refl
           (ap waiting (sym c.in-Some.ensures.value) ∙ sym c.in-Full.ensures.back) c.hold.ensures.held c.hold.ensures.same;
       ended = (refl, sym c.in-Full.ensures.back ∙ sym c.hold.ensures.held);
     }
@@ -58,7 +58,7 @@ returns-in-NoRequest-clause-goes g c =
       events = e ∷ [];
       calls = (c.in-Some.held.some, tt);
       became = c.in-NoRequest.ensures.event;
-      passes = delivered_back c.args.self.now c.take.new.self t l e c.in-NoRequest.batch c.requires refl refl refl
+      passes = delivered_back c.args.self.now c.take.new.self t l e c.in-NoRequest.batch c.requires refl refl refl refl
           (ap waiting (sym c.in-Some.ensures.value) ∙ sym c.in-NoRequest.ensures.back) c.hold-in-NoRequest.ensures.held c.hold-in-NoRequest.ensures.same;
       ended = unasked_back t c.in-NoRequest.batch c.unasked-fault.result e refl c.hold-in-NoRequest.ensures.held c.unasked-fault.ensures
           (sym c.in-NoRequest.ensures.back ∙ sym c.hold-in-NoRequest.ensures.held);
@@ -71,7 +71,7 @@ returns-in-OutOfMemory-clause-goes g c =
       events = e ∷ [];
       calls = (c.in-Some.held.some, tt);
       became = c.in-OutOfMemory.ensures.event;
-      passes = delivered_back c.args.self.now c.take.new.self c.hold-in-OutOfMemory.new.self l e c.in-OutOfMemory.batch c.requires refl refl refl
+      passes = delivered_back c.args.self.now c.take.new.self c.hold-in-OutOfMemory.new.self l e c.in-OutOfMemory.batch c.requires refl refl refl refl
           (ap waiting (sym c.in-Some.ensures.value) ∙ sym c.in-OutOfMemory.ensures.back) c.hold-in-OutOfMemory.ensures.held c.hold-in-OutOfMemory.ensures.same;
       ended = tt;
     }

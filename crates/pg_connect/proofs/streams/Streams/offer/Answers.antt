@@ -8,7 +8,7 @@ use Rattle.pg_connect.proofs.streams.Streams.offer.Goals as goal
 
 pub loop-link-init : goal.loop-link-init
 loop-link-init g c = record {
-  passes = passes_nothing c.args.self.now (g.L.Link.view c.args.link.now) (g.L.Link.view c.args.link.now) [] c.requires (untouched_same _) (keeps_same _) refl refl refl;
+  passes = passes_nothing c.args.self.now (g.L.Link.view c.args.link.now) (g.L.Link.view c.args.link.now) [] c.requires (untouched_same _) (keeps_same _) refl refl refl refl;
   only = record { given = refl; count = refl; buffer = refl; held = refl; delayed = refl; unread = refl; at_end = refl };
   shut = refl;
   closing = refl;

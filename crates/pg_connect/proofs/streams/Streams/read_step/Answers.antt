@@ -8,7 +8,7 @@ use Rattle.std.specs.declared.alloc.Global.{Global}
 use Rattle.bytes.specs.declared.unique.BytesMut.{BytesMut}
 use Rattle.pg_connect.specs.Reads.{DeliverEnds, NoneFull, ReadEnds, ReadStops, HandedBy, HandedLate, LateEnds}
 use Rattle.pg_connect.proofs.Closing.{goes-ends}
-use Rattle.pg_connect.proofs.Pacing.{paced-still, paced-behind, stops_before}
+use Rattle.pg_connect.proofs.Pacing.{paced-still, paced-behind, still_stops, stops_before}
 use Rattle.pg_connect.proofs.Passing.{goes-behind, hands-quietly, any_link, given_in, given_same, none_handed, held_refused, late_refused, ends_behind}
 use Rattle.pg_connect.proofs.Within.{within-any}
 use Rattle.pg_connect.proofs.streams.Streams.read_step.Goals as goal
@@ -20,7 +20,7 @@ returns-in-Ok-Some-clause-goes g c =
     let v = g.L.Link.view c.args.link.now in
     let w = c.in-Ok-Some in
     let on = subst (λ (o : Option AsyncMessage). PassesOn s t v v [] (HandedLate (Ok o))) w.field-0-is (w.ensures.passes v) in
-    paced-still _ _ _ s t v v _ _ (ReadStops s t (Ok (ending.Handed w.message))) (hands-quietly _ _ (g.met.E.Desk.stays c.args.hub.now) s t v v _ _ _ on (λ handed is. is) tt) w.ensures.given
+    paced-still _ _ _ s t v _ _ (ReadStops s t (Ok (ending.Handed w.message))) (hands-quietly _ _ (g.met.E.Desk.stays c.args.hub.now) s t v v _ _ _ on (λ handed is. is) tt) w.ensures.given
     (inl (record {
       delayed = subst (λ (o : Option AsyncMessage). LateEnds s t (Ok o)) w.field-0-is w.ensures.end;
       none_read = refl;
@@ -32,9 +32,9 @@ pub returns-in-Err-clause-goes : goal.returns-in-Err-clause-goes
 returns-in-Err-clause-goes g c =
     let v = g.L.Link.view c.args.link.now in
     let w = c.in-Err in
-    paced-still _ _ _ c.args.self.now c.hand_delayed.new.self v v _ _ (ReadStops c.args.self.now c.hand_delayed.new.self (Err w.e))
+    paced-still _ _ _ c.args.self.now c.hand_delayed.new.self v _ _ (ReadStops c.args.self.now c.hand_delayed.new.self (Err w.e))
     (hands-quietly _ _ (g.met.E.Desk.stays c.args.hub.now) c.args.self.now c.hand_delayed.new.self v v _ _ _ (w.ensures.passes v) (λ handed is. is)
-    (late_refused c.hand_delayed.new.self v v w.e w.ensures.end)) w.ensures.given tt
+    (late_refused c.hand_delayed.new.self v v w.e w.ensures.end)) w.ensures.given (still_stops c.args.self.now c.hand_delayed.new.self w.e)
 
 pub returns-in-Ok-false-clause-goes : goal.returns-in-Ok-false-clause-goes
 returns-in-Ok-false-clause-goes g c =
@@ -44,7 +44,7 @@ returns-in-Ok-false-clause-goes g c =
     let v = g.L.Link.view c.args.link.now in
     let w = c.in-Ok-None in
     let first = none_handed s mid v v [] (subst (λ (o : Option AsyncMessage). PassesOn s mid v v [] (HandedLate (Ok o))) w.field-0-is (w.ensures.passes v)) in
-    paced-still _ _ _ s t v v (HandedBy (Ok ending.Full)) (ReadEnds t v v (Ok ending.Full)) (ReadStops s t (Ok ending.Full))
+    paced-still _ _ _ s t v (HandedBy (Ok ending.Full)) (ReadEnds t v v (Ok ending.Full)) (ReadStops s t (Ok ending.Full))
     (record {
       handed = [];
       is = refl;
@@ -65,13 +65,13 @@ returns-in-Err-deliver_held-clause-goes g c =
     let w = c.in-Ok-None in
     let e = c.in-Err-deliver_held.e in
     let first = none_handed s mid v v [] (subst (λ (o : Option AsyncMessage). PassesOn s mid v v [] (HandedLate (Ok o))) w.field-0-is (w.ensures.passes v)) in
-    paced-still _ _ _ s t v v (HandedBy (Err e)) (ReadEnds t v v (Err e)) (ReadStops s t (Err e))
+    paced-still _ _ _ s t v (HandedBy (Err e)) (ReadEnds t v v (Err e)) (ReadStops s t (Err e))
     (record {
       handed = [];
       is = refl;
       goes = goes-behind _ _ _ s mid t v v v [] [] (DeliverEnds t (Err e)) _ first (c.in-Err-deliver_held.ensures.goes v)
           (λ es was. held_refused t v v e es was);
-    }) (given_in _ _ _ mid t _ (c.in-Err-deliver_held.ensures.goes any_link) ∙ w.ensures.given) tt
+    }) (given_in _ _ _ mid t _ (c.in-Err-deliver_held.ensures.goes any_link) ∙ w.ensures.given) (still_stops s t e)
 
 pub read_link-requires-clause-held : goal.read_link-requires-clause-held
 read_link-requires-clause-held g c =
@@ -111,7 +111,7 @@ returns-in-Ok-true-clause-goes g c =
     (ap (λ (b : BytesMut Global). b.items) (c.in-Ok-true.ensures.buffer ∙ w.ensures.buffer))
     (ap (λ (x : List ErrorResponseBody). map notice_of x) late) so_far.ended.0 c.in-Ok-true.ensures.unread
     (λ es fs was. ends_behind u v n c.read_link.result es fs c.read_link.ensures.delayed was)
-    (λ got was. stops_before s t u c.read_link.result got (ap (λ (b : BytesMut Global). b.items) (c.in-Ok-true.ensures.buffer ∙ w.ensures.buffer)) late was)
+    (λ got piece was. stops_before s t u c.read_link.result got piece (ap (λ (b : BytesMut Global). b.items) (c.in-Ok-true.ensures.buffer ∙ w.ensures.buffer)) late was)
 
 pub returns-in-Ok-false-clause-within : goal.returns-in-Ok-false-clause-within
 returns-in-Ok-false-clause-within g c =

@@ -18,7 +18,7 @@ parts-init g c = record {
     events = [];
     calls = tt;
     became = g.met.E.Desk.stays c.args.hub.now;
-    passes = passes_nothing c.args.self.now (g.L.Link.view c.args.link.now) (g.L.Link.view c.args.link.now) [] c.requires.unread (untouched_same _) (keeps_same _) refl refl refl;
+    passes = passes_nothing c.args.self.now (g.L.Link.view c.args.link.now) (g.L.Link.view c.args.link.now) [] c.requires.unread (untouched_same _) (keeps_same _) refl refl refl refl;
     ended = tt;
   };
   only = record { given = refl; count = refl; buffer = refl; held = refl; delayed = refl; unread = refl; at_end = refl };
@@ -73,21 +73,21 @@ returns-in-Ok-CopyWaits-clause-goes g c =
     let sent = subst (λ (b : Bool). OfferEnds c.offer.new.self (g.L.Link.view c.parts.link) (g.L.Link.view c.offer.new.link) (Ok b)) c.in-Ok-true.field-0-test c.in-Ok-true.ensures.end in
     answered _ g.met.E.Desk.joins _ _ _ _ c.parts.self _ _ (g.L.Link.view c.parts.link) _ _ (Ok out.CopyWaits) _ c.parts.invariant.goes c.in-Ok-true.ensures.passes
     (c.in-Ok-true.ensures.only.unread ∙ c.parts.invariant.unread)
-    c.in-Ok-CopyWaits.ensures.event (ap Ok c.in-Ok-CopyWaits.field-0-is) refl refl (λ es. (sent, last_of has_none es (NextOut (Ok out.CopyWaits)), last_of has_no_more es (NextOut (Ok out.CopyWaits))))
+    c.in-Ok-CopyWaits.ensures.event (ap Ok c.in-Ok-CopyWaits.field-0-is) refl refl refl (λ es. (sent, last_of has_none es (NextOut (Ok out.CopyWaits)), last_of has_no_more es (NextOut (Ok out.CopyWaits))))
 
 pub returns-in-Ok-Nothing-clause-goes : goal.returns-in-Ok-Nothing-clause-goes
 returns-in-Ok-Nothing-clause-goes g c =
     let sent = subst (λ (b : Bool). OfferEnds c.offer.new.self (g.L.Link.view c.parts.link) (g.L.Link.view c.offer.new.link) (Ok b)) c.in-Ok-true.field-0-test c.in-Ok-true.ensures.end in
     answered _ g.met.E.Desk.joins _ _ _ _ c.parts.self _ _ (g.L.Link.view c.parts.link) _ _ (Ok out.Nothing) _ c.parts.invariant.goes c.in-Ok-true.ensures.passes
     (c.in-Ok-true.ensures.only.unread ∙ c.parts.invariant.unread)
-    c.in-Ok-Nothing.ensures.event (ap Ok c.in-Ok-Nothing.field-0-is) refl refl (λ es. (sent, last_of has_none es (NextOut (Ok out.Nothing)), last_of has_no_more es (NextOut (Ok out.Nothing))))
+    c.in-Ok-Nothing.ensures.event (ap Ok c.in-Ok-Nothing.field-0-is) refl refl refl (λ es. (sent, last_of has_none es (NextOut (Ok out.Nothing)), last_of has_no_more es (NextOut (Ok out.Nothing))))
 
 pub returns-in-Ok-NoMore-clause-goes : goal.returns-in-Ok-NoMore-clause-goes
 returns-in-Ok-NoMore-clause-goes g c =
     let sent = subst (λ (b : Bool). OfferEnds c.offer.new.self (g.L.Link.view c.parts.link) (g.L.Link.view c.offer.new.link) (Ok b)) c.in-Ok-true.field-0-test c.in-Ok-true.ensures.end in
     answered _ g.met.E.Desk.joins _ _ _ _ c.parts.self _ _ (g.L.Link.view c.parts.link) _ _ (Ok out.NoMore) _ c.parts.invariant.goes c.in-Ok-true.ensures.passes
     (c.in-Ok-true.ensures.only.unread ∙ c.parts.invariant.unread)
-    c.in-Ok-NoMore.ensures.event (ap Ok c.in-Ok-NoMore.field-0-is) refl refl (λ es. (sent, last_of has_no_more es (NextOut (Ok out.NoMore))))
+    c.in-Ok-NoMore.ensures.event (ap Ok c.in-Ok-NoMore.field-0-is) refl refl refl (λ es. (sent, last_of has_no_more es (NextOut (Ok out.NoMore))))
 
 pub returns-in-Err-next_out-clause-goes : goal.returns-in-Err-next_out-clause-goes
 returns-in-Err-next_out-clause-goes g c =
@@ -97,6 +97,6 @@ returns-in-Err-next_out-clause-goes g c =
     let f = c.in-Err-next_out.fault in
     answered _ g.met.E.Desk.joins _ _ _ _ c.parts.self _ _ (g.L.Link.view c.parts.link) _ _ (Err f) _ c.parts.invariant.goes c.in-Ok-true.ensures.passes
     (c.in-Ok-true.ensures.only.unread ∙ c.parts.invariant.unread)
-    c.in-Err-next_out.ensures.event refl refl refl
+    c.in-Err-next_out.ensures.event refl refl refl refl
     (λ es. subst (λ (x : ConnectionFault). PartsEnds new a b (Err x) (es ++ NextOut (Err f) ∷ [])) (sym c.fault_of.ensures)
     (parts_closed new a b f es c.in-Err-next_out.ensures.fault))

@@ -62,7 +62,7 @@ returns-in-Ok-Some-Async-clause-end c =
     let w = c.in-Ok-Some-Async in
     let s = c.args.self.now in
     let cut = subst (λ (r : Option BackendMessage). Decodes s.buffer.items c.decode.new.buf.items (Ok r)) (w.field-0-is ∙ ap Some w.field-0-0-is) w.ensures in
-    aside_ends s (record s { buffer = c.decode.new.buf }) c.take_aside.new.self w.message c.take_aside.result c.requires.held cut refl c.take_aside.ensures
+    aside_ends s (record s { buffer = c.decode.new.buf }) c.take_aside.new.self w.message c.take_aside.result c.requires.held (ap (map notice_of) c.requires.delayed) cut refl c.take_aside.ensures
 
 pub returns-in-Ok-Some-Normal-clause-passes : goal.returns-in-Ok-Some-Normal-clause-passes
 returns-in-Ok-Some-Normal-clause-passes c =
@@ -106,9 +106,9 @@ returns-in-Err c = record {
 pub returns-in-Err-BadLength-clause-end : goal.returns-in-Err-BadLength-clause-end
 returns-in-Err-BadLength-clause-end c =
     let cut = subst (λ (r : WireFault). Decodes c.args.self.now.buffer.items c.decode.new.buf.items (Err r)) c.in-Err-BadLength.field-0-is c.in-Err-BadLength.ensures in
-    record { header = ap has_bad_header cut.same ∙ cut.header; held = ap waiting c.requires.held }
+    record { header = ap has_bad_header cut.same ∙ cut.header; held = ap waiting c.requires.held; delayed = ap (map notice_of) c.requires.delayed }
 
 pub returns-in-Err-Layout-clause-end : goal.returns-in-Err-Layout-clause-end
 returns-in-Err-Layout-clause-end c =
     let cut = subst (λ (r : WireFault). Decodes c.args.self.now.buffer.items c.decode.new.buf.items (Err r)) c.in-Err-Layout.field-0-is c.in-Err-Layout.ensures in
-    record { raw = cut.raw; rest = cut.rest; front = ap messages cut.same ∙ cut.front; aside = cut.aside; broken = cut.broken; held = ap waiting c.requires.held }
+    record { raw = cut.raw; rest = cut.rest; front = ap messages cut.same ∙ cut.front; aside = cut.aside; broken = cut.broken; held = ap waiting c.requires.held; delayed = ap (map notice_of) c.requires.delayed }
