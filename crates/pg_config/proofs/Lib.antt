@@ -1,6 +1,7 @@
 mod Agreement
 mod AttemptLaws
 mod Cuts
+mod Decoded
 mod GroupLaws
 mod KeyValueSpelling
 mod Marks

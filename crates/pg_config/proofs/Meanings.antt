@@ -6,8 +6,6 @@ use Rattle.std.proofs.lemmas.Slice.Eq.{starts_is}
 use Rattle.std.proofs.lemmas.Bool.Decides.{Decides-eqb}
 use Rattle.pg_spec.specs.Faults.{Cause}
 use Rattle.pg_config.specs.declared.config.Config.{Config}
-use Rattle.pg_config.specs.declared.fault.Fault.{Fault}
-use Rattle.pg_config.specs.declared.fault.Fault.TheVariants as fault
 use Rattle.pg_config.specs.ConnectionStringReading.{ConnectionStringSays, behind_scheme}
 use Rattle.pg_config.specs.ConnectionStrings.{ConnectionStringMeans, IsSchemed}
 use Rattle.pg_config.specs.KeyValue.{IsEnd, IsParameter, KeyValuesMean}
@@ -17,7 +15,6 @@ use Rattle.pg_config.specs.Parameters.{Means}
 use Rattle.pg_config.specs.UrlReading.{UrlSays, opening, parameter_at, query}
 use Rattle.pg_config.specs.Urls.{IsUrlEnd, IsUrlParameter, UrlMeans, opening_says, parameter}
 use Rattle.pg_config.specs.Options.{applies}
-use Rattle.pg_config.specs.Outcomes.{Tells}
 use Rattle.pg_config.specs.Settings.{defaults}
 use Rattle.pg_config.proofs.Agreement as agreement
 use Rattle.pg_config.proofs.KeyValueSpelling.{key_values_agree}
@@ -112,12 +109,3 @@ no_scheme text (Some rest) is none = absurd (none rest (scheme_found text rest i
 pub read : (text : List ℕ) (said : Result Config Cause) → ConnectionStringMeans text said → ConnectionStringSays text said
 read text said (inl (rest, schemed, h)) = subst (by_scheme text said) (sym (scheme_read text rest schemed)) (url_read rest said h)
 read text said (inr (none, h)) = subst (by_scheme text said) (sym (no_scheme text (behind_scheme text) refl none)) (key_values_read (chars text) said h)
-
--- what is told of a text is so by the grammar
-pub tells_written : (text : List ℕ) (r : Result Config Fault) → Tells (ConnectionStringSays text) r → Tells (ConnectionStringMeans text) r
-tells_written text (Ok config) h = written text (Ok config) h
-tells_written text (Err fault.Syntax) h = written text _ h
-tells_written text (Err (fault.UnknownOption key)) h = written text _ h
-tells_written text (Err (fault.InvalidValue key)) h = written text _ h
-tells_written text (Err fault.NotUtf8) h = written text _ h
-tells_written text (Err fault.OutOfMemory) h = tt

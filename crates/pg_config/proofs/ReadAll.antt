@@ -1,5 +1,5 @@
 -- Pieces are read one after another.
-use Rattle.std.proofs.Common.{◌≡◌, ◌<◌, ℕ, suc, List, [], ◌∷◌, ◌++◌, map, length, false, if◌then◌else◌, Option, Some, None, option_map, Result, Ok, Err, is_ok, is_err, refl, sym, ap, ◌∙◌, append_assoc, append-nil, arith}
+use Rattle.std.proofs.Common.{◌≡◌, ◌<◌, ℕ, suc, List, [], ◌∷◌, ◌++◌, map, length, Option, Some, None, option_map, refl, sym, ap, ◌∙◌, append_assoc, append-nil, arith}
 use Rattle.std.proofs.lemmas.List.{length-append}
 use Rattle.pg_config.specs.declared.config.Config.{Config}
 use Rattle.pg_config.specs.Pieces.{IsCut, all_of}

@@ -1,11 +1,11 @@
 -- A text says one thing: parameters are read one after another.
-use Rattle.std.proofs.Common.{◌≡◌, inl, inr, ℕ, List, [], ◌∷◌, Result, Ok, Err, refl, sym, ap, subst, ◌∙◌}
-use Rattle.pg_spec.specs.Faults.{Cause, Syntax, UnknownOption, InvalidValue, NotText}
+use Rattle.std.proofs.Common.{◌≡◌, inl, inr, ℕ, List, [], ◌∷◌, Result, Ok, Err, sym, ap, subst, ◌∙◌}
+use Rattle.pg_spec.specs.Faults.{Cause, Syntax}
+use Rattle.pg_faults.specs.declared.error.Error.{Error}
 use Rattle.pg_config.specs.declared.config.Config.{Config}
-use Rattle.pg_config.specs.declared.fault.Fault.{Fault}
-use Rattle.pg_config.specs.declared.fault.Fault.TheVariants as fault
-use Rattle.pg_config.specs.Outcomes.{HasFault, Tells}
+use Rattle.pg_config.specs.Outcomes.{HasFault}
 use Rattle.pg_config.specs.ParameterReading.{Broken, Done, Front, Parameter, ReadsAs, Says}
+use Rattle.pg_config.proofs.Trying.{handed_on}
 
 module _ (front : List ℕ → Front) (meaning : (key value : List ℕ) → Config → Result Config Cause) where
   -- what is said of the whole is what is said of the rest
@@ -80,36 +80,14 @@ module _ (front : List ℕ → Front) (meaning : (key value : List ℕ) → Conf
   pub done_only : (text rest : List ℕ) (start s : Config) → IsReadTo text start rest s → Done ≡ front rest → (said : Result Config Cause) → Says front meaning text start said → said ≡ Ok s
   done_only text rest start s so_far done said h = only_done rest s said (sym done) (so_far.back said h)
 
-  pub done_said : (text rest : List ℕ) (start s : Config) → IsReadTo text start rest s → Done ≡ front rest → Says front meaning text start (Ok s)
-  done_said text rest start s so_far done = so_far.there (Ok s) ([], inl (sym done, refl))
-
   pub broken_only : (text rest : List ℕ) (start s : Config) → IsReadTo text start rest s → Broken ≡ front rest → (said : Result Config Cause) → Says front meaning text start said → said ≡ Err Syntax
   broken_only text rest start s so_far broken said h = only_broken rest s said (sym broken) (so_far.back said h)
 
-  pub broken_said : (text rest : List ℕ) (start s : Config) → IsReadTo text start rest s → Broken ≡ front rest → Says front meaning text start (Err Syntax)
-  broken_said text rest start s so_far broken = so_far.there (Err Syntax) ([], inr (sym broken, refl))
-
   -- a fault in a parameter
-  one_said : (text rest behind : List ℕ) (start s : Config) (key value : List ℕ) (cause : Cause) → front rest ≡ Parameter key value behind → meaning key value s ≡ Err cause →
-      IsReadTo text start rest s → Says front meaning text start (Err cause)
-  one_said text rest behind start s key value cause stands means so_far =
-      so_far.there (Err cause) ((key, value) ∷ [], (behind, stands, subst (goes_on behind [] (Err cause)) (sym means) refl))
-
-  pub fault_said : (text rest behind : List ℕ) (start s : Config) (key value : List ℕ) (f : Fault) → front rest ≡ Parameter key value behind → HasFault (meaning key value s) f →
-      IsReadTo text start rest s → Tells (Says front meaning text start) (Err f)
-  fault_said text rest behind start s key value fault.Syntax stands means so_far = one_said text rest behind start s key value Syntax stands means so_far
-  fault_said text rest behind start s key value (fault.UnknownOption k) stands means so_far = one_said text rest behind start s key value (UnknownOption k) stands means so_far
-  fault_said text rest behind start s key value (fault.InvalidValue k) stands means so_far = one_said text rest behind start s key value (InvalidValue k) stands means so_far
-  fault_said text rest behind start s key value fault.NotUtf8 stands means so_far = one_said text rest behind start s key value NotText stands means so_far
-  fault_said text rest behind start s key value fault.OutOfMemory stands means so_far = tt
-
-  pub fault_only : (text rest behind : List ℕ) (start s : Config) (key value : List ℕ) (f : Fault) → front rest ≡ Parameter key value behind → HasFault (meaning key value s) f →
-      IsReadTo text start rest s → (said : Result Config Cause) → Says front meaning text start said → HasFault said f
-  fault_only text rest behind start s key value fault.Syntax stands means so_far said h = only_fault rest s said key value behind Syntax stands means (so_far.back said h)
-  fault_only text rest behind start s key value (fault.UnknownOption k) stands means so_far said h = only_fault rest s said key value behind (UnknownOption k) stands means (so_far.back said h)
-  fault_only text rest behind start s key value (fault.InvalidValue k) stands means so_far said h = only_fault rest s said key value behind (InvalidValue k) stands means (so_far.back said h)
-  fault_only text rest behind start s key value fault.NotUtf8 stands means so_far said h = only_fault rest s said key value behind NotText stands means (so_far.back said h)
-  fault_only text rest behind start s key value fault.OutOfMemory stands means so_far said h = tt
+  pub fault_only : (text rest behind : List ℕ) (start s : Config) (key value : List ℕ) (e : Error) → front rest ≡ Parameter key value behind → HasFault (meaning key value s) e →
+      IsReadTo text start rest s → (said : Result Config Cause) → Says front meaning text start said → HasFault said e
+  fault_only text rest behind start s key value e stands means so_far said h =
+      handed_on (meaning key value s) said e (λ c is. only_fault rest s said key value behind c stands is (so_far.back said h)) means
 
 -- the same parameter, its texts named otherwise
 pub renamed : (front : List ℕ → Front) (rest key key' value value' behind : List ℕ) → Parameter key value behind ≡ front rest → key' ≡ key → value' ≡ value → front rest ≡ Parameter key' value' behind

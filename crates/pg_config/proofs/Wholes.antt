@@ -3,15 +3,11 @@ use Rattle.std.proofs.Common.{◌≡◌, ℕ, List, Option, Some, None, Result, 
 use Rattle.std.specs.Str.{chars}
 use Rattle.pg_spec.specs.Faults.{Cause}
 use Rattle.pg_config.specs.declared.config.Config.{Config}
-use Rattle.pg_config.specs.declared.fault.Fault.{Fault}
-use Rattle.pg_config.specs.declared.fault.Fault.TheVariants as fault
 use Rattle.pg_config.specs.ConnectionStringReading.{ConnectionStringSays, behind_scheme}
-use Rattle.pg_config.specs.ConnectionStrings.{AnswersSaid, IsAnswered, error_from}
 use Rattle.pg_config.specs.KeyValueReading.{KeyValuesSay}
 use Rattle.pg_config.specs.ParameterReading.{Says}
 use Rattle.pg_config.specs.UrlReading.{UrlSays, opening, parameter_at, query}
 use Rattle.pg_config.specs.Urls.{parameter}
-use Rattle.pg_config.specs.Outcomes.{HasFault, Tells}
 use Rattle.pg_config.specs.Settings.{defaults}
 
 abbrev after_opening : List ℕ → Result Config Cause → Result Config Cause → Type 0
@@ -29,18 +25,3 @@ url_text text rest said is h = subst (by_scheme text said) (sym is) h
 
 pub key_value_text : (text : List ℕ) (said : Result Config Cause) → None ≡ behind_scheme text → ConnectionStringSays text said → KeyValuesSay (chars text) said
 key_value_text text said is h = subst (by_scheme text said) (sym is) h
-
--- a fault as an error
-pub told_error : (Said : Result Config Cause → Type 0) (f : Fault) → Tells Said (Err f) → AnswersSaid Said (Err (error_from f))
-told_error Said fault.Syntax h = h
-told_error Said (fault.UnknownOption key) h = h
-told_error Said (fault.InvalidValue key) h = h
-told_error Said fault.NotUtf8 h = h
-told_error Said fault.OutOfMemory h = tt
-
-pub said_error : (said : Result Config Cause) (f : Fault) → HasFault said f → IsAnswered said (Err (error_from f))
-said_error said fault.Syntax h = h
-said_error said (fault.UnknownOption key) h = h
-said_error said (fault.InvalidValue key) h = h
-said_error said fault.NotUtf8 h = h
-said_error said fault.OutOfMemory h = tt

@@ -14,7 +14,6 @@ pub mod Parameters
 pub mod Pieces
 pub mod Reading
 pub mod Settings
-pub mod Texts
 pub mod UrlFronts
 pub mod UrlReading
 pub mod Urls

@@ -1,48 +1,28 @@
 -- What a call answers stands for what is said.
-use Rattle.std.specs.Prelude.{◌≡◌, Bool, true, false, Option, Some, None, IfSome, Result, Ok, Err}
-use Rattle.pg_spec.specs.Faults as spec
+use Rattle.std.specs.Prelude.{◌≡◌, Bool, true, false, Option, Some, None, Result, Ok, Err}
+use Rattle.pg_spec.specs.Faults.{Cause}
+use Rattle.pg_faults.specs.declared.error.Error.{Error}
+use Rattle.pg_faults.specs.declared.error.Error.TheVariants.{ConfigParse, OutOfMemory}
 use Rattle.pg_config.specs.declared.config.Config.{Config}
-use Rattle.pg_config.specs.declared.fault.Fault.{Fault}
-use Rattle.pg_config.specs.declared.fault.Fault.TheVariants as fault
 
--- the fault is this one; want of memory may come at any time
-abbrev pub HasFault : {A : Type 0} → Result A spec.Cause → Fault → Type 0
-HasFault said fault.Syntax = said ≡ Err spec.Syntax
-HasFault said (fault.UnknownOption key) = said ≡ Err (spec.UnknownOption key)
-HasFault said (fault.InvalidValue key) = said ≡ Err (spec.InvalidValue key)
-HasFault said fault.NotUtf8 = said ≡ Err spec.NotText
-HasFault said fault.OutOfMemory = Unit {0}
+-- ConfigParse holds the fault that is said; want of memory may come at any time
+abbrev pub HasFault : {A : Type 0} → Result A Cause → Error → Type 0
+HasFault said (ConfigParse c) = said ≡ Err c
+HasFault said OutOfMemory = Unit {0}
+HasFault said other = ⊥
 
--- the settings are those that are said, or the fault is
-abbrev pub Becomes : {A U : Type 0} → Result A spec.Cause → A → Result U Fault → Type 0
+-- what is said is answered
+abbrev pub IsAnswered : {A : Type 0} → Result A Cause → Result A Error → Type 0
+IsAnswered said (Ok value) = said ≡ Ok value
+IsAnswered said (Err e) = HasFault said e
+
+-- the settings become those that are said
+abbrev pub Becomes : {A U : Type 0} → Result A Cause → A → Result U Error → Type 0
 Becomes said new (Ok done) = said ≡ Ok new
-Becomes said new (Err fault) = HasFault said fault
-
--- the answer is what is said
-abbrev pub IsSaid : {A : Type 0} → Result A spec.Cause → Result A Fault → Type 0
-IsSaid said (Ok value) = said ≡ Ok value
-IsSaid said (Err fault) = HasFault said fault
-
--- the same of a fault, where something is said
-abbrev pub HasFaultIn : Option (Result Config spec.Cause) → Fault → Type 0
-HasFaultIn None f = f ≡ fault.OutOfMemory
-HasFaultIn (Some said) f = HasFault said f
+Becomes said new (Err e) = HasFault said e
 
 -- the key is one of these, and the settings become so, or it is none of them
-abbrev pub Tries : Option (Result Config spec.Cause) → (old new : Config) → Result Bool Fault → Type 0
+abbrev pub Tries : Option (Result Config Cause) → (old new : Config) → Result Bool Error → Type 0
 Tries said old new (Ok true) = said ≡ Some (Ok new)
 Tries said old new (Ok false) = (said ≡ None) × (new ≡ old)
-Tries said old new (Err fault) = HasFaultIn said fault
-
--- the cause of a fault; want of memory has none
-abbrev pub cause_in : Fault → Option spec.Cause
-cause_in fault.Syntax = Some spec.Syntax
-cause_in (fault.UnknownOption key) = Some (spec.UnknownOption key)
-cause_in (fault.InvalidValue key) = Some (spec.InvalidValue key)
-cause_in fault.NotUtf8 = Some spec.NotText
-cause_in fault.OutOfMemory = None
-
--- what is answered is said
-abbrev pub Tells : (Result Config spec.Cause → Type 0) → Result Config Fault → Type 0
-Tells Says (Ok config) = Says (Ok config)
-Tells Says (Err f) = IfSome (cause_in f) (λ cause. Says (Err cause))
+Tries said old new (Err e) = elim said [ None ↦ e ≡ OutOfMemory | Some one ↦ HasFault one e ]

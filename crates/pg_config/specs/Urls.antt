@@ -12,7 +12,7 @@ use Rattle.pg_config.specs.Pieces.{Lacks}
 use Rattle.pg_config.specs.Settings.{defaults, host_of}
 
 -- the text that stands there with its escapes, which must be UTF-8
-abbrev pub in_text : List ℕ → (List ℕ → Result Config Cause) → Result Config Cause
+abbrev pub in_text : {A : Type 0} → List ℕ → (List ℕ → Result A Cause) → Result A Cause
 in_text escaped meaning = if is_utf8 (percent_decode escaped) then meaning (percent_decode escaped) else Err NotText
 
 -- a mark and what stands behind it, if it is there

@@ -68,7 +68,7 @@ fn read_part(digits: &[u8]) -> Option<u8>
     if let [b'0', _, ..] = digits {
         return None;
     }
-    match read_numeral(digits, 10, 255) {
+    match read_numeral(digits, 10, u8::MAX as u64) {
         Some(part) => Some(part as u8),
         None => None,
     }
@@ -226,7 +226,7 @@ fn read_group(digits: &[u8]) -> Option<u16>
     if digits.len() > 4 {
         return None;
     }
-    match read_numeral(digits, 16, 65_535) {
+    match read_numeral(digits, 16, u16::MAX as u64) {
         Some(group) => Some(group as u16),
         None => None,
     }

@@ -2,18 +2,15 @@
 
 ghost use Rattle.std.specs.Prelude.{◌≡◌, IfOk, Result, option_map};
 ghost use Rattle.std.specs.Str.{chars};
-ghost use Rattle.pg_spec.specs.Faults as faults;
 ghost use Rattle.pg_config.specs.declared.config.Config.{Config};
 ghost use Rattle.pg_config.specs.ConnectionStringReading as spec;
-ghost use Rattle.pg_config.specs.ConnectionStringReading.{ConnectionStringSays};
-ghost use Rattle.pg_config.specs.ConnectionStrings.{AnswersSaid, ConnectionStringMeans, IsAnswered, error_from};
-ghost use Rattle.pg_config.specs.Outcomes.{IsSaid, Tells};
+ghost use Rattle.pg_config.specs.ConnectionStrings.{ConnectionStringMeans};
+ghost use Rattle.pg_config.specs.Outcomes.{IsAnswered};
 
 use crate::config::Config;
-use crate::fault::Fault;
 use crate::key_value::read_key_values;
 use crate::url_parameter::read_url;
-use pg_errors::{Cause, Error};
+use pg_faults::{Cause, Error};
 use pg_types::OutOfMemory;
 use std::alloc::Global;
 
@@ -23,26 +20,16 @@ impl Config {
     /// UnknownOption with the key, InvalidValue with the key, or NotUtf8. Whether a key is known and its
     /// value in form is judged once the whole parameter was read and decoded.
     pub fn from_str(alloc: Global, s: &str) -> Result<Config, Error>
-        ensures answer { AnswersSaid (ConnectionStringMeans s.now) result }
-        ensures only { (said : Result Config faults.Cause) → ConnectionStringMeans s.now said → IsAnswered said result }
+        ensures answer { (said : Result Config Cause) × ConnectionStringMeans s.now said × IsAnswered said result }
+        ensures only { (said : Result Config Cause) → ConnectionStringMeans s.now said → IsAnswered said result }
     {
-        match read(alloc, s) {
-            Ok(config) => Ok(config),
-            Err(fault) => Err(error_of(fault)),
+        match behind_scheme(s.as_bytes()) {
+            Some(rest) => read_url(alloc, rest),
+            None => {
+                let characters = characters_of(alloc, s)?;
+                read_key_values(alloc, characters.as_slice())
+            }
         }
-    }
-}
-
-fn read(alloc: Global, s: &str) -> Result<Config, Fault>
-    ensures said { Tells (ConnectionStringSays s.now) result }
-    ensures only { (said : Result Config faults.Cause) → ConnectionStringSays s.now said → IsSaid said result }
-{
-    match behind_scheme(s.as_bytes()) {
-        Some(rest) => read_url(alloc, rest),
-        None => match characters_of(alloc, s) {
-            Ok(characters) => read_key_values(alloc, characters.as_slice()),
-            Err(OutOfMemory) => Err(Fault::OutOfMemory),
-        },
     }
 }
 
@@ -63,16 +50,4 @@ fn characters_of(alloc: Global, s: &str) -> Result<Vec<char>, OutOfMemory>
     ensures { IfOk result (λ characters. characters.items ≡ chars s.now) }
 {
     Ok(s.chars().collect(alloc)?)
-}
-
-fn error_of(fault: Fault) -> Error
-    ensures { result ≡ error_from fault }
-{
-    match fault {
-        Fault::Syntax => Error::ConfigParse(Cause::Syntax),
-        Fault::UnknownOption(key) => Error::ConfigParse(Cause::UnknownOption(key)),
-        Fault::InvalidValue(key) => Error::ConfigParse(Cause::InvalidValue(key)),
-        Fault::NotUtf8 => Error::ConfigParse(Cause::NotUtf8),
-        Fault::OutOfMemory => Error::OutOfMemory,
-    }
 }

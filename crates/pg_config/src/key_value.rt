@@ -8,11 +8,10 @@ ghost use Rattle.pg_config.specs.Fronts.{IsValueAt, LeavesBelow, escapes, front_
 ghost use Rattle.pg_config.specs.KeyValueReading.{KeyValuesSay, behind_while, front_of, front_while, is_in_run, keyed, valued};
 ghost use Rattle.pg_config.specs.KeyValue as spec;
 ghost use Rattle.pg_config.specs.Numbers.{begins_with};
-ghost use Rattle.pg_config.specs.Outcomes.{IsSaid, Tells};
-ghost use Rattle.pg_spec.specs.Faults.{Cause};
+ghost use Rattle.pg_config.specs.Outcomes.{IsAnswered};
 
 use crate::config::Config;
-use crate::fault::Fault;
+use pg_faults::{Cause, Error};
 use pg_types::OutOfMemory;
 use std::alloc::Global;
 
@@ -38,30 +37,23 @@ struct Value {
 }
 
 /// The settings that the characters of a text say.
-pub(crate) fn read_key_values(alloc: Global, text: &[char]) -> Result<Config, Fault>
-    ensures said { Tells (KeyValuesSay text.now) result }
-    ensures only { (said : Result Config Cause) → KeyValuesSay text.now said → IsSaid said result }
+pub(crate) fn read_key_values(alloc: Global, text: &[char]) -> Result<Config, Error>
+    ensures { (said : Result Config Cause) → KeyValuesSay text.now said → IsAnswered said result }
 {
     let mut config = Config::new(alloc);
     let mut rest = text;
     'parameters: loop {
-        match read_front(alloc, rest) {
-            Ok(
-                Front::Parameter {
-                    key,
-                    value,
-                    rest: behind,
-                },
-            ) => {
-                match config.param(alloc, key.as_str(), value.as_str()) {
-                    Ok(()) => {}
-                    Err(fault) => return Err(fault),
-                }
+        match read_front(alloc, rest)? {
+            Front::Parameter {
+                key,
+                value,
+                rest: behind,
+            } => {
+                config.param(alloc, key.as_str(), value.as_str())?;
                 rest = behind;
             }
-            Ok(Front::Done) => return Ok(config),
-            Ok(Front::Broken) => return Err(Fault::Syntax),
-            Err(OutOfMemory) => return Err(Fault::OutOfMemory),
+            Front::Done => return Ok(config),
+            Front::Broken => return Err(Error::ConfigParse(Cause::Syntax)),
         }
     }
 }

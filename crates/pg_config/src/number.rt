@@ -76,8 +76,8 @@ fn value_of(digit: u8) -> u64
 {
     match digit {
         b'0'..=b'9' => u64::from(digit - b'0'),
-        b'A'..=b'Z' => u64::from(digit - 55),
-        b'a'..=b'z' => u64::from(digit - 87),
+        b'A'..=b'Z' => u64::from(digit - b'A' + 10),
+        b'a'..=b'z' => u64::from(digit - b'a' + 10),
         _ => 36,
     }
 }

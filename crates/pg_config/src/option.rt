@@ -3,19 +3,19 @@
 ghost use Rattle.std.specs.Prelude.{◌≡◌, ◌++◌, map, IfOk, OnOk, option_map};
 ghost use Rattle.std.specs.Str.{byte};
 ghost use Rattle.pg_config.specs.Addresses.{address_of};
-ghost use Rattle.pg_config.specs.Options.{applies, choice_option, number_option, place_option, port_of, text_option, time_option};
-ghost use Rattle.pg_config.specs.Options as spec;
+ghost use Rattle.pg_config.specs.Options.{applies, choice_options, number_options, options, place_options, port_of, said_by, text_options, time_options};
 ghost use Rattle.pg_config.specs.Outcomes.{Becomes, Tries};
 ghost use Rattle.pg_config.specs.Pieces.{IsCut, all_of, pieces};
 ghost use Rattle.pg_config.specs.Settings.{host_of};
 
 use crate::address::read_address;
 use crate::config::Config;
-use crate::fault::{Fault, invalid_value, unknown_option};
+use crate::fault::{invalid_value, unknown_option};
 use crate::host::{DEFAULT_PORT, IpAddr};
 use crate::modes::{ChannelBinding, LoadBalanceHosts, SslMode, SslNegotiation, TargetSessionAttrs};
 use crate::number::{read_seconds, read_unsigned};
 use crate::piece::cut;
+use pg_faults::Error;
 use pg_types::OutOfMemory;
 use std::alloc::Global;
 
@@ -25,51 +25,28 @@ const MOST_RETRIES: u64 = u32::MAX as u64;
 impl Config {
     /// Sets what this key and value say. UnknownOption comes where there is no setting of this name,
     /// InvalidValue where the value is out of its form.
-    pub(crate) fn param(&mut self, alloc: Global, key: &str, value: &str) -> Result<(), Fault>
+    pub(crate) fn param(&mut self, alloc: Global, key: &str, value: &str) -> Result<(), Error>
         ensures { Becomes (applies key.now value.now self.old) self.new result }
     {
-        match self.any_option(alloc, key, value) {
-            Ok(true) => Ok(()),
-            Ok(false) => Err(unknown_option(alloc, key)),
-            Err(fault) => Err(fault),
+        if !self.any_option(alloc, key, value)? {
+            return Err(unknown_option(alloc, key));
         }
+        Ok(())
     }
 
     /// Sets it, if there is a setting of this name.
-    fn any_option(&mut self, alloc: Global, key: &str, value: &str) -> Result<bool, Fault>
-        ensures { Tries (spec.any_option key.now value.now self.old) self.old self.new result }
+    fn any_option(&mut self, alloc: Global, key: &str, value: &str) -> Result<bool, Error>
+        ensures { Tries (said_by options key.now value.now self.old) self.old self.new result }
     {
         if self.text_param(alloc, key, value)? {
             return Ok(true);
         }
-        self.place_or_later(alloc, key, value)
-    }
-
-    /// The same of all but texts.
-    fn place_or_later(&mut self, alloc: Global, key: &str, value: &str) -> Result<bool, Fault>
-        ensures { Tries (spec.place_or_later key.now value.now self.old) self.old self.new result }
-    {
-        match self.place_param(alloc, key, value) {
-            Ok(true) => Ok(true),
-            Ok(false) => self.time_or_later(alloc, key, value),
-            Err(fault) => Err(fault),
+        if self.place_param(alloc, key, value)? {
+            return Ok(true);
         }
-    }
-
-    /// The same of times, numbers and words.
-    fn time_or_later(&mut self, alloc: Global, key: &str, value: &str) -> Result<bool, Fault>
-        ensures { Tries (spec.time_or_later key.now value.now self.old) self.old self.new result }
-    {
         if self.time_param(alloc, key, value)? {
             return Ok(true);
         }
-        self.number_or_choice(alloc, key, value)
-    }
-
-    /// The same of numbers and words.
-    fn number_or_choice(&mut self, alloc: Global, key: &str, value: &str) -> Result<bool, Fault>
-        ensures { Tries (spec.number_or_choice key.now value.now self.old) self.old self.new result }
-    {
         if self.number_param(alloc, key, value)? {
             return Ok(true);
         }
@@ -77,8 +54,8 @@ impl Config {
     }
 
     /// Settings that take any text.
-    fn text_param(&mut self, alloc: Global, key: &str, value: &str) -> Result<bool, Fault>
-        ensures { Tries (text_option key.now value.now self.old) self.old self.new result }
+    fn text_param(&mut self, alloc: Global, key: &str, value: &str) -> Result<bool, Error>
+        ensures { Tries (said_by text_options key.now value.now self.old) self.old self.new result }
     {
         if key == "user" {
             self.user(alloc, value)?;
@@ -104,8 +81,8 @@ impl Config {
     }
 
     /// Settings that are added, between commas.
-    fn place_param(&mut self, alloc: Global, key: &str, value: &str) -> Result<bool, Fault>
-        ensures { Tries (place_option key.now value.now self.old) self.old self.new result }
+    fn place_param(&mut self, alloc: Global, key: &str, value: &str) -> Result<bool, Error>
+        ensures { Tries (said_by place_options key.now value.now self.old) self.old self.new result }
     {
         if key == "host" {
             self.add_hosts(alloc, value)?;
@@ -160,8 +137,8 @@ impl Config {
     }
 
     /// Settings that are times, in seconds.
-    fn time_param(&mut self, alloc: Global, key: &str, value: &str) -> Result<bool, Fault>
-        ensures { Tries (time_option key.now value.now self.old) self.old self.new result }
+    fn time_param(&mut self, alloc: Global, key: &str, value: &str) -> Result<bool, Error>
+        ensures { Tries (said_by time_options key.now value.now self.old) self.old self.new result }
     {
         if key == "connect_timeout" {
             let Some(seconds) = read_seconds(value.as_bytes()) else {
@@ -203,8 +180,8 @@ impl Config {
     }
 
     /// Settings that are numbers.
-    fn number_param(&mut self, alloc: Global, key: &str, value: &str) -> Result<bool, Fault>
-        ensures { Tries (number_option key.now value.now self.old) self.old self.new result }
+    fn number_param(&mut self, alloc: Global, key: &str, value: &str) -> Result<bool, Error>
+        ensures { Tries (said_by number_options key.now value.now self.old) self.old self.new result }
     {
         if key == "keepalives" {
             let Some(number) = read_unsigned(value.as_bytes(), u64::MAX) else {
@@ -224,8 +201,8 @@ impl Config {
     }
 
     /// Settings that choose between words.
-    fn choice_param(&mut self, alloc: Global, key: &str, value: &str) -> Result<bool, Fault>
-        ensures { Tries (choice_option key.now value.now self.old) self.old self.new result }
+    fn choice_param(&mut self, alloc: Global, key: &str, value: &str) -> Result<bool, Error>
+        ensures { Tries (said_by choice_options key.now value.now self.old) self.old self.new result }
     {
         if key == "sslmode" {
             let Some(word) = SslMode::named(value) else {

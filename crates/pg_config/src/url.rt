@@ -1,19 +1,19 @@
 //! The URL form of connection strings, up to its parameters (PostgreSQL documentation, "Connection URIs").
 
-ghost use Rattle.std.specs.Prelude.{◌≡◌, IfOk, MatchResult, codes, false, option_map, true, unwrap_or};
+ghost use Rattle.std.specs.Prelude.{◌≡◌, IfOk, MatchResult, Ok, codes, false, option_map, true, unwrap_or};
 ghost use Rattle.std.specs.Str.{byte, is_utf8};
 ghost use Rattle.percent_encoding.specs.Percent.{percent_decode};
 ghost use Rattle.pg_config.specs.KeyValueReading.{behind_while, front_while};
-ghost use Rattle.pg_config.specs.Outcomes.{Becomes};
+ghost use Rattle.pg_config.specs.Outcomes.{Becomes, IsAnswered};
 ghost use Rattle.pg_config.specs.Pieces.{pieces};
-ghost use Rattle.pg_config.specs.Texts.{IsDecoded};
 ghost use Rattle.pg_config.specs.UrlReading as spec;
 ghost use Rattle.pg_config.specs.UrlReading.{is_of_hosts, opening};
 ghost use Rattle.pg_config.specs.Urls as grammar;
 
 use crate::config::Config;
-use crate::fault::{Fault, invalid_value};
+use crate::fault::invalid_value;
 use crate::piece::cut;
+use pg_faults::{Cause, Error};
 use pg_types::{OutOfMemory, Text};
 use std::alloc::Global;
 
@@ -22,7 +22,7 @@ const PORT_TEXT: &[u8] = b"5432";
 
 impl Config {
     /// Sets what a URL says behind its scheme, up to its parameters.
-    pub(crate) fn open_url(&mut self, alloc: Global, text: &[u8]) -> Result<(), Fault>
+    pub(crate) fn open_url(&mut self, alloc: Global, text: &[u8]) -> Result<(), Error>
         ensures { Becomes (opening text.now self.old) self.new result }
     {
         self.login(alloc, text)?;
@@ -30,7 +30,7 @@ impl Config {
     }
 
     /// The part before the first `@`: a user, or a user, a colon and a password.
-    fn login(&mut self, alloc: Global, text: &[u8]) -> Result<(), Fault>
+    fn login(&mut self, alloc: Global, text: &[u8]) -> Result<(), Error>
         ensures { Becomes (spec.login text.now self.old) self.new result }
     {
         match cut(text, b'@') {
@@ -39,7 +39,7 @@ impl Config {
         }
     }
 
-    fn named_user(&mut self, alloc: Global, text: &[u8]) -> Result<(), Fault>
+    fn named_user(&mut self, alloc: Global, text: &[u8]) -> Result<(), Error>
         ensures { Becomes (spec.named_user text.now self.old) self.new result }
     {
         let (user, password) = cut(text, b':');
@@ -56,7 +56,7 @@ impl Config {
     }
 
     /// The hosts and the database, behind the login.
-    fn places_and_database(&mut self, alloc: Global, text: &[u8]) -> Result<(), Fault>
+    fn places_and_database(&mut self, alloc: Global, text: &[u8]) -> Result<(), Error>
         ensures { Becomes (spec.places_and_database text.now self.old) self.new result }
     {
         let (hosts, behind) = cut_hosts(text);
@@ -65,7 +65,7 @@ impl Config {
     }
 
     /// The hosts, between commas, if there are any.
-    fn places(&mut self, alloc: Global, text: &[u8]) -> Result<(), Fault>
+    fn places(&mut self, alloc: Global, text: &[u8]) -> Result<(), Error>
         ensures { Becomes (spec.places text.now self.old) self.new result }
     {
         if text.is_empty() {
@@ -74,23 +74,20 @@ impl Config {
         self.each_place(alloc, text)
     }
 
-    fn each_place(&mut self, alloc: Global, text: &[u8]) -> Result<(), Fault>
+    fn each_place(&mut self, alloc: Global, text: &[u8]) -> Result<(), Error>
         ensures { Becomes (spec.each_place (pieces (byte ",") text.now) self.old) self.new result }
     {
         let mut rest = Some(text);
         while let Some(text) = rest {
             let (piece, behind) = cut(text, b',');
-            match self.place(alloc, piece) {
-                Ok(()) => {}
-                Err(fault) => return Err(fault),
-            }
+            self.place(alloc, piece)?;
             rest = behind;
         }
         Ok(())
     }
 
     /// One host with its port.
-    fn place(&mut self, alloc: Global, piece: &[u8]) -> Result<(), Fault>
+    fn place(&mut self, alloc: Global, piece: &[u8]) -> Result<(), Error>
         ensures { Becomes (spec.place piece.now self.old) self.new result }
     {
         match piece {
@@ -103,7 +100,7 @@ impl Config {
     }
 
     /// Behind a bracket: a host, a bracket, and a colon and a port, or nothing.
-    fn bracketed(&mut self, alloc: Global, text: &[u8]) -> Result<(), Fault>
+    fn bracketed(&mut self, alloc: Global, text: &[u8]) -> Result<(), Error>
         ensures { Becomes (spec.bracketed text.now self.old) self.new result }
     {
         let (host, behind) = cut(text, b']');
@@ -114,7 +111,7 @@ impl Config {
         }
     }
 
-    fn placed(&mut self, alloc: Global, host: &[u8], port: &[u8]) -> Result<(), Fault>
+    fn placed(&mut self, alloc: Global, host: &[u8], port: &[u8]) -> Result<(), Error>
         ensures { Becomes (grammar.placed host.now port.now self.old) self.new result }
     {
         let host = decode_text(alloc, host)?;
@@ -124,7 +121,7 @@ impl Config {
     }
 
     /// Behind a slash the database, up to the parameters. Where it is empty, it isn't set.
-    fn database(&mut self, alloc: Global, text: &[u8]) -> Result<(), Fault>
+    fn database(&mut self, alloc: Global, text: &[u8]) -> Result<(), Error>
         ensures { Becomes (spec.database text.now self.old) self.new result }
     {
         match text {
@@ -136,7 +133,7 @@ impl Config {
         }
     }
 
-    fn database_name(&mut self, alloc: Global, name: &[u8]) -> Result<(), Fault>
+    fn database_name(&mut self, alloc: Global, name: &[u8]) -> Result<(), Error>
         ensures { Becomes (grammar.database_name name.now self.old) self.new result }
     {
         if name.is_empty() {
@@ -181,22 +178,22 @@ fn port_or_default<'a>(port: Option<&'a [u8]>) -> &'a [u8]
 }
 
 /// The text that stands there with its escapes (RFC 3986, section 2.1). NotUtf8 comes where it is none.
-pub(crate) fn decode_text(alloc: Global, escaped: &[u8]) -> Result<Text, Fault>
-    ensures { IsDecoded escaped.now result }
+pub(crate) fn decode_text(alloc: Global, escaped: &[u8]) -> Result<Text, Error>
+    ensures { IsAnswered (grammar.in_text escaped.now (λ text. Ok text)) result }
 {
     let bytes = decode_bytes(alloc, escaped)?;
     Ok(Text::from_str(alloc, utf8(bytes.as_slice())?)?)
 }
 
 /// The bytes as a text, or NotUtf8.
-fn utf8(bytes: &[u8]) -> Result<&str, Fault>
+fn utf8(bytes: &[u8]) -> Result<&str, Error>
     ensures { MatchResult result
         (λ text. (text.now ≡ bytes.now) × (is_utf8 bytes.now ≡ true))
-        (λ fault. (fault ≡ Fault.NotUtf8) × (is_utf8 bytes.now ≡ false)) }
+        (λ e. (e ≡ Error.ConfigParse Cause.NotUtf8) × (is_utf8 bytes.now ≡ false)) }
 {
     match str::from_utf8(bytes) {
         Ok(text) => Ok(text),
-        Err(_) => Err(Fault::NotUtf8),
+        Err(_) => Err(Error::ConfigParse(Cause::NotUtf8)),
     }
 }
 

@@ -1,18 +1,17 @@
 //! The parameters of a URL (PostgreSQL documentation, "Connection URIs").
 
-ghost use Rattle.std.specs.Prelude.{◌≡◌, ◌<◌, ◌++◌, length, unwrap_or, option_map, Result, []};
-ghost use Rattle.pg_spec.specs.Faults.{Cause};
+ghost use Rattle.std.specs.Prelude.{◌≡◌, ◌<◌, length, unwrap_or, option_map, Result, []};
 ghost use Rattle.pg_config.specs.declared.config.Config.{Config};
-ghost use Rattle.pg_config.specs.Outcomes.{Becomes, IsSaid, Tells};
+ghost use Rattle.pg_config.specs.Outcomes.{Becomes, IsAnswered};
 ghost use Rattle.pg_config.specs.ParameterReading.{Says};
 ghost use Rattle.pg_config.specs.UrlReading.{UrlSays, parameter_at, query};
 ghost use Rattle.pg_config.specs.Urls.{parameter};
 ghost use Rattle.pg_config.specs.UrlFronts.{LeavesLess, stands_view};
 
 use crate::config::Config;
-use crate::fault::Fault;
 use crate::piece::cut;
 use crate::url::{after_login, cut_hosts, decode_text};
+use pg_faults::{Cause, Error};
 use std::alloc::Global;
 
 /// What the parameters of a URL begin with.
@@ -30,21 +29,17 @@ enum Stands<'a> {
 }
 
 /// The settings that a URL says behind its scheme.
-pub(crate) fn read_url(alloc: Global, text: &[u8]) -> Result<Config, Fault>
-    ensures said { Tells (UrlSays text.now) result }
-    ensures only { (said : Result Config Cause) → UrlSays text.now said → IsSaid said result }
+pub(crate) fn read_url(alloc: Global, text: &[u8]) -> Result<Config, Error>
+    ensures { (said : Result Config Cause) → UrlSays text.now said → IsAnswered said result }
 {
     let mut config = Config::new(alloc);
-    match config.open_url(alloc, text) {
-        Ok(()) => read_parameters(alloc, query_of(text), config),
-        Err(fault) => Err(fault),
-    }
+    config.open_url(alloc, text)?;
+    read_parameters(alloc, query_of(text), config)
 }
 
 /// The settings, after these parameters.
-fn read_parameters(alloc: Global, text: &[u8], config: Config) -> Result<Config, Fault>
-    ensures said { Tells (Says parameter_at parameter text.now config) result }
-    ensures only { (said : Result Config Cause) → Says parameter_at parameter text.now config said → IsSaid said result }
+fn read_parameters(alloc: Global, text: &[u8], config: Config) -> Result<Config, Error>
+    ensures { (said : Result Config Cause) → Says parameter_at parameter text.now config said → IsAnswered said result }
 {
     let mut config = config;
     let mut rest = text;
@@ -55,14 +50,11 @@ fn read_parameters(alloc: Global, text: &[u8], config: Config) -> Result<Config,
                 value,
                 rest: behind,
             } => {
-                match config.url_param(alloc, key, value) {
-                    Ok(()) => {}
-                    Err(fault) => return Err(fault),
-                }
+                config.url_param(alloc, key, value)?;
                 rest = behind;
             }
             Stands::Done => return Ok(config),
-            Stands::Broken => return Err(Fault::Syntax),
+            Stands::Broken => return Err(Error::ConfigParse(Cause::Syntax)),
         }
     }
 }
@@ -108,7 +100,7 @@ fn query_of(text: &[u8]) -> &[u8]
 
 impl Config {
     /// Sets what a parameter says. A host is one host, also where a comma stands in it.
-    fn url_param(&mut self, alloc: Global, key: &[u8], value: &[u8]) -> Result<(), Fault>
+    fn url_param(&mut self, alloc: Global, key: &[u8], value: &[u8]) -> Result<(), Error>
         ensures { Becomes (parameter key.now value.now self.old) self.new result }
     {
         let key = decode_text(alloc, key)?;

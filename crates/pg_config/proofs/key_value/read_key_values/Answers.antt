@@ -1,31 +1,28 @@
+use Rattle.std.proofs.lemmas.Result.{err_from_is_err_and}
 use Rattle.pg_config.specs.KeyValueReading.{front_of}
 use Rattle.pg_config.specs.Options.{applies}
 use Rattle.pg_config.specs.Settings.{defaults}
-use Rattle.pg_config.proofs.Readings.{broken_only, done_only, fault_only, fault_said, read_more, renamed}
+use Rattle.pg_config.proofs.Readings.{broken_only, done_only, fault_only, read_more, renamed}
 use Rattle.pg_config.proofs.key_value.read_key_values.Goals as goal
 
-pub returns-in-Err-param-clause-said : goal.returns-in-Err-param-clause-said
-returns-in-Err-param-clause-said c =
-    let stands = rw c.in-Ok-Parameter.field-0-is at c.in-Ok-Parameter.ensures.front in
-    let named = renamed front_of c.parameters.rest.now _ c.as_str.result.now _ c.as_str-in-Ok-Parameter.result.now c.in-Ok-Parameter.behind.now stands c.as_str.ensures.value c.as_str-in-Ok-Parameter.ensures.value in
-    fault_said front_of applies c.args.text.now c.parameters.rest.now c.in-Ok-Parameter.behind.now defaults c.parameters.config c.as_str.result.now c.as_str-in-Ok-Parameter.result.now c.in-Err-param.fault named c.in-Err-param.ensures c.parameters.invariant
-
-pub returns-in-Err-param-clause-only : goal.returns-in-Err-param-clause-only
-returns-in-Err-param-clause-only c =
-    let stands = rw c.in-Ok-Parameter.field-0-is at c.in-Ok-Parameter.ensures.front in
-    let named = renamed front_of c.parameters.rest.now _ c.as_str.result.now _ c.as_str-in-Ok-Parameter.result.now c.in-Ok-Parameter.behind.now stands c.as_str.ensures.value c.as_str-in-Ok-Parameter.ensures.value in
-    fault_only front_of applies c.args.text.now c.parameters.rest.now c.in-Ok-Parameter.behind.now defaults c.parameters.config c.as_str.result.now c.as_str-in-Ok-Parameter.result.now c.in-Err-param.fault named c.in-Err-param.ensures c.parameters.invariant
+pub returns-in_err-param-in-Parameter : goal.returns-in_err-param-in-Parameter
+returns-in_err-param-in-Parameter c =
+    let stands = rw c.in-Parameter.is at c.in_ok-key.ensures.front in
+    let named = renamed front_of c.parameters.rest.now _ c.as_str.result.now _ c.as_str-in-Parameter.result.now c.in-Parameter.behind.now stands c.as_str.ensures.value c.as_str-in-Parameter.ensures.value in
+    let p = err_from_is_err_and c.from_residual-in_err-param-in-Parameter.result c.from_residual-in_err-param-in-Parameter.ensures.1 in
+    rw (p.1, p.2) (fault_only front_of applies c.args.text.now c.parameters.rest.now c.in-Parameter.behind.now defaults c.parameters.config c.as_str.result.now c.as_str-in-Parameter.result.now
+    c.in_err-param-in-Parameter.field-0.0 named c.in_err-param-in-Parameter.ensures c.parameters.invariant)
 
 pub parameters-preserved : goal.parameters-preserved
 parameters-preserved c =
-    let stands = rw c.in-Ok-Parameter.field-0-is at c.in-Ok-Parameter.ensures.front in
-    let named = renamed front_of c.parameters.rest.now _ c.as_str.result.now _ c.as_str-in-Ok-Parameter.result.now c.in-Ok-Parameter.behind.now stands c.as_str.ensures.value c.as_str-in-Ok-Parameter.ensures.value in
-    read_more front_of applies c.args.text.now c.parameters.rest.now c.in-Ok-Parameter.behind.now defaults c.parameters.config c.param.new.self c.as_str.result.now c.as_str-in-Ok-Parameter.result.now named c.in-Ok.ensures c.parameters.invariant
+    let stands = rw c.in-Parameter.is at c.in_ok-key.ensures.front in
+    let named = renamed front_of c.parameters.rest.now _ c.as_str.result.now _ c.as_str-in-Parameter.result.now c.in-Parameter.behind.now stands c.as_str.ensures.value c.as_str-in-Parameter.ensures.value in
+    read_more front_of applies c.args.text.now c.parameters.rest.now c.in-Parameter.behind.now defaults c.parameters.config c.param.new.self c.as_str.result.now c.as_str-in-Parameter.result.now named c.in_ok-param-in-Parameter.ensures c.parameters.invariant
 
-pub returns-in-Ok-Done-clause-only : goal.returns-in-Ok-Done-clause-only
-returns-in-Ok-Done-clause-only c =
-    done_only front_of applies c.args.text.now c.parameters.rest.now defaults c.parameters.config c.parameters.invariant (rw c.in-Ok-Done.field-0-is at c.in-Ok-Done.ensures.front)
+pub returns-in-Done : goal.returns-in-Done
+returns-in-Done c =
+    done_only front_of applies c.args.text.now c.parameters.rest.now defaults c.parameters.config c.parameters.invariant (rw c.in-Done.is at c.in_ok-key.ensures.front)
 
-pub returns-in-Ok-Broken-clause-only : goal.returns-in-Ok-Broken-clause-only
-returns-in-Ok-Broken-clause-only c =
-    broken_only front_of applies c.args.text.now c.parameters.rest.now defaults c.parameters.config c.parameters.invariant (rw c.in-Ok-Broken.field-0-is at c.in-Ok-Broken.ensures.front)
+pub returns-in-Broken : goal.returns-in-Broken
+returns-in-Broken c =
+    broken_only front_of applies c.args.text.now c.parameters.rest.now defaults c.parameters.config c.parameters.invariant (rw c.in-Broken.is at c.in_ok-key.ensures.front)
