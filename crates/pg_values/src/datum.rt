@@ -1,5 +1,7 @@
 //! A value of any supported type.
 
+use crate::held::Held;
+use crate::wide::Wide;
 use pg_types::{Blob, List, Text};
 
 /// A dimension of an array (PostgreSQL documentation, "Arrays").
@@ -42,7 +44,7 @@ pub enum Datum {
     /// A numeric (numeric.c).
     Numeric {
         /// The number times ten to the power of `scale`; of at most 38 decimals.
-        unscaled: i128,
+        unscaled: Wide,
         /// How many decimals stand behind the point, from 0 to 38.
         scale: u16,
     },
@@ -56,7 +58,7 @@ pub enum Datum {
     /// An array (arrayfuncs.c).
     Array {
         /// From 0 to 6 dimensions, the outermost first.
-        dims: List<Dim>,
+        dims: Held<List<Dim>>,
         /// As many items as the product of the lengths, the last dimension running fastest; none where there is no dimension.
         items: List<Datum>,
     },

@@ -4,6 +4,7 @@
 
 mod arrays;
 mod datum;
+mod held;
 mod lists;
 mod numeric;
 mod numeric_written;
@@ -14,8 +15,11 @@ mod reading;
 mod scalars;
 mod scalars_written;
 mod supported;
+mod wide;
 mod writing;
 
 pub use datum::{Bound, Datum, Dim};
+pub use held::Held;
 pub use reading::read_datum;
+pub use wide::Wide;
 pub use writing::write_datum;

@@ -3,6 +3,7 @@
 ghost use Rattle.std.specs.Prelude.{◌≡◌, ◌++◌, ◌∷◌, [], MatchResult};
 ghost use Rattle.pg_types.specs.declared.fault.ValueFault.TheVariants as fault;
 
+use crate::held::Held;
 use pg_types::{List, ValueFault};
 use std::alloc::Global;
 
@@ -22,6 +23,16 @@ pub(crate) fn with_room<T>(alloc: Global, room: usize) -> Result<List<T>, ValueF
 {
     match Vec::with_capacity(alloc, room) {
         Ok(items) => Ok(List::new(items)),
+        Err(_) => Err(ValueFault::OutOfMemory),
+    }
+}
+
+/// A value on the heap.
+pub(crate) fn held<T: Drop>(alloc: Global, value: T) -> Result<Held<T>, ValueFault>
+    ensures { MatchResult result (λ h. h ≡ value) (λ f. f ≡ fault.OutOfMemory) }
+{
+    match Held::new(alloc, value) {
+        Ok(held) => Ok(held),
         Err(_) => Err(ValueFault::OutOfMemory),
     }
 }

@@ -9,6 +9,7 @@ ghost use Rattle.pg_values.specs.Reading.{ReadsAs};
 use crate::datum::Datum;
 use crate::lists::push;
 use crate::parts::{half, short};
+use crate::wide::Wide;
 use pg_types::{List, ValueFault};
 use std::alloc::Global;
 
@@ -171,7 +172,7 @@ fn value_of(form: &Form) -> Option<Datum>
     let number = unscaled(form)? as i128;
     let unscaled = if form.sign == MINUS { -number } else { number };
     Some(Datum::Numeric {
-        unscaled,
+        unscaled: Wide::new(unscaled),
         scale: form.scale,
     })
 }

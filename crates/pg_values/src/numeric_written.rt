@@ -162,7 +162,7 @@ pub(crate) fn write_numeric(value: &Datum, out: &mut BytesMut) -> Result<(), Val
 {
     match value {
         Datum::NotANumber => put_head(0, 0, NAN, 0, out),
-        Datum::Numeric { unscaled, scale } => write_number(*unscaled, *scale, out),
+        Datum::Numeric { unscaled, scale } => write_number(unscaled.get(), *scale, out),
         _ => Err(ValueFault::BadValue),
     }
 }

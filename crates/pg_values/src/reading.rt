@@ -8,7 +8,7 @@ ghost use Rattle.pg_types.proofs.KindLaws.{row_of};
 
 use crate::arrays::{behind_front, count_of, read_front};
 use crate::datum::Datum;
-use crate::lists::{push, with_room};
+use crate::lists::{held, push, with_room};
 use crate::numeric::read_numeric;
 use crate::parts::{behind, cut, word};
 use crate::ranges::{has_flag, lower_by, upper_by, values_of};
@@ -114,7 +114,8 @@ fn read_array(alloc: Global, element: &Type, raw: &[u8]) -> Result<Datum, ValueF
         return Err(ValueFault::BadValue);
     };
     let items = read_items(alloc, element, true, count, rest)?;
-    Ok(Datum::Array { dims, items })
+    let kept = held(alloc, dims)?;
+    Ok(Datum::Array { dims: kept, items })
 }
 
 /// A range between values of a type.

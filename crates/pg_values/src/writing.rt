@@ -190,7 +190,7 @@ fn array_parts(value: &Datum) -> Option<(&[Dim], &[Datum])>
         (λ parts. value.now ≡ d.Array parts.0.now parts.1.now) }
 {
     match value {
-        Datum::Array { dims, items } => Some((dims.as_slice(), items.as_slice())),
+        Datum::Array { dims, items } => Some((dims.get().as_slice(), items.as_slice())),
         _ => None,
     }
 }

@@ -1,4 +1,4 @@
-use Rattle.std.proofs.Common.{◌≡◌, ℕ, ◌<◌, ◌≤◌, ◌+◌, ◌*◌, ◌-◌, ◌^◌, Bool, true, false, ◌==◌, Err, List, [], ◌∷◌, ◌++◌, length, drop, get_or, Option, option_map, ap, refl, sym, ◌∙◌, subst, arith, w32, rules}
+use Rattle.std.proofs.Common.{◌≡◌, ℕ, ◌<◌, ◌≤◌, ◌+◌, ◌*◌, ◌^◌, Bool, true, false, ◌==◌, Err, List, [], ◌∷◌, ◌++◌, length, drop, Option, option_map, ap, refl, sym, ◌∙◌, subst, arith, w32, rules}
 use Rattle.std.specs.Int.{to_be_bytes}
 use Rattle.std.proofs.lemmas.Result.{err_from_is_err_and}
 use Rattle.std.proofs.lemmas.List.{length_push}
@@ -7,11 +7,12 @@ use Rattle.pg_types.specs.declared.pg_type.PgType.{PgType}
 use Rattle.pg_types.specs.declared.pg_type.Kind as k
 use Rattle.pg_types.proofs.KindLaws.{row_of, array_is, range_is, domain_is, composite_is}
 use Rattle.pg_values.specs.declared.datum.Dim.{Dim}
+use Rattle.pg_values.specs.declared.datum.Datum as d
 use Rattle.pg_values.specs.declared.datum.Datum.{Datum}
 use Rattle.pg_values.specs.Parts.{SpellItems, AreItems, SpellsPart}
 use Rattle.pg_values.specs.Reading.{ReadsAs}
-use Rattle.pg_values.specs.Spelling.{SpellsKind, SpellFields, IsArray, IsRange, IsComposite, StandsInFront, count_fields, count_of}
-use Rattle.pg_values.proofs.ByteLaws.{word_same, word_rest}
+use Rattle.pg_values.specs.Spelling.{SpellsKind, SpellFields, IsArray, IsComposite, StandsInFront, count_fields, count_of}
+use Rattle.pg_values.proofs.ByteLaws.{word_same}
 use Rattle.pg_values.proofs.ReadLaws.{handed_on}
 use Rattle.pg_values.proofs.ItemLaws
 use Rattle.pg_values.proofs.ArrayValues.{front_of, items_of, array_of, has_front}
@@ -90,9 +91,10 @@ read_array-returns t c =
     let count : c.in-Some.count ≡ count_of c.in_ok-dims.dims = c.in-Some.ensures.0 ∙ ap count_of c.as_slice.ensures in
     let rest : c.in-Some-behind_front.rest.now ≡ drop (12 + 8 * length c.in_ok-dims.dims) c.args.raw.now =
     c.in-Some-behind_front.ensures ∙ ap (λ (l : List Dim). drop (12 + 8 * length l) c.args.raw.now) c.as_slice-2.ensures in
-    array_of S e.oid c.args.raw.now c.in_ok-dims.dims front c.in_ok-items.items
+    subst (λ (ds : List Dim). IsArray false e.oid S (d.Array ds c.in_ok-items.items) c.args.raw.now) (sym c.in_ok-kept.ensures)
+    (array_of S e.oid c.args.raw.now c.in_ok-dims.dims front c.in_ok-items.items
     (subst (λ (l : List ℕ). AreItems true S (count_of c.in_ok-dims.dims) c.in_ok-items.items l) rest
-    (subst (λ (n : ℕ). AreItems true S n c.in_ok-items.items c.in-Some-behind_front.rest.now) count c.in_ok-items.ensures))
+    (subst (λ (n : ℕ). AreItems true S n c.in_ok-items.items c.in-Some-behind_front.rest.now) count c.in_ok-items.ensures)))
 
 -- ---- items
 

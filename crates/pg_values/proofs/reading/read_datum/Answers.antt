@@ -1,4 +1,4 @@
-use Rattle.std.proofs.Common.{◌≡◌, ℕ, List, Bool, true, false, Option, Some, option_map, Result, Ok, Err, ap, sym, ◌∙◌, subst}
+use Rattle.std.proofs.Common.{◌≡◌, ℕ, List, true, false, Option, Some, option_map, Result, Ok, Err, ap, sym, ◌∙◌, subst}
 use Rattle.pg_types.specs.declared.fault.ValueFault.{ValueFault}
 use Rattle.pg_types.specs.declared.fault.ValueFault.TheVariants as fault
 use Rattle.pg_types.specs.declared.pg_type.PgType.{PgType}
