@@ -1,8 +1,8 @@
 -- Dimensions and fronts of arrays.
-use Rattle.std.proofs.Common.{◌≡◌, ℕ, zero, suc, ℤ, pos, ◌≤ℤ◌, ◌<◌, ◌≤◌, ◌*◌, ◌+◌, ◌-◌, ◌^◌, List, [], ◌∷◌, ◌++◌, length, drop, get_or, flat_map, unsigned_abs, ap, refl, sym, ◌∙◌, subst, arith, append_assoc, w32, add-one}
+use Rattle.std.proofs.Common.{◌≡◌, ℕ, zero, suc, ℤ, ◌<◌, ◌≤◌, ◌*◌, ◌+◌, ◌-◌, ◌^◌, List, [], ◌∷◌, ◌++◌, length, get_or, flat_map, unsigned_abs, ap, refl, sym, ◌∙◌, subst, arith, append_assoc, w32}
 use Rattle.std.specs.Int.{to_be_bytes}
 use Rattle.std.specs.List.{AllByRecursion}
-use Rattle.std.proofs.lemmas.List.{drop_more, flat_map_more}
+use Rattle.std.proofs.lemmas.List.{flat_map_more}
 use Rattle.std.proofs.lemmas.Int.{ints}
 use Rattle.std.proofs.Math.Nat.{one-le-mul, mul-le-mul_left}
 use Rattle.pg_values.specs.declared.datum.Dim.{Dim}

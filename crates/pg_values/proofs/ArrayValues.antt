@@ -1,5 +1,5 @@
 -- An array is its front and its items.
-use Rattle.std.proofs.Common.{◌≡◌, ℕ, ◌+◌, ◌*◌, ◌<◌, ◌≤◌, true, false, List, [], ◌++◌, length, drop, ap, refl, sym, ◌∙◌, subst, arith, length-append}
+use Rattle.std.proofs.Common.{◌≡◌, ℕ, ◌+◌, ◌*◌, ◌≤◌, true, false, List, length, drop, ap, refl, sym, ◌∙◌, subst, arith, length-append}
 use Rattle.std.proofs.lemmas.List.{drop_at}
 use Rattle.pg_values.specs.declared.datum.Dim.{Dim}
 use Rattle.pg_values.specs.declared.datum.Datum as d

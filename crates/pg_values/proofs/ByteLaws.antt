@@ -1,7 +1,7 @@
 -- What two fronts of the same bytes have in common.
-use Rattle.std.proofs.Common.{◌≡◌, ℕ, ℤ, ◌<◌, ◌^◌, ◌+◌, List, [], ◌∷◌, ◌++◌, length, take, drop, ap, refl, sym, ◌∙◌, arith, rules, FitsSigned, w16, w32}
-use Rattle.std.specs.Int.{to_be_bytes, from_be_bytes, cast_unsigned, cast_signed}
-use Rattle.std.proofs.lemmas.List.{take_at, drop_at, append_cancel_left}
+use Rattle.std.proofs.Common.{◌≡◌, ℕ, ℤ, ◌<◌, ◌^◌, List, ◌++◌, length, take, drop, ap, refl, sym, ◌∙◌, rules, FitsSigned, w16, w32}
+use Rattle.std.specs.Int.{to_be_bytes, from_be_bytes, cast_signed}
+use Rattle.std.proofs.lemmas.List.{take_at, drop_at}
 use Rattle.std.proofs.lemmas.Nat.{from_be_bytes-to_be_bytes_2, from_be_bytes-to_be_bytes_4}
 use Rattle.pg_values.specs.Numbers.{i16_bytes, i32_bytes}
 

@@ -1,5 +1,5 @@
 -- What writing a value answers, from what its bytes are.
-use Rattle.std.proofs.Common.{◌≡◌, ◌≢◌, ℕ, true, false, List, ◌++◌, length, take, Some, Result, Ok, Err, ap, refl, sym, ◌∙◌, subst}
+use Rattle.std.proofs.Common.{◌≡◌, ◌≢◌, ℕ, true, false, List, length, take, Result, Ok, Err, ap, refl, ◌∙◌, subst}
 use Rattle.std.proofs.lemmas.List.{take_at}
 use Rattle.pg_types.specs.declared.fault.ValueFault.{ValueFault}
 use Rattle.pg_types.specs.declared.fault.ValueFault.TheVariants as fault

@@ -1,5 +1,5 @@
 -- The digits of a numeric, and its form.
-use Rattle.std.proofs.Common.{◌≡◌, ℕ, zero, suc, ℤ, ◌<◌, ◌≤◌, ◌+◌, ◌^◌, List, [], ◌∷◌, ◌++◌, length, flat_map, false, ap, refl, sym, ◌∙◌, subst, arith, append_assoc, FitsSigned, w16, length-append}
+use Rattle.std.proofs.Common.{◌≡◌, ℕ, suc, ℤ, ◌<◌, ◌^◌, List, [], ◌∷◌, ◌++◌, length, flat_map, false, ap, refl, sym, ◌∙◌, subst, arith, append_assoc, FitsSigned, w16}
 use Rattle.std.specs.Int.{to_be_bytes}
 use Rattle.std.specs.List.{AllByRecursion}
 use Rattle.std.proofs.lemmas.List.{flat_map_more}

@@ -8,7 +8,7 @@ use Rattle.pg_values.specs.declared.datum.Datum.{Datum}
 use Rattle.pg_values.specs.Parts.{IsNext}
 use Rattle.pg_values.specs.Spelling.{SpellsKind, SpellFields, IsComposite, count_fields}
 use Rattle.pg_values.specs.declared.datum.Datum as d
-use Rattle.pg_values.specs.Writing.{AreBytes, HasNone}
+use Rattle.pg_values.specs.Writing.{HasNone}
 use Rattle.pg_values.proofs.WriteLaws.{Leaves, at_item, next_behind, bytes_behind, no_next, rest_bytes, moved}
 use Rattle.pg_values.proofs.Insides.{same_values}
 use Rattle.pg_values.proofs.ItemLaws.{at_field, count_is}

@@ -1,13 +1,13 @@
 -- Arrays, ranges and composites, written.
-use Rattle.std.proofs.Common.{◌≡◌, ◌≢◌, ◌↔◌, ℕ, ◌<◌, ◌≤◌, ◌+◌, ◌^◌, Bool, true, false, IsTrue, List, [], ◌∷◌, ◌++◌, length, Contains, ap, refl, sym, ◌∙◌, subst, arith, w32}
+use Rattle.std.proofs.Common.{◌≡◌, ◌≢◌, ◌↔◌, ℕ, ◌<◌, ◌≤◌, ◌+◌, ◌^◌, Bool, true, false, List, [], ◌∷◌, ◌++◌, length, Contains, ap, refl, sym, ◌∙◌, subst, arith, w32}
 use Rattle.std.specs.Int.{to_be_bytes}
 use Rattle.pg_values.specs.declared.datum.Dim.{Dim}
 use Rattle.pg_values.specs.declared.datum.Bound.{Bound}
 use Rattle.pg_values.specs.declared.datum.Datum as d
 use Rattle.pg_values.specs.declared.datum.Datum.{Datum}
-use Rattle.pg_values.specs.Parts.{SpellItems, AreItems}
+use Rattle.pg_values.specs.Parts.{SpellItems}
 use Rattle.pg_values.specs.Spelling.{IsArray, IsFront, IsRange, IsComposite, array_front, count_of, has_flag, lower_by, upper_by, range_flags, values_of}
-use Rattle.pg_values.specs.Writing.{AreBytes, HasNone}
+use Rattle.pg_values.specs.Writing.{HasNone}
 use Rattle.pg_values.proofs.Insides.{same_items, same_bounds, same_values}
 use Rattle.pg_values.proofs.WriteLaws.{rest_bytes, moved}
 

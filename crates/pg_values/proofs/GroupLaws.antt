@@ -1,24 +1,24 @@
 -- A number in base 10,000, and the digits that are written of it.
-use Rattle.std.proofs.Common.{◌≡◌, ◌≢◌, ◌⊎◌, inl, inr, ℕ, zero, suc, ℤ, pos, negsuc, ◌+ℤ◌, ◌≤ℤ◌, unsigned_abs, FitsSigned, ◌<◌, ◌≤◌, ◌*◌, ◌+◌, ◌-◌, ◌^◌, ◌/◌, ◌%◌, max, IsTrue, true, false, Result, Ok, Err, List, [], ◌∷◌, ◌++◌, length, flat_map, ap, refl, sym, ◌∙◌, subst, arith, append_assoc, length-append, w16}
+use Rattle.std.proofs.Common.{◌≡◌, ◌≢◌, ◌⊎◌, inl, inr, ℕ, zero, suc, ℤ, pos, negsuc, ◌+ℤ◌, unsigned_abs, FitsSigned, ◌<◌, ◌≤◌, ◌*◌, ◌+◌, ◌-◌, ◌^◌, ◌/◌, ◌%◌, true, false, Result, Ok, Err, List, [], ◌∷◌, ◌++◌, length, flat_map, ap, refl, sym, ◌∙◌, subst, arith, append_assoc, length-append, w16}
 use Rattle.std.specs.List.{AllByRecursion}
 use Rattle.std.specs.Int.{to_be_bytes}
 use Rattle.std.proofs.lemmas.Int.{ints}
 use Rattle.std.proofs.lemmas.List.{append-nil, flat_map_more}
 use Rattle.std.proofs.lemmas.Nat.{pow-add}
 use Rattle.std.proofs.lemmas.Bool.{cases_lt}
-use Rattle.std.proofs.Math.Nat.{mod-lt, div-lt_iff_lt-mul, mul-div_cancel, mod-add-div', one-le-pow, pow-suc, mul-le-mul_right}
+use Rattle.std.proofs.Math.Nat.{mod-lt, div-lt_iff_lt-mul, mul-div_cancel, mod-add-div', one-le-pow, one-le-mul, pow-suc, mul-le-mul_right}
 use Rattle.pg_values.specs.Numbers.{i16_bytes}
-use Rattle.pg_values.specs.Numerics.{digits_value, top, shift, HasFirst, HasLast, AreDigits, AreDigitsOf, IsNumericOf, IsNumeral, SpellsNumeric}
+use Rattle.pg_values.specs.Numerics.{digits_value, top, shift, HasFirst, HasLast, AreDigitsOf, IsNumeral, SpellsNumeric}
 use Rattle.pg_values.specs.Groups.{AreGroups, AreDigitsIn, IsWrittenNumber, IsSignOf, head_bytes}
 use Rattle.pg_types.specs.declared.fault.ValueFault.{ValueFault}
 use Rattle.pg_values.specs.declared.datum.Datum as d
 use Rattle.pg_values.specs.declared.datum.Datum.{Datum}
-use Rattle.pg_values.specs.Writing.{Appends, Begins, Fills, HasNone, Puts, WritesAs}
+use Rattle.pg_values.specs.Writing.{Fills, HasNone, Puts, WritesAs}
 use Rattle.pg_values.proofs.WriteLaws.{appended, begun, first, lacked}
 use Rattle.pg_values.proofs.NumberLaws.{tens, four_tens, low_small, tens_grow}
-use Rattle.pg_values.proofs.DigitLaws.{IsBelow, below_more}
+use Rattle.pg_values.proofs.DigitLaws.{below_more}
 
-cancel : (m n q : ℕ) → 1 ≤ q → m * q ≡ n * q → m ≡ n
+pub cancel : (m n q : ℕ) → 1 ≤ q → m * q ≡ n * q → m ≡ n
 cancel m n q some e = sym (mul-div_cancel m some) ∙ ap (λ (x : ℕ). x / q) e ∙ mul-div_cancel n some
 
 -- ---- groups
@@ -290,6 +290,7 @@ nan_bytes bytes e = record {
     last = λ p. tt;
   };
   is = inr (record { same = refl; sign_is = refl });
+  bare = λ p. record { zero = λ e. (refl, λ same. omega (arith, same)); nan = λ e. (refl, refl) };
 }
 
 pub zero_bytes : (z : ℤ) (scale : ℕ) (bytes : List ℕ) → unsigned_abs z ≡ 0 → scale ≤ 38 → bytes ≡ head_bytes 0 (pos 0) 0 scale → SpellsNumeric true (d.Numeric z scale) bytes
@@ -316,17 +317,34 @@ zero_bytes z scale bytes none few e = record {
     few = few;
     small = omega (arith, none);
   });
+  bare = λ p. record { zero = λ e. (refl, λ same. omega (arith, same)); nan = λ same. absurd (omega (arith, same)) };
 }
 
-pub number_is : (z : ℤ) (sign scale : ℕ) (bytes : List ℕ) → IsSignOf z sign → scale ≤ 38 → unsigned_abs z < 10 ^ 38 → IsWrittenNumber (unsigned_abs z) sign scale bytes
+-- a number that isn't zero has digits
+no_digit : (number scale : ℕ) (weight : ℤ) (digits : List ℕ) → number ≢ 0 → AreDigitsOf number scale weight digits → digits ≡ [] → ⊥
+no_digit number scale weight [] some are none =
+    let more : 1 ≤ number * 10000 ^ shift weight 0 = one-le-mul (omega (arith, some)) (one-le-pow (shift weight 0) 10000 (omega arith)) in
+    let whole : 0 * 10 ^ scale ≡ number * 10000 ^ shift weight 0 = are in
+    omega (arith, more, whole)
+no_digit number scale weight (x ∷ digits) some are none = absurd (cc none)
+
+signed_number : (z : ℤ) (sign : ℕ) → IsSignOf z sign → sign ≡ 49152 → ⊥
+signed_number z sign (inl a) e = omega (arith, a.0, e)
+signed_number z sign (inr a) e = omega (arith, a.0, e)
+
+pub number_is : (z : ℤ) (sign scale : ℕ) (bytes : List ℕ) → unsigned_abs z ≢ 0 → IsSignOf z sign → scale ≤ 38 → unsigned_abs z < 10 ^ 38 → IsWrittenNumber (unsigned_abs z) sign scale bytes
     → SpellsNumeric true (d.Numeric z scale) bytes
-number_is z sign scale bytes signs few small is = record {
+number_is z sign scale bytes some signs few small is = record {
   sign = sign;
   scale = scale;
   weight = is.weight;
   digits = is.digits;
   form = is.form;
   is = inl (record { unscaled = z; same = refl; signs = signs; number = is.digits_are; few = few; small = small });
+  bare = λ p. record {
+    zero = λ none. absurd (no_digit (unsigned_abs z) scale is.weight is.digits some is.digits_are none);
+    nan = λ same. absurd (signed_number z sign signs same);
+  };
 }
 
 pub no_numeric : (z : ℤ) (scale : ℕ) → (scale ≤ 38 → unsigned_abs z < 10 ^ 38 → ⊥) → HasNone (SpellsNumeric false (d.Numeric z scale))

@@ -1,14 +1,13 @@
 -- Items and fields, one after another.
-use Rattle.std.proofs.Common.{◌≡◌, ℕ, zero, suc, ◌<◌, ◌≤◌, ◌+◌, ◌-◌, ◌^◌, Bool, true, false, List, [], ◌∷◌, ◌++◌, length, drop, get_or, Option, Some, None, ap, refl, sym, ◌∙◌, subst, arith, append_assoc, w32}
+use Rattle.std.proofs.Common.{◌≡◌, ℕ, suc, ◌<◌, ◌≤◌, ◌+◌, ◌-◌, Bool, true, false, List, [], ◌∷◌, ◌++◌, length, drop, get_or, Option, ap, refl, sym, ◌∙◌, subst, arith, append_assoc, w32}
 use Rattle.std.specs.Int.{to_be_bytes}
 use Rattle.std.proofs.lemmas.List.{drop_more, drop_all, append-nil}
 use Rattle.pg_types.specs.declared.pg_type.Field.{Field}
-use Rattle.pg_types.specs.declared.pg_type.Kind as k
 use Rattle.pg_types.proofs.KindLaws.{row_of}
 use Rattle.pg_values.specs.declared.datum.Datum.{Datum}
 use Rattle.pg_values.specs.Parts.{IsPart, IsNext, SpellsPart, SpellItems, AreItems}
 use Rattle.pg_values.specs.Spelling.{SpellsKind, SpellFields, count_fields}
-use Rattle.pg_values.proofs.ByteLaws.{word_same, word_rest}
+use Rattle.pg_values.proofs.ByteLaws.{word_rest}
 use Rattle.pg_values.proofs.PartLaws.{part_only}
 
 -- ---- items

@@ -1,9 +1,9 @@
 -- What the definitions by cases on a kind say of a kind that holds types.
-use Rattle.std.proofs.Common.{◌≡◌, ℕ, Bool, List, ap, refl, sym}
+use Rattle.std.proofs.Common.{◌≡◌, ℕ, Bool, List, ap}
 use Rattle.pg_types.specs.declared.pg_type.PgType.{PgType}
 use Rattle.pg_types.specs.declared.pg_type.Field.{Field}
 use Rattle.pg_types.specs.declared.pg_type.Kind as k
-use Rattle.pg_types.proofs.KindLaws.{array_is, range_is, domain_is, composite_is, row_of, shape_of}
+use Rattle.pg_types.proofs.KindLaws.{array_is, range_is, domain_is, composite_is, row_of}
 use Rattle.pg_values.specs.declared.datum.Datum.{Datum}
 use Rattle.pg_values.specs.Supported.{is_supported, is_supported_kind, are_supported}
 use Rattle.pg_values.specs.Spelling.{SpellsKind, IsArray, IsRange, IsComposite, SpellFields, count_fields}

@@ -17,3 +17,5 @@ pub mod FormLaws
 pub mod PartWritten
 pub mod Insides
 pub mod DatumWritten
+pub mod SpanLaws
+pub mod ShortLaws

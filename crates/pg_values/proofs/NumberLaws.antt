@@ -1,7 +1,7 @@
 -- Powers of ten, and the numbers of digits in base 10,000.
 use Rattle.std.proofs.Common.{◌≡◌, ◌≢◌, ℕ, zero, suc, ◌<◌, ◌≤◌, ◌*◌, ◌+◌, ◌-◌, ◌^◌, ◌/◌, ◌%◌, List, [], ◌∷◌, length, ap, refl, sym, ◌∙◌, subst, arith}
 use Rattle.std.specs.List.{AllByRecursion}
-use Rattle.std.proofs.Math.Nat.{mul-div_cancel, mul-mod_left, le_of_mul-le-mul_right, mul-le-mul_right, mul-le-mul_left, pow-le-pow_right, one-le-pow, pow-suc, mod-add-div'}
+use Rattle.std.proofs.Math.Nat.{mul-div_cancel, mul-mod_left, le_of_mul-le-mul_right, mul-le-mul_right, pow-le-pow_right, one-le-pow, pow-suc, mod-add-div'}
 use Rattle.std.proofs.lemmas.Nat.{pow-add, mul-add-lt, div-mul-add}
 use Rattle.pg_values.specs.Numerics.{digits_value}
 
@@ -9,6 +9,9 @@ use Rattle.pg_values.specs.Numerics.{digits_value}
 
 pub tens : (k : ℕ) → 1 ≤ 10 ^ k
 tens k = one-le-pow k 10 (omega arith)
+
+pub some_power : (n k : ℕ) → n ≡ 10 ^ k → 1 ≤ n
+some_power n k e = subst (λ (m : ℕ). 1 ≤ m) (sym e) (tens k)
 
 pub tens_grow : (j k : ℕ) → j ≤ k → 10 ^ j ≤ 10 ^ k
 tens_grow j k less = pow-le-pow_right {n = 10} (omega arith) {i = j} {j = k} less

@@ -1,5 +1,5 @@
 -- A part in front of some bytes is the only one.
-use Rattle.std.proofs.Common.{◌≡◌, ℕ, suc, ◌<◌, ◌≤◌, ◌≢◌, ◌^◌, ◌+◌, ◌⊎◌, inl, inr, Bool, true, false, List, [], ◌∷◌, ◌++◌, length, Option, Some, None, ap, refl, sym, ◌∙◌, arith, IsTrue, IsFalse, append_assoc, length-append, w32}
+use Rattle.std.proofs.Common.{◌≡◌, ℕ, suc, ◌<◌, ◌≤◌, ◌≢◌, ◌^◌, ◌+◌, Bool, false, List, [], ◌++◌, length, Option, Some, None, ap, refl, sym, ◌∙◌, arith, append_assoc, length-append, w32}
 use Rattle.std.specs.Int.{to_be_bytes}
 use Rattle.pg_values.specs.Parts.{part_bytes, PartFits, IsPart}
 use Rattle.pg_values.proofs.ByteLaws.{word_same, word_rest, same_front, same_rest}

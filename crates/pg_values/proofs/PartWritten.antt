@@ -1,5 +1,5 @@
 -- A part, written.
-use Rattle.std.proofs.Common.{◌≡◌, ◌⊎◌, inl, inr, ℕ, ◌<◌, ◌≤◌, ◌+◌, ◌-◌, ◌^◌, Bool, true, false, List, [], ◌∷◌, ◌++◌, length, take, drop, Some, None, Result, Ok, Err, MatchResult, refl, sym, ◌∙◌, subst, w32}
+use Rattle.std.proofs.Common.{◌≡◌, inr, ℕ, ◌<◌, ◌≤◌, ◌+◌, ◌-◌, ◌^◌, Bool, true, false, List, [], ◌∷◌, ◌++◌, length, take, drop, None, Result, Ok, Err, MatchResult, refl, sym, subst, arith, w32}
 use Rattle.std.specs.Int.{to_be_bytes}
 use Rattle.pg_types.specs.declared.fault.ValueFault.{ValueFault}
 use Rattle.pg_types.specs.declared.fault.ValueFault.TheVariants as fault
@@ -9,21 +9,22 @@ use Rattle.pg_values.specs.declared.datum.Datum.{Datum}
 use Rattle.pg_values.specs.Parts.{IsNext, part_bytes}
 use Rattle.pg_values.specs.Spelling.{SpellsKind}
 use Rattle.pg_values.specs.Writing.{HasNone, Puts, WritesAs}
-use Rattle.pg_values.proofs.WriteLaws.{nothing, begun, first, lacked, null_part, no_part, part_written}
+use Rattle.pg_values.proofs.WriteLaws.{nothing, begun, first, lacked, refused, null_part, no_part, part_size, part_written}
 use Rattle.pg_values.proofs.PlainLaws.{kind_some}
 
 -- what `set_len` answers
 abbrev pub SetsLen : {A : Type 0} → (at : ℕ) (out new : List ℕ) → Result A ValueFault → Type 0
 SetsLen at out new result = MatchResult result
     (λ _. (length out - (at + 4) < 2 ^ 31) × (new ≡ take at out ++ to_be_bytes w32 (length out - (at + 4)) ++ drop (at + 4) out))
-    (λ f. (f ≡ fault.OutOfMemory) × (new ≡ out))
+    (λ f. (f ≡ fault.BadValue) × (2 ^ 31 ≤ length out - (at + 4)) × (new ≡ out))
 
 pub part_ends : (nullable : Bool) (W S : Datum → List ℕ → Type 0) (v : Datum) (old bytes new mid out : List ℕ) (r : Result (Unit {0}) ValueFault) → mid ≡ old ++ (0 ∷ 0 ∷ 0 ∷ 0 ∷ [])
-    → out ≡ mid ++ bytes → W v bytes → SetsLen (length old) out new r → WritesAs (λ b. IsNext nullable W v b []) (λ b. IsNext nullable S v b []) old new r
-part_ends nullable W S v old bytes new mid out (Ok x) e f is set = part_written nullable W v old bytes new mid out e f is set.0 set.1
-part_ends nullable W S v old bytes new mid out (Err g) e f is set =
-    lacked (λ b. IsNext nullable W v b []) (λ b. IsNext nullable S v b []) old new g set.0
-    (begun (first (0 ∷ 0 ∷ 0 ∷ 0 ∷ []) e) (begun (first bytes f) (nothing set.1)))
+    → out ≡ mid ++ bytes → W v bytes → (2 ^ 31 ≤ length bytes → HasNone (λ b. IsNext nullable S v b [])) → SetsLen (length old) out new r → WritesAs (λ b. IsNext nullable W v b []) (λ b. IsNext nullable S v b []) old new r
+part_ends nullable W S v old bytes new mid out (Ok x) e f is long set = part_written nullable W v old bytes new mid out e f is set.0 set.1
+part_ends nullable W S v old bytes new mid out (Err g) e f is long set =
+    let size : length out - (length old + 4) ≡ length bytes = part_size old bytes mid out e f in
+    refused (λ b. IsNext nullable W v b []) (λ b. IsNext nullable S v b []) old new g set.0 (long (omega (arith, size, set.1)))
+    (begun (first (0 ∷ 0 ∷ 0 ∷ 0 ∷ []) e) (begun (first bytes f) (nothing set.2)))
 
 null_put : (W S : Datum → List ℕ → Type 0) (v : Datum) (old new : List ℕ) (r : Result (Unit {0}) ValueFault) → v ≡ d.Null → Puts (part_bytes None) old new r
     → WritesAs (λ b. IsNext true W v b []) (λ b. IsNext true S v b []) old new r

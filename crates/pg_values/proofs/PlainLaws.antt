@@ -1,7 +1,6 @@
 -- What is written is read as the same value, and no bytes spell null.
-use Rattle.std.proofs.Common.{◌≡◌, ◌⊎◌, inl, inr, ℕ, Bool, true, false, ◌==◌, IsTrue, List, [], ◌∷◌, ◌++◌, Option, Some, None, Ok, ap, refl, sym, ◌∙◌, w32}
+use Rattle.std.proofs.Common.{◌≡◌, inl, inr, ℕ, Bool, true, false, ◌==◌, List, [], ◌∷◌, Option, Some, None, Ok, ap, sym, ◌∙◌}
 use Rattle.std.specs.Bool.{MatchBool}
-use Rattle.std.specs.Int.{to_be_bytes}
 use Rattle.pg_types.specs.declared.value.Value.{Value}
 use Rattle.pg_types.specs.declared.value.Value.TheVariants as value
 use Rattle.pg_types.specs.declared.pg_type.PgType.{PgType}
@@ -9,7 +8,7 @@ use Rattle.pg_types.specs.declared.pg_type.Kind as k
 use Rattle.pg_values.specs.declared.datum.Datum as d
 use Rattle.pg_values.specs.declared.datum.Datum.{Datum}
 use Rattle.pg_values.specs.Supported.{is_timestamp, numeric, date, uuid, is_supported}
-use Rattle.pg_values.specs.Scalars.{datum_of, IsValue, IsDate, IsTimestamp, IsUuid}
+use Rattle.pg_values.specs.Scalars.{IsValue, IsDate, IsTimestamp, IsUuid}
 use Rattle.pg_values.specs.Numerics.{SpellsNumeric, IsNumeral}
 use Rattle.pg_values.specs.Parts.{SpellsPart, IsNext, SpellItems, AreItems}
 use Rattle.pg_values.specs.Spelling.{SpellsScalar, SpellsKind, SpellsHeld, SpellFields, IsArray, IsRange, IsComposite, count_fields}
@@ -79,6 +78,7 @@ numeric_plain v bytes is = record {
     last = λ p. absurd (cc p);
   };
   is = is.is;
+  bare = λ p. absurd (cc p);
 }
 
 value_plain : (n : ℕ) (v : Datum) (bytes : List ℕ) → IsValue true n v bytes → IsValue false n v bytes

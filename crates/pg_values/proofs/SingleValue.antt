@@ -1,19 +1,16 @@
 -- Bytes spell at most one value.
-use Rattle.std.proofs.Common.{◌≡◌, ◌⊎◌, inl, inr, ℕ, ℤ, pos, negsuc, ◌≤ℤ◌, unsigned_abs, ◌<◌, ◌≤◌, ◌+◌, ◌*◌, ◌/◌, ◌^◌, Bool, true, false, ◌==◌, List, [], ◌∷◌, ◌++◌, length, Option, Some, None, Ok, ap, refl, sym, ◌∙◌, subst, arith, w32}
+use Rattle.std.proofs.Common.{◌≡◌, ◌⊎◌, inl, inr, ℕ, ℤ, pos, ◌≤ℤ◌, unsigned_abs, ◌≤◌, ◌+◌, ◌*◌, ◌/◌, ◌^◌, Bool, true, false, ◌==◌, List, [], ◌∷◌, ◌++◌, length, Option, Some, None, Ok, ap, refl, sym, ◌∙◌, subst, arith, w32}
 use Rattle.std.specs.Bool.{MatchBool}
 use Rattle.std.specs.Int.{to_be_bytes}
 use Rattle.std.proofs.lemmas.Int.{ints}
 use Rattle.std.proofs.Math.Nat.{one-le-pow, mul-div_cancel}
-use Rattle.pg_types.specs.declared.value.Value.{Value}
-use Rattle.pg_types.specs.declared.pg_type.PgType.{PgType}
 use Rattle.pg_types.specs.declared.pg_type.Kind as k
 use Rattle.pg_values.specs.declared.datum.Dim.{Dim}
-use Rattle.pg_values.specs.declared.datum.Bound.{Bound}
 use Rattle.pg_values.specs.declared.datum.Datum as d
 use Rattle.pg_values.specs.declared.datum.Datum.{Datum}
 use Rattle.pg_values.specs.Supported.{is_timestamp, numeric, date, uuid}
-use Rattle.pg_values.specs.Scalars.{datum_of, IsValue, IsDate, IsTimestamp, IsUuid, IsLabel}
-use Rattle.pg_values.specs.Numerics.{SpellsNumeric, IsNumeral, IsNumberOf, IsNotANumber, shift}
+use Rattle.pg_values.specs.Scalars.{datum_of, IsValue, IsDate, IsTimestamp, IsUuid}
+use Rattle.pg_values.specs.Numerics.{SpellsNumeric, IsNumeral, shift}
 use Rattle.pg_values.specs.Parts.{SpellsPart, IsNext, SpellItems, AreItems}
 use Rattle.pg_values.specs.Spelling.{SpellsScalar, SpellsKind, SpellsHeld, SpellFields, IsArray, IsRange, IsComposite, has_flag, lower_by, upper_by, values_of, count_of, count_fields}
 use Rattle.pg_values.proofs.ByteLaws.{word_rest}

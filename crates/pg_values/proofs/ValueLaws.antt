@@ -1,9 +1,8 @@
 -- A `Value` that is written.
-use Rattle.std.proofs.Common.{◌≡◌, ◌⊎◌, inl, inr, ℕ, ℤ, pos, negsuc, unsigned_abs, ◌<◌, ◌^◌, ◌==◌, Bool, true, false, if◌then◌else◌, List, [], ◌∷◌, ◌++◌, length, Option, Some, None, Result, Ok, Err, IsOk, ap, refl, sym, ◌∙◌, subst, arith, rules, FitsSigned, w8, w16, w32, w64}
+use Rattle.std.proofs.Common.{◌≡◌, inl, inr, ℕ, ℤ, pos, unsigned_abs, ◌<◌, ◌^◌, ◌==◌, Bool, true, false, if◌then◌else◌, List, [], ◌∷◌, ◌++◌, length, Option, Some, None, Result, Ok, Err, IsOk, ap, refl, sym, ◌∙◌, subst, arith, rules, FitsSigned, w8, w16, w32, w64}
 use Rattle.std.specs.Int.{Width, byte_len}
 use Rattle.std.specs.Str.{is_utf8}
 use Rattle.std.proofs.lemmas.List.{append-nil}
-use mir.Val.{SFits}
 use mir.ValLaws.{to_z-Fits}
 use Rattle.byteorder.specs.Endian.{big_number}
 use Rattle.pg_types.specs.declared.fault.ValueFault.{ValueFault}
@@ -12,7 +11,7 @@ use Rattle.pg_types.specs.declared.format.IsNull.{IsNull}
 use Rattle.pg_types.specs.declared.format.IsNull.TheVariants as null
 use Rattle.pg_types.specs.declared.value.Value.{Value}
 use Rattle.pg_types.specs.declared.value.Value.TheVariants as value
-use Rattle.pg_types.specs.AnyValues.{value_in, value_of_width, int_width, in_form, value_gives, is_accepted, number_given, number_of_width, wrong_given, fits, fits_oid}
+use Rattle.pg_types.specs.AnyValues.{value_in, value_of_width, int_width, in_form, value_gives, number_given, number_of_width, wrong_given, fits, fits_oid}
 use Rattle.pg_types.specs.declared.fault.RustType.TheVariants as rust
 use Rattle.pg_types.specs.Oids as oids
 use Rattle.pg_types.specs.Oids.{is_text}
@@ -20,7 +19,7 @@ use Rattle.pg_types.specs.Values.{Given, Writes, bytes_given, checked, wrong_typ
 use Rattle.pg_values.specs.declared.datum.Datum as d
 use Rattle.pg_values.specs.declared.datum.Datum.{Datum}
 use Rattle.pg_values.specs.Scalars.{datum_of, IsValue, IsDate, IsTimestamp}
-use Rattle.pg_values.specs.Writing.{AreBytes, Appends, Begins, HasNone, Sends, WritesAs}
+use Rattle.pg_values.specs.Writing.{AreBytes, Begins, HasNone, Sends, WritesAs}
 use Rattle.pg_types.proofs.RoundTrips.{number_in, text_in}
 
 -- ---- the value of a datum

@@ -1,13 +1,12 @@
 -- Bytes that are appended, one behind another.
-use Rattle.std.proofs.Common.{◌≡◌, ◌≢◌, ◌⊎◌, inl, inr, ℕ, ◌<◌, ◌≤◌, ◌+◌, ◌-◌, ◌^◌, Bool, true, false, IsTrue, List, [], ◌∷◌, ◌++◌, length, take, drop, get_or, Option, Some, None, Result, Ok, Err, ap, refl, sym, ◌∙◌, subst, arith, append_assoc, length-append, w32}
+use Rattle.std.proofs.Common.{◌≡◌, ◌≢◌, ◌⊎◌, inl, inr, ℕ, ◌<◌, ◌≤◌, ◌+◌, ◌-◌, ◌^◌, Bool, true, false, List, [], ◌∷◌, ◌++◌, length, take, drop, get_or, Option, Some, None, Result, Ok, Err, ap, refl, sym, ◌∙◌, subst, arith, append_assoc, length-append, w32}
 use Rattle.std.specs.Int.{to_be_bytes}
-use Rattle.std.specs.List.{AllByRecursion}
 use Rattle.std.proofs.lemmas.List.{append-nil, take_at, drop_at, drop_more, drop_all}
 use Rattle.pg_types.specs.declared.fault.ValueFault.{ValueFault}
 use Rattle.pg_types.specs.declared.fault.ValueFault.TheVariants as fault
 use Rattle.pg_values.specs.declared.datum.Datum as d
 use Rattle.pg_values.specs.declared.datum.Datum.{Datum}
-use Rattle.pg_values.specs.Parts.{part_bytes, PartFits, SpellsPart, IsPart, IsNext, SpellItems}
+use Rattle.pg_values.specs.Parts.{part_bytes, SpellsPart, IsPart, IsNext, SpellItems}
 use Rattle.pg_values.specs.Writing.{AreBytes, Appends, Begins, HasNone, WritesAs}
 
 -- ---- bytes
@@ -65,6 +64,10 @@ handed W S V T old mid new (fault.WrongType wrong) e none wrote = absurd wrote
 pub lacked : (V T : List ℕ → Type 0) (old new : List ℕ) (f : ValueFault) → f ≡ fault.OutOfMemory → Begins old new → WritesAs {A = Unit {0}} V T old new (Err f)
 lacked V T old new f e begun = subst (λ (g : ValueFault). WritesAs {A = Unit {0}} V T old new (Err g)) (sym e) begun
 
+-- no bytes spell it
+pub refused : (V T : List ℕ → Type 0) (old new : List ℕ) (f : ValueFault) → f ≡ fault.BadValue → HasNone T → Begins old new → WritesAs {A = Unit {0}} V T old new (Err f)
+refused V T old new f e none begun = subst (λ (g : ValueFault). WritesAs {A = Unit {0}} V T old new (Err g)) (sym e) (none, begun)
+
 -- ---- parts
 
 pub null_part : (S : Datum → List ℕ → Type 0) (v : Datum) → v ≡ d.Null → IsNext true S v (255 ∷ 255 ∷ 255 ∷ 255 ∷ []) []
@@ -84,6 +87,13 @@ no_bytes nullable S v (Some own) bytes rest some none are front is =
 
 pub no_part : (nullable : Bool) (S : Datum → List ℕ → Type 0) (v : Datum) → (v ≢ d.Null) ⊎ (nullable ≡ false) → HasNone (S v) → HasNone (λ b. IsNext nullable S v b [])
 no_part nullable S v some none bytes are next = no_bytes nullable S v next.part bytes [] some none are next.front next.is
+
+-- how long a part is
+pub part_size : (old bytes mid out : List ℕ) → mid ≡ old ++ (0 ∷ 0 ∷ 0 ∷ 0 ∷ []) → out ≡ mid ++ bytes → length out - (length old + 4) ≡ length bytes
+part_size old bytes mid out e f =
+    let first : length mid ≡ length old + 4 = ap (λ (l : List ℕ). length l) e ∙ length-append old (0 ∷ 0 ∷ 0 ∷ 0 ∷ []) in
+    let whole : length out ≡ length mid + length bytes = ap (λ (l : List ℕ). length l) f ∙ length-append mid bytes in
+    omega (arith, first, whole)
 
 -- what was set in front of a part is its length
 pub part_is : (old bytes new mid out : List ℕ) → mid ≡ old ++ (0 ∷ 0 ∷ 0 ∷ 0 ∷ []) → out ≡ mid ++ bytes

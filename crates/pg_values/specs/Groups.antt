@@ -1,6 +1,5 @@
 -- A number in base 10,000, as it is written under numeric (PostgreSQL source, numeric.c, numeric_send).
-use Rattle.std.specs.Prelude.{◌≡◌, ◌≢◌, ◌≤◌, ◌<◌, ◌≤ℤ◌, ◌⊎◌, ℕ, ◌+◌, ◌-◌, ◌*◌, ◌^◌, List, ◌++◌, length, flat_map, ℤ, pos, true}
-use Rattle.std.specs.List.{AllByRecursion}
+use Rattle.std.specs.Prelude.{◌≡◌, ◌≢◌, ◌≤◌, ◌<◌, ◌≤ℤ◌, ◌⊎◌, ℕ, ◌+◌, ◌-◌, ◌*◌, ◌^◌, List, ◌++◌, length, ℤ, pos, true}
 use Rattle.std.specs.Int.{w16, to_be_bytes}
 use Rattle.pg_values.specs.Numbers.{i16_bytes}
 use Rattle.pg_values.specs.Numerics.{digits_value, AreDigits, AreDigitsOf, IsNumericOf, plus, minus}

@@ -85,7 +85,12 @@ abbrev pub IsValueOf : (sign scale : ℕ) → (weight : ℤ) → (digits : List 
 IsValueOf sign scale weight digits None = (v : Datum) → IsNumeral sign scale weight digits v → ⊥
 IsValueOf sign scale weight digits (Some v) = IsNumeral sign scale weight digits v
 
--- a numeric
+-- how zero and NaN are written: zero with plus and the weight 0, NaN without digits, with the weight 0 and the scale 0
+pub record IsBare (sign scale : ℕ) (weight : ℤ) (digits : List ℕ) : Type 0 where
+  pub zero : digits ≡ [] → (weight ≡ pos 0) × (sign ≢ minus)
+  pub nan : sign ≡ not_a_number → (digits ≡ []) × (scale ≡ 0)
+
+-- a numeric; `plain` asks for zero and NaN as they are written
 pub record SpellsNumeric (plain : Bool) (v : Datum) (bytes : List ℕ) : Type 0 where
   pub sign : ℕ
   pub scale : ℕ
@@ -93,3 +98,4 @@ pub record SpellsNumeric (plain : Bool) (v : Datum) (bytes : List ℕ) : Type 0 
   pub digits : List ℕ
   pub form : IsNumericOf plain sign scale weight digits bytes
   pub is : IsNumeral sign scale weight digits v
+  pub bare : IsTrue plain → IsBare sign scale weight digits

@@ -1,6 +1,6 @@
 -- What bytes spell under a type (PostgreSQL documentation, "Formats and Format Codes": the binary form of a value is that of its
 -- type's send function). `plain` asks in addition for the form that is written.
-use Rattle.std.specs.Prelude.{FitsSigned, ◌≡◌, ◌≤◌, ◌<◌, ◌≤ℤ◌, ◌↔◌, ℕ, ◌+◌, ◌*◌, ◌/◌, ◌%◌, ◌^◌, Bool, true, false, ◌==◌, List, [], ◌∷◌, ◌++◌, length, flat_map, Option, Some, None, if◌then◌else◌, IsTrue, Contains, ℤ, pos, unsigned_abs}
+use Rattle.std.specs.Prelude.{FitsSigned, ◌≡◌, ◌≤◌, ◌<◌, ◌≤ℤ◌, ◌↔◌, ℕ, ◌+◌, ◌*◌, ◌/◌, ◌%◌, ◌^◌, Bool, true, false, ◌==◌, List, [], ◌∷◌, ◌++◌, length, flat_map, Option, Some, None, IsTrue, Contains, pos, unsigned_abs}
 use Rattle.std.specs.Bool.{MatchBool}
 use Rattle.std.specs.List.{AllByRecursion}
 use Rattle.std.specs.Int.{w32, to_be_bytes}

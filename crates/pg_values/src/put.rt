@@ -24,18 +24,18 @@ fn set_word(at: usize, number: u32, out: &mut BytesMut)
     out.as_mut_slice()[at..at + 4].copy_from_slice(&number.to_be_bytes());
 }
 
-/// Sets the length of the part whose length field stands at a place, and whose bytes are all behind it. OutOfMemory: it is longer
-/// than a length field may say.
+/// Sets the length of the part whose length field stands at a place, and whose bytes are all behind it. BadValue: it is longer than
+/// a length field may say.
 pub(crate) fn set_len(at: usize, out: &mut BytesMut) -> Result<(), ValueFault>
     requires { at + 4 ≤ length out.old.items }
     ensures { MatchResult result
         (λ _. (length out.old.items - (at + 4) < 2 ^ 31) × (out.new.items
         ≡ take at out.old.items ++ to_be_bytes w32 (length out.old.items - (at + 4)) ++ drop (at + 4) out.old.items))
-        (λ f. (f ≡ fault.OutOfMemory) × (out.new.items ≡ out.old.items)) }
+        (λ f. (f ≡ fault.BadValue) × (2 ^ 31 ≤ length out.old.items - (at + 4)) × (out.new.items ≡ out.old.items)) }
 {
     let len = out.len() - (at + 4);
     if len >= 2_147_483_648 {
-        return Err(ValueFault::OutOfMemory);
+        return Err(ValueFault::BadValue);
     }
     set_word(at, len as u32, out);
     Ok(())

@@ -1,8 +1,8 @@
-use Rattle.std.proofs.Common.{◌≡◌, ℕ, pos, ℤ, FitsSigned, to_z, of_z, w32, rules, ◌+◌, ◌*◌, ◌<◌, ◌∷◌, List, drop, get_or, arith, sym, ◌∙◌, subst, unsigned_abs, length, ap}
+use Rattle.std.proofs.Common.{◌≡◌, ℕ, pos, ℤ, FitsSigned, to_z, of_z, w32, rules, ◌+◌, ◌*◌, ◌<◌, List, drop, get_or, arith, sym, ◌∙◌, subst, unsigned_abs, ap}
 use Rattle.std.specs.List.{AllByRecursion}
 use Rattle.std.proofs.lemmas.List.{drop_more}
 use Rattle.pg_values.specs.declared.datum.Dim.{Dim}
-use Rattle.pg_values.specs.Spelling.{IsDim, product, count_of}
+use Rattle.pg_values.specs.Spelling.{IsDim, product}
 use Rattle.pg_values.proofs.ArrayLaws.{too_many, some_count}
 use Rattle.pg_values.proofs.arrays.count_of.Goals as goal
 

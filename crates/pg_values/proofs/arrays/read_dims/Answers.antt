@@ -1,8 +1,8 @@
-use Rattle.std.proofs.Common.{◌≡◌, ℕ, ◌+◌, ◌-◌, ◌<◌, List, [], ◌∷◌, ◌++◌, flat_map, arith, sym, ◌∙◌, subst, ap, length}
+use Rattle.std.proofs.Common.{ℕ, ◌+◌, List, ◌++◌, flat_map, arith, sym, ◌∙◌, subst, ap, length}
 use Rattle.std.specs.List.{AllByRecursion}
 use Rattle.std.proofs.lemmas.List.{length_push}
 use Rattle.pg_values.specs.declared.datum.Dim.{Dim}
-use Rattle.pg_values.specs.Spelling.{IsDim, AreDims, dim_bytes}
+use Rattle.pg_values.specs.Spelling.{IsDim, dim_bytes}
 use Rattle.pg_values.proofs.ArrayLaws.{none_at, behind_at, all_more, spelled_more}
 use Rattle.pg_values.proofs.arrays.read_dims.Goals as goal
 

@@ -1,4 +1,4 @@
-use Rattle.std.proofs.Common.{◌≡◌, ℕ, ◌+◌, ◌-◌, ◌<◌, ◌≤◌, List, arith, sym, ◌∙◌, subst, ap, Option, None, Some, Bool, true, not, is_some, MatchOption}
+use Rattle.std.proofs.Common.{◌≡◌, ◌<◌, List, arith, subst, ap, Option, None, Some, Bool, true, not, is_some, MatchOption}
 use Rattle.std.proofs.lemmas.Result.{err_from_is_err_and}
 use Rattle.pg_values.specs.declared.datum.Dim.{Dim}
 use Rattle.pg_values.specs.Spelling.{StandsInFront, AreDims, count_of}

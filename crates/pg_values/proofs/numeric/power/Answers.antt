@@ -1,4 +1,4 @@
-use Rattle.std.proofs.Common.{◌*◌, ◌^◌, ◌≤◌, arith, ap, ℕ}
+use Rattle.std.proofs.Common.{◌^◌, ◌≤◌, arith}
 use Rattle.pg_values.proofs.NumberLaws.{tens_grow}
 use Rattle.pg_values.proofs.numeric.power.Goals as goal
 

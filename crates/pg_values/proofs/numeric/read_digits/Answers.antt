@@ -1,4 +1,4 @@
-use Rattle.std.proofs.Common.{◌≡◌, ℕ, Bool, true, false, ◌==◌, ◌<◌, ◌≤◌, List, [], ◌∷◌, ◌++◌, length, flat_map, arith, ap, sym, ◌∙◌, subst, w16}
+use Rattle.std.proofs.Common.{◌≡◌, ℕ, Bool, true, false, ◌==◌, List, [], ◌++◌, length, flat_map, arith, ap, sym, ◌∙◌, subst, w16}
 use Rattle.std.specs.Int.{to_be_bytes}
 use Rattle.std.specs.List.{AllByRecursion}
 use Rattle.pg_values.proofs.DigitLaws.{IsBelow, digits_front, digits_end, below_more, spelled_more}

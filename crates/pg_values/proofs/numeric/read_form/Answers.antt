@@ -1,6 +1,4 @@
-use Rattle.std.proofs.Common.{◌≡◌, ℕ, ◌^◌, ◌<◌, ◌≤◌, List, length, false, arith, ap, sym, ◌∙◌}
-use Rattle.pg_values.specs.declared.numeric.Form.{Form}
-use Rattle.pg_values.specs.Numerics.{IsNumericOf, AreDigits}
+use Rattle.std.proofs.Common.{◌≡◌, ℕ, ◌^◌, ◌<◌, List, length, arith, ap, sym, ◌∙◌}
 use Rattle.pg_values.proofs.DigitLaws.{ReadForm, told_form, digits_same}
 use Rattle.pg_values.proofs.numeric.read_form.Goals as goal
 use Rattle.pg_values.proofs.numeric.read_form.Goals.{then-count-ge32768-via-then-count-ge32768, then-count-ge32768-via-else-count-ge32768+then-as_slice-count}

@@ -1,8 +1,8 @@
-use Rattle.std.proofs.Common.{◌≡◌, ℕ, List, false, Option, None, Some, ap, sym, ◌∙◌, subst}
+use Rattle.std.proofs.Common.{ℕ, List, false, None}
 use Rattle.std.proofs.lemmas.Result.{err_from_is_err_and}
 use Rattle.pg_values.specs.declared.numeric.Form.{Form}
 use Rattle.pg_values.specs.declared.datum.Datum.{Datum}
-use Rattle.pg_values.specs.Numerics.{IsNumericOf, SpellsNumeric, IsValueOf, IsNumeral}
+use Rattle.pg_values.specs.Numerics.{IsNumericOf, SpellsNumeric, IsValueOf}
 use Rattle.pg_values.proofs.ReadLaws.{handed_on}
 use Rattle.pg_values.proofs.DigitLaws.{numeral_same}
 use Rattle.pg_values.proofs.numeric.read_numeric.Goals as goal

@@ -1,5 +1,4 @@
-use Rattle.std.proofs.Common.{◌≡◌, ◌<◌, ◌≤◌, ◌++◌, ◌-◌, ◌^◌, ◌/◌, ◌%◌, List, ℕ, ap, sym, ◌∙◌, arith, w16}
-use Rattle.std.specs.Int.{to_be_bytes}
+use Rattle.std.proofs.Common.{◌++◌, List, ℕ, ap, ◌∙◌, arith}
 use Rattle.pg_values.proofs.GroupLaws.{unit_is, digit_small, digit_more}
 use Rattle.pg_values.proofs.numeric_written.put_digits.Goals as goal
 

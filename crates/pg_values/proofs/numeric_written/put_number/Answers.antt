@@ -1,4 +1,4 @@
-use Rattle.std.proofs.Common.{◌≡◌, ◌++◌, ◌+◌, ◌*◌, ◌-◌, ◌/◌, List, ℕ, ℤ, ap, ◌∙◌, sym, subst, append_assoc, arith, w16}
+use Rattle.std.proofs.Common.{◌++◌, ◌+◌, ◌*◌, ◌-◌, ◌/◌, List, ℕ, ℤ, ap, ◌∙◌, sym, subst, append_assoc, arith, w16}
 use Rattle.std.specs.Int.{to_be_bytes}
 use Rattle.std.proofs.lemmas.Int.{to_z-of_z}
 use Rattle.pg_values.specs.Groups.{IsWrittenNumber, head_bytes}

@@ -1,4 +1,4 @@
-use Rattle.std.proofs.Common.{◌≡◌, ◌<◌, ◌^◌, ◌≤◌, List, ℕ, ℤ, pos, true, false, unsigned_abs, FitsSigned, ap, refl, sym, ◌∙◌, subst, arith, to_z, of_z}
+use Rattle.std.proofs.Common.{◌≡◌, ◌<◌, ◌^◌, List, ℕ, ℤ, pos, true, false, unsigned_abs, FitsSigned, ap, refl, sym, ◌∙◌, subst, to_z, of_z}
 use Rattle.std.specs.Int.{w128}
 use Rattle.std.proofs.lemmas.Int.{to_z-of_z}
 use Rattle.pg_values.specs.Groups.{head_bytes, IsSignOf, IsWrittenNumber}
@@ -37,5 +37,5 @@ returns c =
     let small : unsigned_abs c.args.unscaled < 10 ^ 38 = subst (λ (n : ℕ). n < 10 ^ 38) same fit.1 in
     fills_as (IsWrittenNumber c.unsigned_abs-number.result sign c.args.scale) (SpellsNumeric true (d.Numeric c.args.unscaled c.args.scale)) (SpellsNumeric false (d.Numeric c.args.unscaled c.args.scale))
     c.args.out.now.items c.put_number.new.out.items c.put_number.result
-    (λ b is. number_is c.args.unscaled sign c.args.scale b (same_sign c.args.unscaled sign c.ranges.unscaled c.sign_of.ensures) fit.0 small (subst (λ (n : ℕ). IsWrittenNumber n sign c.args.scale b) same is))
+    (λ b is. number_is c.args.unscaled sign c.args.scale b (λ none. c.if-number-eq0.false (same ∙ none)) (same_sign c.args.unscaled sign c.ranges.unscaled c.sign_of.ensures) fit.0 small (subst (λ (n : ℕ). IsWrittenNumber n sign c.args.scale b) same is))
     c.put_number.ensures

@@ -1,4 +1,4 @@
-use Rattle.std.proofs.Common.{◌≡◌, ◌≢◌, ◌⊎◌, inl, inr, ℕ, ◌<◌, ◌≤◌, ◌+◌, ◌-◌, ◌^◌, Bool, true, false, Err, Ok, List, [], ◌∷◌, ◌++◌, length, drop, get_or, Option, Some, None, ap, refl, sym, ◌∙◌, subst, arith, w32}
+use Rattle.std.proofs.Common.{◌≡◌, inl, ℕ, ◌+◌, Bool, true, false, Err, Ok, List, [], ◌∷◌, ◌++◌, length, get_or, ap, refl, sym, ◌∙◌, subst, arith, w32}
 use Rattle.std.specs.Int.{to_be_bytes}
 use Rattle.std.proofs.lemmas.Result.{err_from_is_err_and}
 use Rattle.pg_types.specs.declared.pg_type.Field.{Field}
@@ -16,6 +16,7 @@ use Rattle.pg_values.proofs.WriteLaws as laws
 use Rattle.pg_values.proofs.FieldLaws as fields
 use Rattle.pg_values.proofs.FormLaws as forms
 use Rattle.pg_values.proofs.PartWritten.{SetsLen, part_ends, null_ends}
+use Rattle.pg_values.proofs.ShortLaws.{long_none}
 use Rattle.pg_values.proofs.writing.+writing.Goals as goal
 
 -- ---- by the kind
@@ -68,7 +69,7 @@ write_part-returns t c =
     let S : Bool → Datum → List ℕ → Type 0 = λ plain. SpellsKind plain c.args.ty.now.oid c.args.ty.now.kind in
     let wrote = c.in_ok-write_bytes.ensures in
     part_ends c.args.nullable (S true) (S false) c.args.value.now c.args.out.now.items wrote.bytes c.set_len.new.out.items c.put.new.out.items c.write_bytes.new.out.items c.set_len.result
-    c.in_ok-put.ensures wrote.behind wrote.formed (subst (λ (n : ℕ). SetsLen n c.write_bytes.new.out.items c.set_len.new.out.items c.set_len.result) c.len-at.ensures.value c.set_len.ensures)
+    c.in_ok-put.ensures wrote.behind wrote.formed (long_none c.args.nullable c.args.ty.now.oid c.args.ty.now.kind c.args.value.now wrote.bytes wrote.formed) (subst (λ (n : ℕ). SetsLen n c.write_bytes.new.out.items c.set_len.new.out.items c.set_len.result) c.len-at.ensures.value c.set_len.ensures)
 
 -- ---- items
 

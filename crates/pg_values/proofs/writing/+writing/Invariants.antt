@@ -1,4 +1,4 @@
-use Rattle.std.proofs.Common.{◌≡◌, true, false, List, ℕ}
+use Rattle.std.proofs.Common.{◌≡◌, true, false}
 use Rattle.pg_types.proofs.KindLaws.{row_of}
 use Rattle.pg_values.specs.Spelling.{SpellsKind, SpellFields}
 use Rattle.pg_values.specs.Parts.{SpellItems}

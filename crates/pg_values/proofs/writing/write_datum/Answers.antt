@@ -1,4 +1,4 @@
-use Rattle.std.proofs.Common.{◌≡◌, true, false, sym, ◌∙◌}
+use Rattle.std.proofs.Common.{sym, ◌∙◌}
 use Rattle.pg_values.proofs.DatumWritten.{ok_written, err_written}
 use Rattle.pg_values.proofs.writing.write_datum.Goals as goal
 
