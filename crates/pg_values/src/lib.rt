@@ -4,17 +4,21 @@
 
 mod arrays;
 mod datum;
+mod display;
+mod escape;
 mod held;
 mod lists;
 mod numeric;
 mod numeric_written;
 mod parts;
 mod put;
+mod quotes;
 mod ranges;
 mod reading;
 mod scalars;
 mod scalars_written;
 mod supported;
+mod time_text;
 mod wide;
 mod writing;
 
