@@ -7,3 +7,4 @@ pub mod Parts
 pub mod Spelling
 pub mod Reading
 pub mod Writing
+pub mod Worked

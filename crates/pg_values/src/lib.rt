@@ -7,6 +7,7 @@ mod datum;
 mod display;
 mod escape;
 mod held;
+pub mod laws;
 mod lists;
 mod numeric;
 mod numeric_written;
