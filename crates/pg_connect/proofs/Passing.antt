@@ -170,47 +170,48 @@ pass_stopped old s t step.Nothing es fs came so is = (is.0, is.1, none_full-then
 
 -- ---- the read step
 
-pub all_refused : (s t : Streams) (a b : LinkView) (e : ConnectionFault) (es fs : List Event) → AllEnds s t (Err e) fs → ReadEnds t a b (Err e) (es ++ fs)
-all_refused s t a b fault.BadLength es fs is = is
-all_refused s t a b fault.Layout es fs is = is
-all_refused s t a b (fault.Unreadable c) es fs is = inl is
-all_refused s t a b (fault.Unasked e) es fs is = unasked_behind t e es fs is
-all_refused s t a b fault.OutOfMemory es fs is = tt
-all_refused s t a b fault.Link es fs is = absurd is
-all_refused s t a b fault.Closed es fs is = absurd is
-all_refused s t a b fault.Ended es fs is = absurd is
-all_refused s t a b (fault.LimitReached given most) es fs is = absurd is
+pub all_refused : (s t : Streams) (a b : LinkView) (e : ConnectionFault) (es fs : List Event) → delayed_in t ≡ [] → AllEnds s t (Err e) fs → ReadEnds t a b (Err e) (es ++ fs)
+all_refused s t a b fault.BadLength es fs late is = is
+all_refused s t a b fault.Layout es fs late is = is
+all_refused s t a b (fault.Unreadable c) es fs late is = inl is
+all_refused s t a b (fault.Unasked e) es fs late is = (unasked_behind t e es fs is, late)
+all_refused s t a b fault.OutOfMemory es fs late is = tt
+all_refused s t a b fault.Link es fs late is = absurd is
+all_refused s t a b fault.Closed es fs late is = absurd is
+all_refused s t a b fault.Ended es fs late is = absurd is
+all_refused s t a b (fault.LimitReached given most) es fs late is = absurd is
 
-pub held_refused : (t : Streams) (a b : LinkView) (e : ConnectionFault) (events : List Event) → DeliverEnds t (Err e) events → ReadEnds t a b (Err e) events
-held_refused t a b (fault.Unasked e) events is = is
-held_refused t a b fault.OutOfMemory events is = tt
-held_refused t a b fault.BadLength events is = absurd is
-held_refused t a b fault.Layout events is = absurd is
-held_refused t a b (fault.Unreadable c) events is = absurd is
-held_refused t a b fault.Link events is = absurd is
-held_refused t a b fault.Closed events is = absurd is
-held_refused t a b fault.Ended events is = absurd is
-held_refused t a b (fault.LimitReached given most) events is = absurd is
+pub held_refused : (t : Streams) (a b : LinkView) (e : ConnectionFault) (events : List Event) → delayed_in t ≡ [] → DeliverEnds t (Err e) events → ReadEnds t a b (Err e) events
+held_refused t a b (fault.Unasked e) events late is = (is, late)
+held_refused t a b fault.OutOfMemory events late is = tt
+held_refused t a b fault.BadLength events late is = absurd is
+held_refused t a b fault.Layout events late is = absurd is
+held_refused t a b (fault.Unreadable c) events late is = absurd is
+held_refused t a b fault.Link events late is = absurd is
+held_refused t a b fault.Closed events late is = absurd is
+held_refused t a b fault.Ended events late is = absurd is
+held_refused t a b (fault.LimitReached given most) events late is = absurd is
 
 pub decoded_same : (s t : Streams) → t.buffer.items ≡ s.buffer.items → AllDecoded s → AllDecoded t
 decoded_same s t same was = record { none_whole = ap messages same ∙ was.none_whole; no_bad_header = ap has_bad_header same ∙ was.no_bad_header }
 
-pub piece_refused : (s t : Streams) (a b c : LinkView) (e : ConnectionFault) (events : List Event) → Keeps a b → AllDecoded s → t.held ≡ None → delayed_in t ≡ [] → PieceEnds s t b c (Err e) → ReadEnds t a c (Err e) events
-piece_refused s t a b c fault.Link events keeps decoded none late is = rose_later a.faults b.faults c.faults keeps.counts.faults is
-piece_refused s t a b c fault.Closed events keeps decoded none late is = (rose_later a.ends b.ends c.ends keeps.counts.ends is.0, is.1, ap waiting none, late)
-piece_refused s t a b c fault.Ended events keeps decoded none late is = record {
+pub piece_refused : (s t : Streams) (a b c : LinkView) (e : ConnectionFault) (events : List Event) → Keeps a b → AllDecoded s → t.held ≡ None → delayed_in t ≡ [] → t.unread ≡ None → PieceEnds s t b c (Err e) → ReadEnds t a c (Err e) events
+piece_refused s t a b c fault.Link events keeps decoded none late read is = rose_later a.faults b.faults c.faults keeps.counts.faults is
+piece_refused s t a b c fault.Closed events keeps decoded none late read is = (rose_later a.ends b.ends c.ends keeps.counts.ends is.0, is.1, ap waiting none, late, read)
+piece_refused s t a b c fault.Ended events keeps decoded none late read is = record {
   rose = rose_later a.ends b.ends c.ends keeps.counts.ends is.0;
   some = is.1;
   decoded = decoded_same s t is.2 decoded;
   held = ap waiting none;
   delayed = late;
+  unread = read;
 }
-piece_refused s t a b c (fault.LimitReached given most) events keeps decoded none late is = (is.0, is.1, is.2, record { piece = is.3; undecoded = is.4; held = ap waiting none; delayed = late })
-piece_refused s t a b c fault.OutOfMemory events keeps decoded none late is = tt
-piece_refused s t a b c fault.BadLength events keeps decoded none late is = absurd is
-piece_refused s t a b c fault.Layout events keeps decoded none late is = absurd is
-piece_refused s t a b c (fault.Unreadable cause) events keeps decoded none late is = absurd is
-piece_refused s t a b c (fault.Unasked e) events keeps decoded none late is = absurd is
+piece_refused s t a b c (fault.LimitReached given most) events keeps decoded none late read is = (is.0, is.1, is.2, record { piece = is.3; undecoded = is.4; held = ap waiting none; delayed = late; unread = read })
+piece_refused s t a b c fault.OutOfMemory events keeps decoded none late read is = tt
+piece_refused s t a b c fault.BadLength events keeps decoded none late read is = absurd is
+piece_refused s t a b c fault.Layout events keeps decoded none late read is = absurd is
+piece_refused s t a b c (fault.Unreadable cause) events keeps decoded none late read is = absurd is
+piece_refused s t a b c (fault.Unasked e) events keeps decoded none late read is = absurd is
 
 -- what was taken off, at the arm's own value
 pub record TakenOff (s t : Streams) (x : Off) : Type 0 where
@@ -325,7 +326,7 @@ pub ends_behind : (t : Streams) (a b : LinkView) (r : Result ReadEnd ConnectionF
 ends_behind t a b (Ok (ending.Handed message)) es fs none is = tt
 ends_behind t a b (Ok ending.Full) es fs none is = (full_behind t es fs is.0, is.1)
 ends_behind t a b (Ok ending.Dry) es fs none is = is
-ends_behind t a b (Err (fault.Unasked e)) es fs none is = unasked_behind t e es fs is
+ends_behind t a b (Err (fault.Unasked e)) es fs none is = (unasked_behind t e es fs is.0, is.1)
 ends_behind t a b (Err fault.Link) es fs none is = is
 ends_behind t a b (Err fault.Closed) es fs none is = is
 ends_behind t a b (Err fault.Ended) es fs none is = is

@@ -198,12 +198,12 @@ closes_by s mid t may es fs same closes x = elim (closes x) [
 
 read_fails : (s t : Streams) (l n : LinkView) (e : ConnectionFault) (es : List Event) → s.closing ≡ false → t.closing ≡ s.closing → ReadEnds t l n (Err e) es → TurnFails s t l n e es
 read_fails s t l n fault.Link es active same is = is
-read_fails s t l n fault.Closed es active same is = inl (record { rose = is.0; buffer = is.1; held = is.2; delayed = is.3; active = active; stays = same ∙ active })
+read_fails s t l n fault.Closed es active same is = inl (record { rose = is.0; buffer = is.1; held = is.2; delayed = is.3; unread = is.4; active = active; stays = same ∙ active })
 read_fails s t l n fault.Ended es active same is = is
 read_fails s t l n fault.BadLength es active same is = is
 read_fails s t l n fault.Layout es active same is = is
 read_fails s t l n (fault.Unreadable c) es active same is = is
-read_fails s t l n (fault.Unasked e) es active same is = (is.0, is.1, same ∙ active, is.2)
+read_fails s t l n (fault.Unasked e) es active same is = (is.0.0, is.0.1, same ∙ active, is.0.2, is.1)
 read_fails s t l n (fault.LimitReached given limit) es active same is = is
 read_fails s t l n fault.OutOfMemory es active same is = tt
 
@@ -215,6 +215,20 @@ handed_stops : (a b c : Streams) (message : AsyncMessage) (got : List ℕ) → c
 handed_stops a b c message got same held (inl was) =
     inl (record { delayed = was.delayed; none_read = was.none_read; buffer = same ∙ was.buffer; held = ap waiting held ∙ was.held })
 handed_stops a b c message got same held (inr was) = inr (subst (λ (x : List ℕ). EndsAt (a.buffer.items ++ got) x message) (sym same) was)
+
+-- where nothing was handed out
+handed_none : (e : ConnectionFault) (handed : List RawMessage) → handed ≡ [] → HandedTurn (Err e) handed
+handed_none fault.Link handed none = tt
+handed_none fault.Closed handed none = tt
+handed_none fault.OutOfMemory handed none = tt
+handed_none _ handed none = none
+
+-- where sending failed
+handed_sent : (t : Streams) (l m : LinkView) (e : ConnectionFault) (es : List Event) (handed : List RawMessage) → SendEnds t l m (Err e) es → HandedTurn (Err e) handed
+handed_sent t l m fault.Link es handed is = tt
+handed_sent t l m fault.Closed es handed is = tt
+handed_sent t l m fault.OutOfMemory es handed is = tt
+handed_sent t l m _ es handed is = absurd is
 
 -- where a read step failed
 stops_read : (s t : Streams) (e : ConnectionFault) (got piece : List ℕ) → ReadStops s t (Err e) got piece → TurnStops s t (Err e) got piece
@@ -228,7 +242,7 @@ turned_read becomes h i s t l m e active same first shuts =
     let goes = first.hands.goes in
     record {
       handed = first.hands.handed;
-      which = tt;
+      which = handed_none e first.hands.handed first.hands.is;
       goes = record {
         events = goes.events;
         calls = goes.calls;
@@ -346,7 +360,7 @@ pub turned_error : {H : Type 0} (becomes : H → List Event → H → Type 0) �
     (W : List RawMessage → Type 0) (E : List Event → Type 0) (S : (got piece : List ℕ) → Type 0) (e : ConnectionFault) →
     a.closing ≡ false → OnlyReads a b l m → OnlySends b c m n → ReadsOn becomes h i a b l m W E S → Goes becomes i k b c m n [] (Sends b c m n may (Err e)) → Turns becomes h k a c l n (Err e)
 turned_error becomes joins h i k a b c l m n may W E S e active reads sends first more =
-    turns-all becomes joins h i k a b c l m n W E (Sends b c m n may (Err e)) S (Err e) first more sends.count tt
+    turns-all becomes joins h i k a b c l m n W E (Sends b c m n may (Err e)) S (Err e) first more sends.count (handed_sent c m n e more.events first.hands.handed more.ended.end)
     (λ es fs x f. (closes_by a b c may es fs reads.closing f.closes, send_error a c l m n e es fs first.hands.goes.passes.link f.end, λ x. absurd (not_both a.closing x active)))
     (λ got piece was. stops_sent a c m n e more.events got piece more.ended.end) (more.ended.shut ∙ reads.shut)
 
@@ -388,7 +402,7 @@ pub closing_error : {H : Type 0} (becomes : H → List Event → H → Type 0) (
     s.closing ≡ true → OnlySends s t l m → Goes becomes h i s t l m [] (Sends s t l m false (Err e)) → Turns becomes h i s t l m (Err e)
 closing_error becomes h i s t l m e closing only goes = record {
   handed = [];
-  which = tt;
+  which = handed_none e [] refl;
   goes = record { events = goes.events; calls = goes.calls; became = goes.became; passes = goes.passes; ended = (λ x. inl closing, closing_failed s t l m e goes.events goes.ended.end, λ x. only) };
   paced = paced_none s goes.passes.got goes.events (no_more s t l m goes.events [] goes.passes only.count);
   stops = stops_sent s t l m e goes.events goes.passes.got [] goes.ended.end;

@@ -1,5 +1,5 @@
 -- How a turn of the connection ends, and why.
-use Rattle.std.specs.Prelude.{◌≡◌, ℕ, ◌<◌, ◌⊎◌, Bool, true, false, not, IsTrue, ◌||◌, List, [], ◌∷◌, ◌++◌, length, Some, IfSome, OnOk, Result, Ok, Err}
+use Rattle.std.specs.Prelude.{◌≡◌, ℕ, ◌<◌, ◌⊎◌, Bool, true, false, not, IsTrue, ◌||◌, List, [], ◌∷◌, ◌++◌, length, Some, None, IfSome, OnOk, Result, Ok, Err}
 use Rattle.pg_spec.specs.Links.{LinkView, Rose, due_by}
 use Rattle.pg_spec.specs.RawMessages.{RawMessage}
 use Rattle.pg_desk.specs.declared.event.Event.{Event}
@@ -126,21 +126,25 @@ pub record IsOver (old new : Streams) (before after : LinkView) (events : List E
   pub began : BeganToClose old new before after events
   pub still : old.closing ≡ true → OnlySends old new before after
 
--- The link gave its end behind a whole message, while the connection was active. No batch is held, and no notice
--- delayed.
+-- The link gave its end behind a whole message, while the connection was active. No batch is held, no notice
+-- delayed, and no message unread.
 pub record EndsWhole (old new : Streams) (before after : LinkView) : Type 0 where
   pub rose : Rose before.ends after.ends
   pub buffer : new.buffer.items ≡ []
   pub held : waiting new.held ≡ []
   pub delayed : delayed_in new ≡ []
+  pub unread : new.unread ≡ None
   pub active : old.closing ≡ false
   pub stays : new.closing ≡ false
 
--- what a turn hands out; a message may be lost in an error
+-- what a turn hands out; a message may be lost only where the link failed, all is closed, or memory is short
 abbrev pub HandedTurn : Result TurnEnd ConnectionFault → List RawMessage → Type 0
 HandedTurn (Ok (turn.Handed message)) handed = Carries handed message
 HandedTurn (Ok _) handed = handed ≡ []
-HandedTurn (Err e) handed = Unit {0}
+HandedTurn (Err fault.Link) handed = Unit {0}
+HandedTurn (Err fault.Closed) handed = Unit {0}
+HandedTurn (Err fault.OutOfMemory) handed = Unit {0}
+HandedTurn (Err e) handed = handed ≡ []
 
 -- A connection that is closing was so before, or the hub's last answer was that nothing more will come.
 abbrev pub ClosesBy : Streams → Streams → List Event → Type 0
@@ -156,7 +160,7 @@ TurnFails old new before after fault.Layout events = BreaksLayout new
 -- a delayed notice comes first, so nothing was done before it
 TurnFails old new before after (fault.Unreadable c) events = LeavesUnread new c ⊎ (LeavesDelayed new c × (events ≡ []))
 TurnFails old new before after (fault.Unasked e) events =
-    (last_is has_no_request events ≡ true) × IsUnasked (waiting new.held) (fault.Unasked e) × (new.closing ≡ false) × LastGivesBack (waiting new.held) events
+    (last_is has_no_request events ≡ true) × IsUnasked (waiting new.held) (fault.Unasked e) × (new.closing ≡ false) × LastGivesBack (waiting new.held) events × (delayed_in new ≡ [])
 TurnFails old new before after (fault.LimitReached given limit) events = (given ≡ new.given) × (limit ≡ new.max_bytes) × (limit < given) × IsOnePastLimit new given limit
 TurnFails old new before after fault.OutOfMemory events = Unit {0}
 

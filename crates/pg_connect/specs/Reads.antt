@@ -153,13 +153,14 @@ abbrev pub MeetsNoRequest : Streams → Error → List Event → Type 0
 MeetsNoRequest new e events =
     (last_is has_no_request events ≡ true) × IsUnasked (waiting new.held) (fault.Unasked e) × LastGivesBack (waiting new.held) events
 
--- More was given than the limit allows: by one piece, of which nothing is decoded. No batch is held, and no notice
--- delayed.
+-- More was given than the limit allows: by one piece, of which nothing is decoded. No batch is held, no notice
+-- delayed, and no message unread.
 pub record IsOnePastLimit (s : Streams) (given limit : ℕ) : Type 0 where
   pub piece : given ≤ limit + piece_size
   pub undecoded : given ≤ limit + length s.buffer.items
   pub held : waiting s.held ≡ []
   pub delayed : delayed_in s ≡ []
+  pub unread : s.unread ≡ None
 
 -- every whole message that was given is decoded, and what is left isn't refused
 pub record AllDecoded (s : Streams) : Type 0 where
@@ -179,13 +180,15 @@ pub record EndsAt (bytes left : List ℕ) (message : AsyncMessage) : Type 0 wher
   pub is : messages bytes ≡ front ++ (raw ∷ messages left)
   pub means : async_of_raw raw ≡ Some (async_of message)
 
--- A header is in front that is none, no batch is held, and no notice delayed.
+-- A header is in front that is none. No batch is held, no notice delayed, and no message unread.
 pub record BreaksHeader (s : Streams) : Type 0 where
   pub header : has_bad_header s.buffer.items ≡ true
   pub held : waiting s.held ≡ []
   pub delayed : delayed_in s ≡ []
+  pub unread : s.unread ≡ None
 
--- The message in front, which no request asked for, breaks its layout. No batch is held, and no notice delayed.
+-- The message in front, which no request asked for, breaks its layout. No batch is held, no notice delayed, and no
+-- message unread.
 pub record BreaksLayout (s : Streams) : Type 0 where
   pub raw : RawMessage
   pub rest : List RawMessage
@@ -194,6 +197,7 @@ pub record BreaksLayout (s : Streams) : Type 0 where
   pub broken : message_of raw ≡ Err faults.Layout
   pub held : waiting s.held ≡ []
   pub delayed : delayed_in s ≡ []
+  pub unread : s.unread ≡ None
 
 -- The message that came off last can't be read. No batch is held, and no notice delayed.
 pub record LeavesUnread (s : Streams) (c : Cause) : Type 0 where
@@ -322,13 +326,14 @@ abbrev pub HandedBy : Result ReadEnd ConnectionFault → List RawMessage → Typ
 HandedBy (Ok (reads.Handed message)) handed = Carries handed message
 HandedBy _ handed = handed ≡ []
 
--- The input ended inside a message. No batch is held, and no notice delayed.
+-- The input ended inside a message. No batch is held, no notice delayed, and no message unread.
 pub record EndsInside (s : Streams) (before after : LinkView) : Type 0 where
   pub rose : Rose before.ends after.ends
   pub some : 0 < length s.buffer.items
   pub decoded : AllDecoded s
   pub held : waiting s.held ≡ []
   pub delayed : delayed_in s ≡ []
+  pub unread : s.unread ≡ None
 
 -- How a read step ended: a message is handed out, a mailbox is full, or the link isn't ready, all is decoded
 -- and nothing of it lies there. Or why it was broken off.
@@ -337,13 +342,13 @@ ReadEnds new before after (Ok (reads.Handed message)) events = Unit {0}
 ReadEnds new before after (Ok reads.Full) events = MeetsFull new events × (delayed_in new ≡ [])
 ReadEnds new before after (Ok reads.Dry) events = WasDry new.moved before after × AllDecoded new × IsCleared new
 ReadEnds new before after (Err fault.Link) events = Rose before.faults after.faults
-ReadEnds new before after (Err fault.Closed) events = Rose before.ends after.ends × (new.buffer.items ≡ []) × (waiting new.held ≡ []) × (delayed_in new ≡ [])
+ReadEnds new before after (Err fault.Closed) events = Rose before.ends after.ends × (new.buffer.items ≡ []) × (waiting new.held ≡ []) × (delayed_in new ≡ []) × (new.unread ≡ None)
 ReadEnds new before after (Err fault.Ended) events = EndsInside new before after
 ReadEnds new before after (Err fault.BadLength) events = BreaksHeader new
 ReadEnds new before after (Err fault.Layout) events = BreaksLayout new
 -- a delayed notice comes first, so nothing was done before it
 ReadEnds new before after (Err (fault.Unreadable c)) events = LeavesUnread new c ⊎ (LeavesDelayed new c × (events ≡ []))
-ReadEnds new before after (Err (fault.Unasked e)) events = MeetsNoRequest new e events
+ReadEnds new before after (Err (fault.Unasked e)) events = MeetsNoRequest new e events × (delayed_in new ≡ [])
 ReadEnds new before after (Err (fault.LimitReached given most)) events = (given ≡ new.given) × (most ≡ new.max_bytes) × (most < given) × IsOnePastLimit new given most
 ReadEnds new before after (Err fault.OutOfMemory) events = Unit {0}
 

@@ -309,7 +309,7 @@ cause-of user call former now s t l f fault.BadLength ends =
     of-dialogue user call former now t l f _ (inl (needs-none user, refl, ap has_bad_header f.broke.rest ∙ bad-left t.buffer.items ends.header))
 cause-of user call former now s t l f fault.Layout ends =
     of-dialogue user call former now t l f _ (inr (inr (behind user call former now t l f (AsideBreaks faults.Layout)
-    (layout-breaks user call former now t l f (record { raw = ends.raw; rest = ends.rest; front = ends.front; aside = ends.aside; broken = ends.broken; held = ends.held; delayed = ends.delayed })))))
+    (layout-breaks user call former now t l f (record { raw = ends.raw; rest = ends.rest; front = ends.front; aside = ends.aside; broken = ends.broken; held = ends.held; delayed = ends.delayed; unread = ends.unread })))))
 cause-of user call former now s t l f (fault.Unreadable c) ends = (
   aside-body c ends,
   of-dialogue user call former now t l f _ (inr (inl (needs-none user, aside-stands user call former now t l f c (aside-in c ends)))),

@@ -94,7 +94,7 @@ returns-in-Err-clause-goes g c =
     let t = c.pass_all.new.self in
     let e = c.in-Err.e in
     paced-hands _ g.met.E.Desk.joins _ _ _ c.args.self.now s t a v (HandedAll (Err e)) (HandedBy (Err e)) (AllEnds s t (Err e)) (ReadEnds t a v (Err e)) (ReadStops c.args.self.now t (Err e))
-    c.pieces.invariant.goes (c.in-Err.ensures.goes v) (given_of _ _ _ s t _ _ (c.in-Err.ensures.goes any_link)) (λ handed is. is) (λ es fs was. all_refused s t a v e es fs was)
+    c.pieces.invariant.goes (c.in-Err.ensures.goes v) (given_of _ _ _ s t _ _ (c.in-Err.ensures.goes any_link)) (λ handed is. is) (λ es fs was. all_refused s t a v e es fs (none_late t c.in-Err.ensures.delayed) was)
     (λ was. all_stops s t c.args.self.now e (c.in-Err.ensures.goes v).goes.events c.pieces.invariant.goes.goes.passes.got c.pieces.invariant.goes.paced.piece was)
 
 pub pieces-smaller : goal.pieces-smaller
@@ -193,7 +193,7 @@ returns-in-Err-read_piece-clause-goes g c =
       within = omega (arith, i.limit, i.given, c.pieces.invariant.given);
     }) c.in-Err-read_piece.ensures.piece refl
     (λ es. piece_refused t u a v w e es c.pieces.invariant.goes.goes.passes.link i.decoded (c.in-Err-read_piece.ensures.held ∙ i.held)
-    (none_late u (c.in-Err-read_piece.ensures.delayed ∙ all.ensures.delayed)) c.in-Err-read_piece.ensures.end)
+    (none_late u (c.in-Err-read_piece.ensures.delayed ∙ all.ensures.delayed)) c.in-Err-read_piece.ensures.unread c.in-Err-read_piece.ensures.end)
     (λ got. past_limit t u v w c.args.self.now e got c.in-Err-read_piece.ensures.takes)
 
 pub returns-in-Ok-Full-clause-within : goal.returns-in-Ok-Full-clause-within

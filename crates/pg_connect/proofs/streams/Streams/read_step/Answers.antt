@@ -70,7 +70,9 @@ returns-in-Err-deliver_held-clause-goes g c =
       handed = [];
       is = refl;
       goes = goes-behind _ _ _ s mid t v v v [] [] (DeliverEnds t (Err e)) _ first (c.in-Err-deliver_held.ensures.goes v)
-          (λ es was. held_refused t v v e es was);
+          (λ es was. held_refused t v v e es
+          (ap (λ (x : List ErrorResponseBody). map notice_of x)
+          (c.in-Err-deliver_held.ensures.delayed ∙ subst (λ (o : Option AsyncMessage). LateEnds s mid (Ok o)) w.field-0-is w.ensures.end)) was);
     }) (given_in _ _ _ mid t _ (c.in-Err-deliver_held.ensures.goes any_link) ∙ w.ensures.given) (still_stops s t e)
 
 pub read_link-requires-clause-held : goal.read_link-requires-clause-held

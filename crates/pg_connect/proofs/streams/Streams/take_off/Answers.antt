@@ -106,9 +106,9 @@ returns-in-Err c = record {
 pub returns-in-Err-BadLength-clause-end : goal.returns-in-Err-BadLength-clause-end
 returns-in-Err-BadLength-clause-end c =
     let cut = subst (λ (r : WireFault). Decodes c.args.self.now.buffer.items c.decode.new.buf.items (Err r)) c.in-Err-BadLength.field-0-is c.in-Err-BadLength.ensures in
-    record { header = ap has_bad_header cut.same ∙ cut.header; held = ap waiting c.requires.held; delayed = ap (map notice_of) c.requires.delayed }
+    record { header = ap has_bad_header cut.same ∙ cut.header; held = ap waiting c.requires.held; delayed = ap (map notice_of) c.requires.delayed; unread = c.requires.unread }
 
 pub returns-in-Err-Layout-clause-end : goal.returns-in-Err-Layout-clause-end
 returns-in-Err-Layout-clause-end c =
     let cut = subst (λ (r : WireFault). Decodes c.args.self.now.buffer.items c.decode.new.buf.items (Err r)) c.in-Err-Layout.field-0-is c.in-Err-Layout.ensures in
-    record { raw = cut.raw; rest = cut.rest; front = ap messages cut.same ∙ cut.front; aside = cut.aside; broken = cut.broken; held = ap waiting c.requires.held; delayed = ap (map notice_of) c.requires.delayed }
+    record { raw = cut.raw; rest = cut.rest; front = ap messages cut.same ∙ cut.front; aside = cut.aside; broken = cut.broken; held = ap waiting c.requires.held; delayed = ap (map notice_of) c.requires.delayed; unread = c.requires.unread }
