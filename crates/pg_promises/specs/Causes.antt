@@ -101,13 +101,13 @@ pub record IsPastLimit (call : Call) (given limit : ℕ) : Type 0 where
   pub more : limit < given
   pub counted : OfBytes call.before call.after (λ g t. length g ≡ given)
 
--- why TLS can't be had, over a connector that has none: it is begun at once or after the server's `S`,
--- and fails; or the server's byte is another
-abbrev pub NoTlsFor : Cause → Negotiation → List ℕ → Type 0
-NoTlsFor cause Direct [] = cause ≡ Handshake
-NoTlsFor cause Direct other = ⊥
-NoTlsFor cause Postgres (b ∷ []) = cause ≡ (if b == byte "S" then Handshake else faults.Refused)
-NoTlsFor cause Postgres other = ⊥
+-- why TLS can't be had, over a connector that has none: it is begun at once, before any byte, or after the server's `S`,
+-- which answers the SSLRequest, and fails; or the server's byte is another
+abbrev pub NoTlsFor : Cause → Negotiation → (given taken : List ℕ) → Type 0
+NoTlsFor cause Direct [] t = (cause ≡ Handshake) × (t ≡ [])
+NoTlsFor cause Direct other t = ⊥
+NoTlsFor cause Postgres (b ∷ []) t = (cause ≡ (if b == byte "S" then Handshake else faults.Refused)) × (t ≡ ssl_request)
+NoTlsFor cause Postgres other t = ⊥
 
 -- what is wrong with a connection string
 abbrev pub IsOfText : Cause → Type 0
@@ -156,11 +156,11 @@ pub record AsksMore (call : Call) (s : Settings) (g : List ℕ) : Type 0 where
 -- the cause of each failure; no other comes
 abbrev pub HasCause : Call → Failure → Type 0
 HasCause call (ConfigParse cause) = IsOfText cause × ((s : Settings) → Means call.config s → ⊥)
-HasCause call (Config NotBuilt) = IsNotBuilt call ⊎ OfDialogue call (λ s g t. AsksMore call s g)
+HasCause call (Config NotBuilt) = IsNotBuilt call ⊎ OfDialogue call (λ s g t. NeedsNoTls s × AsksMore call s g)
 HasCause call (Config NoUser) = WithSettings call (λ s. s.user ≡ None)
 HasCause call (Config Nonce) = WithSettings call (λ s. IsSome s.user) × IsFalse (is_nonce call.nonce)
 HasCause call (Config NoPassword) = OfDialogue call (λ s g t. InStartup (Config NoPassword) call s g)
-HasCause call (Tls cause) = IsOfTls cause × OfDialogue call (λ s g t. (s.ssl_mode ≡ Require) × NoTlsFor cause s.ssl_negotiation g)
+HasCause call (Tls cause) = IsOfTls cause × OfDialogue call (λ s g t. (s.ssl_mode ≡ Require) × NoTlsFor cause s.ssl_negotiation g t)
 HasCause call (Encode (Frame frame.OutOfMemory)) = ⊥
 HasCause call (Encode (Frame fault)) = OfDialogue call (λ s g t. InStartup (Encode (Frame fault)) call s g)
 HasCause call (Authentication cause) = IsOfLogin cause × OfDialogue call (λ s g t. InStartup (Authentication cause) call s g)
@@ -169,7 +169,7 @@ HasCause call UnexpectedMessage = OfDialogue call (λ s g t. InStartup Unexpecte
 HasCause call (Parse cause) = IsOfBody cause × OfDialogue call (λ s g t.
     InStartup (Parse cause) call s g ⊎ (NeedsNoTls s × AsideUnreadable cause (messages g)) ⊎ Behind call s g (OutOfTurn (Parse cause) t))
 HasCause call (Io Link) = Rose call.before.faults call.after.faults
-HasCause call (Io Ended) = Rose call.before.ends call.after.ends × OfDialogue call (λ s g t. (NeedsNoTls s × EndsInside g) ⊎ (MustAskForTls s × (g ≡ [])))
+HasCause call (Io Ended) = Rose call.before.ends call.after.ends × OfDialogue call (λ s g t. (NeedsNoTls s × EndsInside g) ⊎ (MustAskForTls s × (t ≡ ssl_request) × (g ≡ [])))
 HasCause call (Io (Wire wire.OutOfMemory)) = ⊥
 HasCause call (Io (Wire fault)) = OfDialogue call (λ s g t.
     (NeedsNoTls s × (fault ≡ BadLength) × IsTrue (has_bad_header (bytes_left g)))

@@ -9,7 +9,7 @@ ghost use Rattle.pg_spec.specs.ReportText.{report_text};
 ghost use Rattle.pg_spec.specs.Sent.{units, turns_given};
 ghost use Rattle.pg_spec.specs.Settings.{only_user, Direct, Require, Settings};
 ghost use Rattle.pg_spec.specs.Startup.{Done};
-ghost use Rattle.pg_promises.specs.Causes.{Call, InStartup, IsStalled};
+ghost use Rattle.pg_promises.specs.Causes.{Behind, Call, InStartup, IsStalled, OutOfTurn};
 ghost use Rattle.pg_promises.specs.EndedWell.{EndedWell, startup_of, replies};
 ghost use Rattle.pg_promises.specs.Examples.{select_one, select_one_sent, select_one_text, two_clients, two_clients_sent, exchanged, asked, good_plan, broken_plan, hasty_plan, with_password, with_password_sent, three_commands, three_sent, early_reply, booked_later, one_for_two, synced_first, notice_left_out, first_value, bad_header, report_skipped, asked_so};
 ghost use Rattle.pg_promises.specs.Promises.{IsFront, IsValid, Conforms, MustEndWell, SentInOrder};
@@ -71,9 +71,11 @@ pub fn worked_plans()
 {}
 
 /// Where TLS is required a session that failed sent a front of the SSLRequest and nothing else, and nothing where TLS
-/// begins at once; and it failed for nothing that a startup, or what stands behind one, says.
+/// begins at once; and it failed for nothing that a startup says, nor a message behind one.
 pub fn what_crosses_where_tls_is_required()
     ensures asks { (call : Call) (s : Settings) (g t : List ℕ) → s.ssl_mode ≡ Require → SentInOrder call s g t → IsFront t ssl_request }
     ensures nothing { (call : Call) (s : Settings) (g t : List ℕ) → s.ssl_mode ≡ Require → s.ssl_negotiation ≡ Direct → SentInOrder call s g t → t ≡ [] }
     ensures no_startup { (failure : Failure) (call : Call) (s : Settings) (g : List ℕ) → s.ssl_mode ≡ Require → InStartup failure call s g → ⊥ }
+    ensures none_behind { (failure : Failure) (call : Call) (s : Settings) (g t : List ℕ) → s.ssl_mode ≡ Require →
+        Behind call s g (OutOfTurn failure t) → ⊥ }
 {}

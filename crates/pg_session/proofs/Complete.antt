@@ -301,7 +301,7 @@ module _ (call : Call) (user : List ℕ) (plan : Plan) (g t : List ℕ) (means :
   ends-well (faults.ConfigParse cause) h = h.1 s means
   ends-well (faults.Config faults.NotBuilt) (inl (inl none)) = none (s, means, tt)
   ends-well (faults.Config faults.NotBuilt) (inl (inr nonce)) = true≢false (sym v.nonce ∙ nonce)
-  ends-well (faults.Config faults.NotBuilt) (inr h) = asks (dialogue-says (λ s g t. AsksMore call s g) h)
+  ends-well (faults.Config faults.NotBuilt) (inr h) = asks (dialogue-says (λ s g t. NeedsNoTls s × AsksMore call s g) h).1
   ends-well (faults.Config faults.NoUser) h =
       let none : Some user ≡ None = subst (λ (x : Settings). x.user ≡ None) (means-one call.config h.0 user h.1 means) h.2 in cc
   ends-well (faults.Config faults.Nonce) h = true≢false (sym v.nonce ∙ h.1)

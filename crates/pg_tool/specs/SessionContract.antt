@@ -40,8 +40,9 @@ KeepsLimit call result = OfBytes call.before call.after (λ g t. call.limit < le
 abbrev pub IsRun : Call → Report → Type 0
 IsRun call report = (schedule : List (List Times)) × HasRun call.scripts call.turns report schedule
 
--- Where a session fails, what was sent is in order: a front of what the startup writes, or, once that is done, of
--- it, of requests in script order, and of Terminate. A connection string that means nothing has no startup.
+-- Where a session fails, what was sent is in order: nothing, or a front of the SSLRequest where TLS is required, or, where it
+-- isn't, of what the startup writes, or, once that is done, of it, of requests in script order, and of Terminate. A
+-- connection string that means nothing has no startup.
 abbrev pub SendsInOrder : Call → SessionResult → Type 0
 SendsInOrder call (Ok report) = ⊤
 SendsInOrder call (Err failure) = WithSettings call (λ s. ⊤) → OfDialogue call (λ s g t. SentInOrder call s g t)

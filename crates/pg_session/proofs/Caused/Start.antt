@@ -115,7 +115,8 @@ asks_more call user opening got is m = record {
 pub failed-not_built : (call : Call) (user : List ℕ) (s : Startup) → Means call.config (only_user user) →
     Failed user call.nonce call.before call.after s (error.Config cause.NotBuilt) → HasCause call (Config NotBuilt)
 failed-not_built call user s means f =
-    inr (of_failed call user s (error.Config cause.NotBuilt) (λ s g t. AsksMore call s g) means f (asks_more call user s.opening.items f.got f.frame f.fails))
+    inr (of_failed call user s (error.Config cause.NotBuilt) (λ s g t. NeedsNoTls s × AsksMore call s g) means f
+    (needs-none user, asks_more call user s.opening.items f.got f.frame f.fails))
 
 -- ---- the frame that its writer refuses
 

@@ -9,3 +9,6 @@ returns-clause-nothing c call s g t required direct h = asks-nothing call s g t 
 
 pub returns-clause-no_startup : goal.returns-clause-no_startup
 returns-clause-no_startup c failure call s g required h = h.0 required
+
+pub returns-clause-none_behind : goal.returns-clause-none_behind
+returns-clause-none_behind c failure call s g t required h = h.0 required
