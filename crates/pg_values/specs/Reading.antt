@@ -1,6 +1,6 @@
 -- What reading a value answers.
 use Rattle.std.specs.Prelude.{◌≡◌, ℕ, true, false, List, Option, Result, Ok, Err}
-use Rattle.pg_types.specs.Values.{wrong_type}
+use Rattle.pg_types.specs.Values.{wrong_type, may_lack}
 use Rattle.pg_types.specs.declared.fault.ValueFault.{ValueFault}
 use Rattle.pg_types.specs.declared.fault.ValueFault.TheVariants as fault
 use Rattle.pg_types.specs.declared.fault.RustType.TheVariants as rust
@@ -34,10 +34,11 @@ pub record IsWrong (ty : PgType) (wrong : WrongType) : Type 0 where
   pub unsupported : is_supported ty ≡ false
   pub named : wrong ≡ wrong_type ty.oid rust.Other
 
--- what `read_datum` answers: WrongType exactly where the type isn't supported, BadValue where it is and no value is spelled
+-- what `read_datum` answers: WrongType exactly where the type isn't supported, BadValue where it is and no value is spelled;
+-- memory never lacks for null
 abbrev pub ReadsDatum : PgType → Option (List ℕ) → Result Datum ValueFault → Type 0
 ReadsDatum ty raw (Ok v) = IsTheValue ty raw v
 ReadsDatum ty raw (Err (fault.WrongType wrong)) = IsWrong ty wrong
 ReadsDatum ty raw (Err fault.BadValue) = SpellsNone ty raw
-ReadsDatum ty raw (Err fault.OutOfMemory) = is_supported ty ≡ true
+ReadsDatum ty raw (Err fault.OutOfMemory) = (is_supported ty ≡ true) × (may_lack true raw ≡ true)
 ReadsDatum ty raw (Err fault.WasNull) = ⊥

@@ -18,7 +18,7 @@ use pg_types::{Field, Kind, List, RustType, Type, ValueFault, WrongType};
 use std::alloc::Global;
 
 /// The value that bytes of a type, or null (`None`), spell. WrongType comes exactly where the type isn't supported, and BadValue
-/// exactly where it is and no value is spelled.
+/// only where it is and no value is spelled.
 pub fn read_datum(alloc: Global, ty: &Type, raw: Option<&[u8]>) -> Result<Datum, ValueFault>
     ensures { ReadsDatum ty.now (option_map (λ r. r.now) raw.entry) result }
 {

@@ -23,7 +23,7 @@ use bytes::BytesMut;
 use pg_types::{Field, IsNull, Kind, Oid, RustType, Type, ValueFault, WrongType};
 
 /// Appends the bytes of a value under a type, none for null. WrongType comes exactly where the type isn't supported, and BadValue
-/// exactly where it is and no bytes spell the value. After a fault `out` is as before.
+/// only where it is and no bytes spell the value. After a fault `out` is as before.
 pub fn write_datum(value: &Datum, ty: &Type, out: &mut BytesMut) -> Result<IsNull, ValueFault>
     ensures { WritesDatum ty.now value.now out.old.items out.new.items result }
 {

@@ -1,4 +1,4 @@
-use Rattle.std.proofs.Common.{◌≡◌, ℕ, List, true, false, Option, Some, option_map, Result, Ok, Err, ap, sym, ◌∙◌, subst}
+use Rattle.std.proofs.Common.{◌≡◌, ℕ, List, true, false, Option, Some, option_map, Result, Ok, Err, ap, refl, sym, ◌∙◌, subst}
 use Rattle.pg_types.specs.declared.fault.ValueFault.{ValueFault}
 use Rattle.pg_types.specs.declared.fault.ValueFault.TheVariants as fault
 use Rattle.pg_types.specs.declared.pg_type.PgType.{PgType}
@@ -12,7 +12,7 @@ use Rattle.pg_values.proofs.reading.read_datum.Goals as goal
 reads : (ty : PgType) (raw : List ℕ) (r : Result Datum ValueFault) → is_supported ty ≡ true → ReadsAs (λ (v : Datum). SpellsKind false ty.oid ty.kind v raw) r → ReadsDatum ty (Some raw) r
 reads ty raw (Ok v) supported is = record { supported = supported; spelled = is; only = λ w also. kind_single ty.oid ty.kind w v raw also is }
 reads ty raw (Err fault.BadValue) supported none = record { supported = supported; none = none }
-reads ty raw (Err fault.OutOfMemory) supported is = supported
+reads ty raw (Err fault.OutOfMemory) supported is = (supported, refl)
 reads ty raw (Err (fault.WrongType wrong)) supported is = absurd is
 reads ty raw (Err fault.WasNull) supported is = absurd is
 
