@@ -1,7 +1,6 @@
 -- What single calls pass on, on the way in.
-use Rattle.std.proofs.Common.{◌≡◌, ℕ, ◌+◌, ◌-◌, ◌^◌, ◌≤◌, Bool, true, false, not, ◌||◌, List, [], ◌∷◌, ◌++◌, length, map, Option, Some, None, Ok, refl, sym, ap, subst, ◌∙◌, arith, inl, inr}
-use Rattle.std.specs.Prelude.{min, max}
-use Rattle.std.specs.List.{list_all, list_any}
+use Rattle.std.proofs.Common.{◌≡◌, ℕ, ◌+◌, ◌-◌, Bool, true, false, not, ◌||◌, List, [], ◌∷◌, ◌++◌, length, Option, Some, None, Ok, refl, sym, ap, subst, ◌∙◌, arith, inl, inr}
+use Rattle.std.specs.List.{list_all}
 use Rattle.std.proofs.lemmas.List.{append-nil}
 use Rattle.pg_spec.specs.Batches.{is_nothing}
 use Rattle.pg_spec.specs.Asides.{is_readable}
@@ -15,9 +14,9 @@ use Rattle.pg_wire.specs.LinkCalls.{Keeps, SameBytes}
 use Rattle.pg_wire.specs.Messages.{message_view}
 use Rattle.pg_desk.specs.declared.event.Event.{Event}
 use Rattle.pg_connect.specs.declared.streams.Streams.{Streams}
-use Rattle.pg_connect.specs.Kept.{keep, keep_all}
+use Rattle.pg_connect.specs.Kept.{keep_all}
 use Rattle.pg_connect.specs.Passed.{delivered_in, delivered_by, bytes_out_in, bytes_out_by, last_part, moves_in, parts_out_in, parts_out_by}
-use Rattle.pg_connect.specs.Passes.{Passes, HoldsLast, Untouched, waiting, delayed_in, CameOff, IsUnread, farewell, goodbye, moves, risen}
+use Rattle.pg_connect.specs.Passes.{Passes, HoldsLast, Untouched, waiting, delayed_in, IsUnread, farewell, goodbye, moves, risen}
 use Rattle.pg_connect.proofs.Joining.{grew_same, goodbye_same, keeps_same, untouched_same}
 use Rattle.pg_connect.proofs.LastParts.{farewell_same}
 use Rattle.pg_connect.proofs.Sends.{or_false, or_true}

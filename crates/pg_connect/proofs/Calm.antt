@@ -1,5 +1,5 @@
 -- Calls of a link that are no lull, one after another.
-use Rattle.std.proofs.Common.{◌≡◌, Bool, refl, ◌∙◌}
+use Rattle.std.proofs.Common.{Bool, refl, ◌∙◌}
 use Rattle.pg_spec.specs.Links.{LinkView}
 use Rattle.pg_wire.specs.LinkCalls.{Keeps, KeepsPromise}
 use Rattle.pg_connect.specs.Calm.{StaysCalm}

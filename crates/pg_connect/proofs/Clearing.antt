@@ -1,12 +1,9 @@
 -- What lies there behind a step that reads nothing.
-use Rattle.std.proofs.Common.{◌≡◌, ℕ, List, [], ◌∷◌, ◌++◌, length, map, None, refl, sym, ap, ◌∙◌, arith, append-nil}
+use Rattle.std.proofs.Common.{◌≡◌, List, [], map, None, ap, ◌∙◌}
 use Rattle.pg_spec.specs.Links.{LinkView}
-use Rattle.pg_spec.specs.RawMessages.{RawMessage, messages, sync_of, async_of}
 use Rattle.pg_wire.specs.declared.body.ErrorResponseBody.{ErrorResponseBody}
-use Rattle.pg_desk.specs.declared.event.Event.{Event}
 use Rattle.pg_connect.specs.declared.streams.Streams.{Streams}
-use Rattle.pg_connect.specs.Passed.{delivered_by}
-use Rattle.pg_connect.specs.Passes.{Passes, OnlySends, waiting, notice_of, delayed_in}
+use Rattle.pg_connect.specs.Passes.{OnlySends, waiting, notice_of}
 use Rattle.pg_connect.specs.Reads.{IsCleared}
 
 -- by its fields

@@ -1,5 +1,5 @@
 -- What is offered behind Terminate.
-use Rattle.std.proofs.Common.{◌≡◌, ◌⊎◌, inl, inr, Bool, true, false, List, [], ◌∷◌, ◌++◌, refl, sym, ap, subst, ◌∙◌, Result, Ok, Err}
+use Rattle.std.proofs.Common.{◌≡◌, inl, inr, Bool, true, false, List, [], ◌∷◌, refl, sym, ◌∙◌, Result, Ok, Err}
 use Rattle.pg_spec.specs.Links.{LinkView}
 use Rattle.pg_wire.specs.LinkCalls.{Keeps}
 use Rattle.pg_desk.specs.declared.event.Out.TheVariants.{NoMore}
@@ -9,7 +9,6 @@ use Rattle.pg_connect.specs.declared.fault.ConnectionFault.{ConnectionFault}
 use Rattle.pg_connect.specs.declared.fault.ConnectionFault.TheVariants as fault
 use Rattle.pg_connect.specs.declared.ends.WriteEnd.{WriteEnd}
 use Rattle.pg_connect.specs.declared.ends.WriteEnd.TheVariants as writes
-use Rattle.pg_connect.specs.declared.ends.PartsEnd.{PartsEnd}
 use Rattle.pg_connect.specs.declared.ends.PartsEnd.TheVariants as parts
 use Rattle.pg_connect.specs.declared.streams.Streams.{Streams}
 use Rattle.pg_connect.specs.Passes.{Goes, Untouched}

@@ -1,5 +1,5 @@
 -- Messages of a startup that are heard batch by batch.
-use Rattle.std.proofs.Common.{◌≡◌, ℕ, ◌+◌, Bool, true, false, List, [], ◌∷◌, ◌++◌, length, Option, Some, None, Result, Ok, Err, ◌⊎◌, inl, inr, ◌&&◌, if◌then◌else◌, append-nil, append_assoc, refl, sym, ◌∙◌, ap, subst}
+use Rattle.std.proofs.Common.{◌≡◌, ℕ, ◌+◌, Bool, true, false, List, [], ◌∷◌, ◌++◌, length, Result, Ok, Err, ◌⊎◌, inl, inr, ◌&&◌, if◌then◌else◌, append-nil, append_assoc, refl, sym, ◌∙◌, ap, subst}
 use Rattle.pg_spec.specs.Batches.{is_batch, is_nothing}
 use Rattle.pg_spec.specs.Built.{is_built, is_built_message}
 use Rattle.pg_spec.specs.Faults.{WireFault, UnexpectedMessage}
@@ -10,7 +10,6 @@ use Rattle.pg_faults.specs.declared.cause.Cause.TheVariants as cause
 use Rattle.pg_faults.specs.declared.error.Error.{Error}
 use Rattle.pg_faults.specs.declared.error.Error.TheVariants as error
 use Rattle.pg_connect.specs.declared.startup.Phase.{Phase}
-use Rattle.pg_connect.specs.declared.startup.Heard.{Heard}
 use Rattle.pg_connect.specs.declared.startup.Heard.TheVariants as heard
 use Rattle.pg_faults.specs.declared.fault.WireFault as wire_faults
 use Rattle.pg_faults.specs.declared.fault.WireFault.TheVariants as wire

@@ -1,6 +1,6 @@
 -- The startup frame, taken piece by piece.
-use Rattle.std.proofs.Common.{◌≡◌, ℕ, ◌≤◌, Bool, true, List, [], ◌∷◌, ◌++◌, take, drop, length, ◌⊎◌, inl, inr, arith, length-append, length-drop, append_assoc, take-append-drop, refl, sym, ◌∙◌, ap, subst}
-use Rattle.pg_spec.specs.Links.{LinkView, Grew}
+use Rattle.std.proofs.Common.{◌≡◌, ℕ, ◌≤◌, true, List, [], ◌++◌, take, drop, length, inl, inr, arith, length-append, length-drop, append_assoc, take-append-drop, refl, sym, ◌∙◌, ap}
+use Rattle.pg_spec.specs.Links.{LinkView}
 use Rattle.pg_wire.specs.LinkCalls.{Keeps, Takes}
 use Rattle.pg_connect.specs.Passes.{Untouched}
 use Rattle.pg_connect.specs.declared.startup.Startup.{Startup}

@@ -1,5 +1,5 @@
 -- Where a startup stands behind each step of a poll.
-use Rattle.std.proofs.Common.{◌≡◌, ◌≢◌, ◌⊎◌, inl, inr, ℕ, ◌+◌, ◌<◌, ◌≤◌, true, false, List, [], ◌∷◌, ◌++◌, length, Ok, Err, append-nil, append_assoc, length-append, arith, drop, refl, sym, ◌∙◌, ap, subst}
+use Rattle.std.proofs.Common.{◌≡◌, ◌≢◌, inl, inr, ℕ, ◌+◌, ◌<◌, ◌≤◌, true, false, List, [], ◌∷◌, ◌++◌, length, Ok, Err, append-nil, append_assoc, length-append, arith, drop, refl, sym, ◌∙◌, ap, subst}
 use Rattle.pg_spec.specs.Links.{LinkView, Grew}
 use Rattle.pg_spec.specs.RawMessages.{RawMessage, messages, bytes_left, has_bad_header}
 use Rattle.pg_spec.proofs.MessageLaws.{messages-append, bytes_left-append}
@@ -10,7 +10,7 @@ use Rattle.pg_faults.specs.declared.error.Error.{Error}
 use Rattle.pg_faults.specs.declared.error.Error.TheVariants as error
 use Rattle.pg_connect.specs.declared.startup.Startup.{Startup}
 use Rattle.pg_connect.specs.declared.startup.Heard.TheVariants as heard
-use Rattle.pg_connect.specs.Startups.{phase_of, Leads, MeetsMore, MeetsRefused, HeardAll, HearsAll, Came, IsUndecided, IsWithinStart, LastPiece, Opening, Opened, Failed, FailsBy, StillWaited}
+use Rattle.pg_connect.specs.Startups.{phase_of, Leads, MeetsMore, MeetsRefused, HeardAll, HearsAll, Came, IsUndecided, IsWithinStart, Opening, Opened, Failed, FailsBy, StillWaited}
 use Rattle.pg_connect.specs.StartupPolls.{Sends, OfferEnds, Reads, PieceEnds}
 use Rattle.pg_connect.specs.declared.startup.Phase.{Phase}
 use Rattle.pg_connect.proofs.Joining.{keeps_then, grew_then, rose_later}

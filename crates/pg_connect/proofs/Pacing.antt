@@ -1,5 +1,5 @@
 -- How far reading goes.
-use Rattle.std.proofs.Common.{◌≡◌, ℕ, ◌+◌, ◌≤◌, Bool, true, false, ◌||◌, List, [], ◌∷◌, ◌++◌, length, None, Result, Ok, Err, ◌⊎◌, refl, sym, ap, subst, ◌∙◌, arith, inl, inr, append_assoc, length-append}
+use Rattle.std.proofs.Common.{◌≡◌, ℕ, ◌+◌, ◌≤◌, ◌||◌, List, [], ◌∷◌, ◌++◌, length, None, Result, Ok, Err, refl, sym, ap, subst, ◌∙◌, arith, inl, inr, append_assoc, length-append}
 use Rattle.std.proofs.lemmas.List.{append-nil}
 use Rattle.pg_spec.specs.Links.{LinkView}
 use Rattle.std.specs.List.{list_all}
@@ -9,7 +9,7 @@ use Rattle.pg_desk.specs.declared.event.Event.{Event}
 use Rattle.pg_connect.specs.declared.streams.Streams.{Streams}
 use Rattle.pg_connect.specs.Passed.{delivered_by}
 use Rattle.pg_connect.specs.Passes.{Passes, Goes, Hands, waiting, delayed_in, moves}
-use Rattle.pg_connect.specs.Reads.{AllDecoded, EndsAt, GaveDue, NeedsMore, NoneFull, Paced, ReadsOn, ReadStops, TakesIn, is_full, piece_size}
+use Rattle.pg_connect.specs.Reads.{AllDecoded, EndsAt, GaveDue, NeedsMore, NoneFull, Paced, ReadsOn, ReadStops, TakesIn, piece_size}
 use Rattle.pg_connect.specs.declared.fault.ConnectionFault.{ConnectionFault}
 use Rattle.pg_connect.specs.declared.fault.ConnectionFault.TheVariants as fault
 use Rattle.pg_connect.specs.declared.ends.ReadEnd.{ReadEnd}

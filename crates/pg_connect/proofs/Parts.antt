@@ -1,6 +1,5 @@
 -- The loop over the parts: an offer, and then an answer of the hub.
 use Rattle.std.proofs.Common.{◌≡◌, Bool, true, false, ◌||◌, sym, List, [], ◌∷◌, ◌++◌, None, refl, ap, subst, Result, Ok}
-use Rattle.std.specs.List.{list_any}
 use Rattle.std.proofs.lemmas.List.{append-nil}
 use Rattle.pg_spec.specs.Links.{LinkView}
 use Rattle.pg_desk.specs.declared.event.DeskFault.{DeskFault}

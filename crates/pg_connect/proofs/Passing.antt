@@ -1,5 +1,5 @@
 -- How the ends of the small steps of reading are those of the larger ones.
-use Rattle.std.proofs.Common.{◌≡◌, ℕ, ◌<◌, ◌≤◌, Bool, true, false, ◌||◌, List, [], ◌∷◌, ◌++◌, length, Option, Some, None, Result, Ok, Err, refl, sym, ap, subst, ◌∙◌, arith, inl, inr, ◌⊎◌, append-nil, append_assoc}
+use Rattle.std.proofs.Common.{◌≡◌, ℕ, Bool, true, false, ◌||◌, List, [], ◌∷◌, ◌++◌, length, Option, Some, None, Result, Ok, Err, refl, sym, ap, subst, ◌∙◌, arith, inl, inr, append-nil, append_assoc}
 use Rattle.pg_spec.specs.Links.{LinkView}
 use Rattle.pg_spec.specs.RawMessages.{RawMessage, messages, has_bad_header}
 use Rattle.pg_wire.specs.LinkCalls.{Keeps}
@@ -18,7 +18,7 @@ use Rattle.pg_connect.specs.declared.ends.ReadEnd.TheVariants as ending
 use Rattle.pg_connect.specs.declared.streams.Streams.{Streams}
 use Rattle.pg_connect.specs.Passes.{Passes, PassesOn, Goes, Hands, Untouched, delayed_in, waiting}
 use Rattle.pg_connect.specs.Ends.{last_is, some_is}
-use Rattle.pg_connect.specs.Reads.{HandedOff, OffEnds, DeliverEnds, PassEnds, AllEnds, PieceEnds, ReadEnds, HandedIn, HandedAll, AllDecoded, EndsAt, LastGivesBack, MeetsFull, MeetsNoRequest, NoneFull, WasDry, EndsInside, LeavesDelayed, RefusesFirst, is_full}
+use Rattle.pg_connect.specs.Reads.{HandedOff, OffEnds, DeliverEnds, PassEnds, AllEnds, PieceEnds, ReadEnds, HandedIn, HandedAll, AllDecoded, EndsAt, LastGivesBack, MeetsFull, MeetsNoRequest, NoneFull, WasDry, LeavesDelayed, RefusesFirst, is_full}
 use Rattle.pg_connect.proofs.Joining.{calls-then, none_lost, passes-joined, promised_still, rose_later, unmoved_before}
 use Rattle.pg_connect.proofs.Parts.{Joins}
 

@@ -1,8 +1,8 @@
 -- A read step and then the write and flush steps, as one turn.
-use Rattle.std.proofs.Common.{◌≡◌, ℕ, ◌≤◌, Bool, true, false, IsTrue, not, ◌||◌, List, [], ◌∷◌, ◌++◌, Option, None, Result, Ok, Err, refl, sym, ap, subst, ◌∙◌, arith, inl, inr, ◌⊎◌}
+use Rattle.std.proofs.Common.{◌≡◌, ℕ, Bool, true, false, not, ◌||◌, List, [], ◌∷◌, ◌++◌, Option, None, Result, Ok, Err, refl, sym, ap, subst, ◌∙◌, inl, inr, ◌⊎◌}
 use Rattle.std.specs.Prelude.{IfSome, OnOk}
 use Rattle.std.proofs.lemmas.List.{append-nil}
-use Rattle.pg_spec.specs.Links.{LinkView, Plan, Rose, due_by}
+use Rattle.pg_spec.specs.Links.{LinkView, Plan, due_by}
 use Rattle.pg_spec.specs.RawMessages.{RawMessage}
 use Rattle.pg_wire.specs.LinkCalls.{Keeps}
 use Rattle.pg_desk.specs.declared.event.Event.{Event}
@@ -21,10 +21,10 @@ use Rattle.pg_connect.specs.declared.ends.WriteEnd.{WriteEnd}
 use Rattle.pg_connect.specs.declared.ends.WriteEnd.TheVariants as writes
 use Rattle.pg_connect.specs.declared.streams.Held.{Held}
 use Rattle.pg_connect.specs.declared.streams.Streams.{Streams}
-use Rattle.pg_connect.specs.Passes.{Passes, Goes, Hands, OnlyReads, OnlySends, Untouched, waiting}
+use Rattle.pg_connect.specs.Passes.{Passes, Goes, OnlyReads, OnlySends, Untouched, waiting}
 use Rattle.pg_connect.specs.Ends.{IsFlushedFrom, WasBlocked, last_is, some_is, has_no_more, Closes, Written, WriteEnds}
-use Rattle.pg_connect.specs.Reads.{EndsAt, Paced, ReadsOn, ReadStops, StopsAt, ReadEnds, LastGivesBack, NothingDue, WasDry, AllDecoded, IsCleared, EndsInside, Carries, HandedBy, is_full}
-use Rattle.pg_connect.specs.Polls.{Shuts, SomeGivesBack, TurnStops, is_last_turn, is_over_sent, is_shut_down, ClosesThen, FlushEnds, SendEnds, SendWaits, Sends, StopsWriting, TurnEnds, TurnFails, ClosesBy, Turns, HandedTurn, Waits, WasDue, ReadDry, BeganToClose, NothingDueBefore}
+use Rattle.pg_connect.specs.Reads.{EndsAt, ReadsOn, ReadStops, StopsAt, ReadEnds, LastGivesBack, NothingDue, WasDry, AllDecoded, IsCleared, HandedBy, is_full}
+use Rattle.pg_connect.specs.Polls.{Shuts, SomeGivesBack, TurnStops, is_last_turn, is_over_sent, is_shut_down, ClosesThen, FlushEnds, SendEnds, Sends, StopsWriting, TurnEnds, TurnFails, ClosesBy, Turns, HandedTurn, Waits, WasDue, ReadDry, BeganToClose, NothingDueBefore}
 use Rattle.pg_connect.proofs.Clearing.{still_cleared}
 use Rattle.pg_connect.proofs.Joining.{calls-then, passes-joined, goes-also, rose_later, rose_before, blocked_later, unmoved_before}
 use Rattle.pg_connect.proofs.Dues.{none_due, was_due}

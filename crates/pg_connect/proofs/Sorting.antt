@@ -1,12 +1,11 @@
 -- How messages are sorted.
-use Rattle.std.proofs.Common.{◌≡◌, ℕ, zero, suc, Bool, true, false, not, List, [], ◌∷◌, ◌++◌, map, filter, Option, Some, None, Result, Ok, Err, refl, sym, ap, subst, ◌∙◌, ◌||◌, ◌&&◌, ◌==◌, if◌then◌else◌, ◌⊎◌, inl, inr, ℤ}
-use Rattle.std.specs.Prelude.{filter_map, is_some, IfSome}
+use Rattle.std.proofs.Common.{◌≡◌, ℕ, Bool, true, false, not, List, [], ◌∷◌, filter, Option, Some, None, Result, Ok, Err, refl, sym, ap, ◌∙◌, ◌||◌, ◌&&◌, ◌==◌, if◌then◌else◌, ◌⊎◌, inl, inr}
+use Rattle.std.specs.Prelude.{is_some, IfSome}
 use Rattle.std.specs.Int.{w32}
 use Rattle.std.specs.List.{cons_option, list_all}
 use Rattle.std.specs.Str.{byte, is_utf8}
 use Rattle.std.proofs.lemmas.Bool.{eqb-true}
 use Rattle.pg_spec.specs.Bytes.{◌>>=◌, signed_at, text0_at}
-use Rattle.std.specs.Option.{option_and_then}
 use Rattle.pg_spec.specs.Batches.{is_batch, is_nothing}
 use Rattle.pg_spec.specs.Asides.{aside_fault, is_readable}
 use Rattle.pg_spec.specs.DbErrors.{db_error_of}
@@ -14,12 +13,11 @@ use Rattle.pg_spec.specs.Faults as faults
 use Rattle.pg_spec.specs.Messages as spec
 use Rattle.pg_spec.specs.Messages.{message_of, notification, parameter}
 use Rattle.pg_spec.specs.Parameters.{parameter_reports, report_of}
-use Rattle.pg_spec.specs.RawMessages.{RawMessage, is_aside, is_async, is_parameter, is_ready, sync_of, async_of}
+use Rattle.pg_spec.specs.RawMessages.{RawMessage, is_aside, is_async, is_ready, sync_of, async_of}
 use Rattle.pg_spec.specs.Report.{AsyncMessage, Notice, Notification, async_message, async_of_raw}
 use Rattle.pg_wire.specs.declared.message.Message.{Message}
 use Rattle.pg_wire.specs.declared.message.Message.TheVariants as wire
 use Rattle.pg_wire.specs.Messages.{message_view}
-use Rattle.pg_errors.specs.Parsing.{IsHandedOut}
 use Rattle.pg_connect.specs.declared.streams.Streams.{Streams}
 use Rattle.pg_connect.specs.Kept.{keep}
 use Rattle.pg_connect.specs.Reads.{KeepsReport}

@@ -1,21 +1,20 @@
 -- How a history grows.
-use Rattle.std.proofs.Common.{◌≡◌, ℕ, ◌+◌, Bool, true, false, IsTrue, List, [], ◌∷◌, ◌++◌, length, Option, None, refl, sym, ap, subst, ◌∙◌, append_assoc, length-append, arith, inl, inr}
+use Rattle.std.proofs.Common.{◌≡◌, ◌+◌, Bool, true, false, IsTrue, List, [], ◌++◌, length, refl, sym, ap, ◌∙◌, append_assoc, length-append, arith, inl, inr}
 use Rattle.std.proofs.lemmas.List.{append-nil}
 use Rattle.std.proofs.lemmas.List.Elements.{filter-append, filter_map-append}
 use Rattle.std.proofs.lemmas.List.Sums.{fold-append}
 use Rattle.pg_spec.specs.Asides.{is_readable}
 use Rattle.pg_spec.specs.Frames.{terminate_frame}
-use Rattle.pg_spec.specs.Links.{LinkView, Grew}
+use Rattle.pg_spec.specs.Links.{LinkView}
 use Rattle.pg_spec.specs.Parameters.{parameter_reports}
-use Rattle.pg_spec.specs.RawMessages.{RawMessage, messages, bytes_left, sync_of, async_of}
-use Rattle.pg_wire.specs.declared.message.Message.{Message}
+use Rattle.pg_spec.specs.RawMessages.{RawMessage, messages, sync_of, async_of}
 use Rattle.pg_desk.specs.declared.event.Event.{Event}
 use Rattle.pg_connect.specs.declared.streams.Streams.{Streams}
 use Rattle.pg_connect.specs.Answers.{fresh, left_open}
 use Rattle.pg_connect.specs.Ends.{IsFlushedFrom, last_is, some_is, has_none}
 use Rattle.pg_connect.specs.Kept.{keep, keep_all}
 use Rattle.pg_connect.specs.Passed.{delivered_by, bytes_out_by}
-use Rattle.pg_connect.specs.Passes.{Passes, waiting, delayed_in, IsUnread, goodbye, risen}
+use Rattle.pg_connect.specs.Passes.{Passes, waiting, delayed_in, goodbye}
 use Rattle.pg_connect.specs.Reads.{AllDecoded, is_full}
 use Rattle.pg_connect.specs.Polls.{Waits, ReadDry}
 use Rattle.pg_connect.specs.Histories.{History, Stands, Settled, extended}

@@ -1,11 +1,11 @@
 -- How a startup goes on from message to message.
-use Rattle.std.proofs.Common.{◌≡◌, ℕ, zero, suc, ◌+◌, Bool, true, false, inl, ◌&&◌, List, [], ◌∷◌, ◌++◌, length, Option, Some, None, Ok, Err, append-nil, refl, sym, ◌∙◌, ap, subst, arith, append_assoc, length-append}
+use Rattle.std.proofs.Common.{◌≡◌, ℕ, zero, suc, ◌+◌, Bool, true, false, inl, ◌&&◌, List, [], ◌∷◌, ◌++◌, length, Ok, append-nil, refl, sym, ◌∙◌, ap, subst, arith, append_assoc, length-append}
 use Rattle.std.specs.List.{list_all}
 use Rattle.std.proofs.lemmas.Bool.{and_from, and_parts}
 use Rattle.pg_spec.specs.Built.{is_built}
 use Rattle.pg_spec.specs.Settings.{only_user}
 use Rattle.pg_spec.specs.Faults.{Failure}
-use Rattle.pg_spec.specs.Links.{LinkView, Grew}
+use Rattle.pg_spec.specs.Links.{LinkView}
 use Rattle.pg_spec.specs.RawMessages.{RawMessage, messages, bytes_left}
 use Rattle.pg_spec.specs.Startup.{Startup, Outcome, Done, Refused, More, Phase, First, Move, Writes, Refuses, after_one, moved_by, dialogue, startup_move, plain_login}
 use Rattle.pg_spec.specs.Startup as startups

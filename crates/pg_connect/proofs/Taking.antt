@@ -26,7 +26,6 @@ use Rattle.pg_spec.specs.RawMessages.{messages}
 use Rattle.pg_connect.specs.Reads.{TakesAside, TakesIn, HandedOff, OffEnds, Carries, FirstReads}
 use Rattle.pg_connect.specs.declared.fault.ConnectionFault.TheVariants as fault
 use Rattle.pg_connect.proofs.Dues.{due_none, due_front}
-use Rattle.pg_connect.proofs.Joining.{keeps_same}
 use Rattle.pg_connect.proofs.Sends.{or_false, or_true, some_taken}
 use Rattle.pg_connect.proofs.Sorting.{sorted_handed, kept_aside}
 use Rattle.pg_connect.proofs.Arriving.{reads_nothing, reads_end, reads_aside, reads_lost, reads_piece, reads_delayed}

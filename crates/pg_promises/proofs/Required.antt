@@ -1,6 +1,6 @@
 -- Where TLS is required nothing crosses the link but an SSLRequest.
 use Rattle.std.proofs.Common.{◌≡◌, ◌⊎◌, ℕ, List, [], ◌++◌, inl, inr, ap, sym, ◌∙◌}
-use Rattle.pg_spec.specs.Frames.{ssl_request, terminate_frame}
+use Rattle.pg_spec.specs.Frames.{ssl_request}
 use Rattle.pg_spec.specs.Settings.{Direct, Postgres, Require, Settings}
 use Rattle.pg_promises.specs.Causes.{Call, MustAskForTls, NeedsNoTls}
 use Rattle.pg_promises.specs.Promises.{IsFront}

@@ -1,7 +1,7 @@
 -- A session's events, the trace and the replies.
 pub mod HubMoves
-use Rattle.std.proofs.Common.{◌≡◌, ℕ, zero, suc, ◌^◌, ◌<◌, List, [], ◌∷◌, ◌++◌, length, map, take, drop, true, Some, unwrap_or, slice_get, refl, sym, ap, ◌∙◌, subst, arith, not}
-use Rattle.std.proofs.lemmas.List.{append-nil, append_assoc, length-map, take-append-drop}
+use Rattle.std.proofs.Common.{◌≡◌, ℕ, zero, suc, ◌^◌, ◌<◌, List, [], ◌∷◌, ◌++◌, length, take, drop, true, Some, unwrap_or, slice_get, refl, sym, ap, ◌∙◌, subst, arith, not}
+use Rattle.std.proofs.lemmas.List.{append-nil, append_assoc, take-append-drop}
 use Rattle.pg_promises.specs.EndedWell.{Session, later_messages, reply as reply_to}
 use Rattle.pg_spec.specs.Links.{LinkView, added}
 use Rattle.pg_spec.specs.RawMessages.{RawMessage, cut_after, is_aside, is_ready, sync_of}

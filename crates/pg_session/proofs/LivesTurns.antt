@@ -3,7 +3,7 @@ use Rattle.std.proofs.Common.{◌≡◌, ◌≢◌, ℕ, zero, suc, ◌+◌, ◌
 use Rattle.std.specs.Prelude.{is_some}
 use Rattle.std.proofs.lemmas.Bool.{cases_eq}
 use Rattle.std.proofs.lemmas.Bool.Decides.{nat_tests}
-use Rattle.std.proofs.lemmas.List.{append-nil, length-map, length-set, map-append}
+use Rattle.std.proofs.lemmas.List.{append-nil, length-map, length-set}
 use Rattle.pg_spec.specs.Book as said
 use Rattle.pg_spec.specs.Report as told
 use Rattle.pg_spec.specs.RawMessages.{RawMessage}

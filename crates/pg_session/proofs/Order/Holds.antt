@@ -1,8 +1,7 @@
 -- The turns of a session are those of its turn list, and tell what was delivered.
-use Rattle.std.proofs.Common.{◌≡◌, ℕ, ◌+◌, ◌-◌, ◌≤◌, List, [], ◌∷◌, ◌++◌, length, map, sym, ap, subst, ◌∙◌, arith}
+use Rattle.std.proofs.Common.{◌≡◌, ℕ, ◌+◌, ◌-◌, ◌≤◌, List, [], ◌∷◌, ◌++◌, length, sym, ap, subst, ◌∙◌, arith}
 use Rattle.std.proofs.lemmas.List.{get_or_at, length_push}
 use Rattle.pg_spec.specs.Links.{LinkView}
-use Rattle.pg_spec.specs.Report as said
 use Rattle.pg_spec.specs.Turns.{delivered_after, IsTrace}
 use Rattle.pg_text.specs.declared.command.Command.{Command}
 use Rattle.pg_spec.specs.declared.stamps.TurnMark.{TurnMark}

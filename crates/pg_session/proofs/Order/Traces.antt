@@ -1,9 +1,7 @@
 -- The trace as the turns of a session go on.
-use Rattle.std.proofs.Common.{◌≡◌, ℕ, zero, suc, ◌+◌, ◌<◌, Bool, false, List, [], ◌∷◌, ◌++◌, length, map, slice_get, Option, Some, option_map, unwrap_or, refl, sym, ap, subst, ◌∙◌, arith, length-append}
-use Rattle.std.proofs.lemmas.List.{length-map, length_push}
-use Rattle.std.proofs.lemmas.Option.{slice_get-map}
+use Rattle.std.proofs.Common.{◌≡◌, ℕ, zero, suc, ◌+◌, ◌<◌, Bool, false, List, [], ◌∷◌, ◌++◌, length, slice_get, Option, Some, option_map, unwrap_or, refl, sym, ap, subst, ◌∙◌, arith, length-append}
+use Rattle.std.proofs.lemmas.List.{length_push}
 use Rattle.pg_spec.specs.Links.{LinkView}
-use Rattle.pg_spec.specs.Report as said
 use Rattle.pg_spec.specs.Turns.{turn_of, delivered_after, delivered_before}
 use Rattle.pg_desk.specs.History.{IsFrontOf}
 use Rattle.pg_text.specs.declared.command.Command.{Command}

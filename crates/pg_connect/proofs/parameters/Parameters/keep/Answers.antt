@@ -1,4 +1,4 @@
-use Rattle.std.proofs.Common.{refl, sym, ap, ◌∙◌, map, string_bytes}
+use Rattle.std.proofs.Common.{refl, ap, ◌∙◌, map, string_bytes}
 use Rattle.pg_connect.specs.Kept.{keep}
 use Rattle.pg_connect.proofs.Keeping.{map-insert_entry, rises}
 use Rattle.pg_connect.proofs.parameters.Parameters.keep.Goals as goal

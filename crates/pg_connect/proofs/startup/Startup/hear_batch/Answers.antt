@@ -1,6 +1,4 @@
 use Rattle.std.proofs.Common.{◌∷◌, [], ◌++◌, refl, sym, subst, Ok, Err, ap, ◌∙◌, rules}
-use Rattle.pg_spec.specs.RawMessages.{RawMessage}
-use Rattle.pg_spec.specs.Messages.{message_of, ReadyForQuery}
 use Rattle.pg_connect.proofs.Tags.{is_ready_message}
 use Rattle.pg_faults.specs.declared.error.Error.{Error}
 use Rattle.pg_connect.specs.Startups.{Hears}

@@ -1,4 +1,4 @@
-use Rattle.std.proofs.Common.{◌≡◌, ◌⊎◌, ◌<◌, ◌≤◌, ◌-◌, ℕ, List, [], true, false}
+use Rattle.std.proofs.Common.{◌≡◌, ◌⊎◌, ◌<◌, ◌≤◌, ◌-◌, ℕ, List, true, false}
 use Rattle.pg_connect.specs.Calm.{StaysCalm}
 use Rattle.pg_connect.specs.Passes.{Untouched}
 use Rattle.pg_spec.specs.Links.{LinkView}

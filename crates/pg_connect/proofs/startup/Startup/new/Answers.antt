@@ -1,5 +1,4 @@
 use Rattle.std.proofs.Common.{◌≡◌, Ok, refl, sym, ◌∙◌, ap}
-use Rattle.pg_connect.specs.Startups.{frame_of}
 use Rattle.pg_connect.proofs.Starting.{opens}
 use Rattle.pg_connect.proofs.startup.Startup.new.Goals as goal
 

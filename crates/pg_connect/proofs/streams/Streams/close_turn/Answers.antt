@@ -1,4 +1,4 @@
-use Rattle.std.proofs.Common.{[], refl, subst, Ok, Err}
+use Rattle.std.proofs.Common.{refl, Ok}
 use Rattle.pg_connect.specs.declared.ends.SendEnd.TheVariants as sending
 use Rattle.pg_connect.specs.declared.ends.TurnEnd.TheVariants as turn
 use Rattle.pg_connect.proofs.Rounds.{at_send, turned_closing, closing_waits, closing_over, closing_error}

@@ -1,16 +1,12 @@
-use Rattle.std.proofs.Common.{◌≡◌, [], ◌∷◌, ◌++◌, length, refl, sym, ap, subst, ◌∙◌, List}
-use Rattle.std.proofs.lemmas.List.{append-nil}
-use Rattle.pg_spec.specs.RawMessages.{RawMessage}
+use Rattle.std.proofs.Common.{[], ◌∷◌, refl, sym, ap, ◌∙◌}
 use Rattle.pg_desk.specs.declared.event.Deliver.TheVariants as answer
 use Rattle.pg_desk.specs.declared.event.Event.{Event}
 use Rattle.pg_desk.specs.declared.event.Event.TheVariants.{Deliver}
 use Rattle.pg_wire.proofs.Cuttings.{ends_by}
 use Rattle.pg_connect.specs.declared.streams.Streams.{Streams}
-use Rattle.pg_connect.specs.Passes.{Passes, waiting, risen}
-use Rattle.pg_connect.specs.Reads.{IsUnasked}
+use Rattle.pg_connect.specs.Passes.{waiting}
 use Rattle.pg_connect.proofs.Joining.{keeps_same, untouched_same}
-use Rattle.pg_connect.proofs.Sends.{or_false, or_true}
-use Rattle.pg_connect.proofs.Arriving.{reads_nothing, delivers}
+use Rattle.pg_connect.proofs.Arriving.{reads_nothing}
 use Rattle.pg_connect.proofs.Delivering.{delivered_taken, delivered_back, unasked_back}
 use Rattle.pg_connect.proofs.streams.Streams.deliver_held.Goals as goal
 

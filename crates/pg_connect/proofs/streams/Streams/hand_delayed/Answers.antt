@@ -1,4 +1,4 @@
-use Rattle.std.proofs.Common.{[], refl, ap, arith, length, subst, Some, Result, Ok, Err}
+use Rattle.std.proofs.Common.{[], refl, ap, arith, length, subst, Some, Result}
 use Rattle.pg_faults.specs.declared.db_error.DbError.{DbError}
 use Rattle.pg_connect.specs.declared.fault.ConnectionFault.{ConnectionFault}
 use Rattle.pg_connect.specs.Reads.{ReadsFirst}

@@ -1,4 +1,4 @@
-use Rattle.std.proofs.Common.{◌<◌, [], ◌∷◌, length, refl, sym, ap, subst, Ok, Err, Bool}
+use Rattle.std.proofs.Common.{◌<◌, [], length, refl, sym, ap, subst, Ok, Err, Bool}
 use Rattle.pg_connect.specs.declared.ends.Off.TheVariants as off
 use Rattle.pg_connect.specs.Reads.{DeliverEnds}
 use Rattle.pg_connect.proofs.Passing.{none_handed, goes-behind, hands-quietly, off_refused, deliver_refused, taken_off}

@@ -1,4 +1,4 @@
-use Rattle.std.proofs.Common.{◌≡◌, Bool, true, false, Some, Err, refl, sym, ap, subst, ◌∙◌, ◌||◌, inr}
+use Rattle.std.proofs.Common.{false, Some, Err, sym, ap, subst, ◌∙◌, ◌||◌, inr}
 use Rattle.futures.specs.declared.task.Poll.TheVariants.{Ready}
 use Rattle.pg_faults.specs.declared.error.Error.{Error}
 use Rattle.pg_connect.specs.Answers.{IsWithinPoll}

@@ -1,4 +1,4 @@
-use Rattle.std.proofs.Common.{◌++◌, refl, sym, ap, ◌∙◌, take}
+use Rattle.std.proofs.Common.{◌++◌, refl, ap, ◌∙◌, take}
 use Rattle.pg_connect.proofs.Joining.{keeps_same, untouched_same}
 use Rattle.pg_connect.proofs.Taking.{piece_taken, piece_still, piece_end}
 use Rattle.pg_connect.proofs.streams.Streams.read_piece.Goals as goal

@@ -1,4 +1,4 @@
-use Rattle.std.proofs.Common.{[], refl, ◌∙◌, Ok, Err}
+use Rattle.std.proofs.Common.{refl, ◌∙◌, Ok, Err}
 use Rattle.pg_connect.specs.declared.ends.FlushEnd.TheVariants as flush
 use Rattle.pg_connect.specs.declared.ends.SendEnd.TheVariants as sending
 use Rattle.pg_connect.proofs.Rounds.{flushed, flush_blocked, flush_done, flush_over, flush_error, flush_shuts}

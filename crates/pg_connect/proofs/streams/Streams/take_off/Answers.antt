@@ -1,4 +1,4 @@
-use Rattle.std.proofs.Common.{ℕ, List, [], refl, sym, ap, subst, ◌∙◌, map, Option, Some, Ok, Err}
+use Rattle.std.proofs.Common.{[], refl, sym, ap, subst, ◌∙◌, map, Option, Some, Ok, Err}
 use Rattle.pg_wire.specs.Decode.{Decodes}
 use Rattle.pg_wire.specs.declared.codec.BackendMessage.{BackendMessage}
 use Rattle.pg_faults.specs.declared.fault.WireFault.{WireFault}

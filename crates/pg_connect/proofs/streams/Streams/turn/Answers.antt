@@ -1,4 +1,3 @@
-use Rattle.std.proofs.Common.{[], subst, ◌∙◌, Ok, Err}
 use Rattle.pg_connect.specs.declared.ends.ReadEnd.TheVariants as ending
 use Rattle.pg_connect.specs.declared.ends.SendEnd.TheVariants as sending
 use Rattle.pg_connect.proofs.Rounds.{at_read, at_send, turned_handed, turned_full, turned_dry, turned_over, turned_error, turned_read}

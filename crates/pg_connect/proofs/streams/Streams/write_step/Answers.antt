@@ -1,9 +1,8 @@
 use Rattle.std.proofs.Common.{[], subst, ◌∙◌, true, Ok}
 use Rattle.pg_spec.specs.Frames.{terminate_frame}
 use Rattle.pg_connect.specs.declared.ends.PartsEnd.{PartsEnd}
-use Rattle.pg_connect.specs.declared.ends.PartsEnd.TheVariants as parts
 use Rattle.pg_connect.specs.declared.streams.Streams.{Streams}
-use Rattle.pg_connect.specs.Passes.{Passes, Goes}
+use Rattle.pg_connect.specs.Passes.{Passes}
 use Rattle.pg_connect.specs.Ends.{PartsEnds}
 use Rattle.pg_connect.proofs.Joining.{passes-joined, goes-also}
 use Rattle.pg_connect.proofs.Passing.{untouched_first}
