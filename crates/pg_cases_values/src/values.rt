@@ -89,12 +89,33 @@ fn tell_read(
     }
 }
 
+/// The type that words say.
+fn typed(alloc: Global, words: &str) -> Result<Type, AllocError> {
+    match type_of(alloc, words) {
+        Ok(ty) => Ok(ty),
+        Err(OutOfMemory) => Err(AllocError),
+    }
+}
+
+/// What the value of bytes in hexadecimal, read under one type, is written as under another.
+pub(crate) fn tell_write(
+    alloc: Global,
+    ty: &str,
+    from: &str,
+    hex: &[u8],
+    out: &mut String,
+) -> Result<(), AllocError> {
+    let (ty, from) = (typed(alloc, ty)?, typed(alloc, from)?);
+    let bytes = bytes_of(alloc, hex)?;
+    match read_datum(alloc, &from, Some(bytes.as_slice())) {
+        Ok(value) => tell_again(alloc, &ty, &value, None, out),
+        Err(fault) => write!(out, " {fault:?}"),
+    }
+}
+
 /// The value of bytes in hexadecimal under a type; `null` stands for null.
 pub(crate) fn tell(alloc: Global, ty: &str, hex: &str, out: &mut String) -> Result<(), AllocError> {
-    let ty = match type_of(alloc, ty) {
-        Ok(ty) => ty,
-        Err(OutOfMemory) => return Err(AllocError),
-    };
+    let ty = typed(alloc, ty)?;
     if hex == "null" {
         return tell_read(alloc, &ty, None, out);
     }
