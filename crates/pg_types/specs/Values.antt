@@ -1,6 +1,7 @@
 -- What a value gives under a type, and what bytes give as a Rust type (PostgreSQL documentation,
 -- "Formats and Format Codes": a value's binary form is that of its type's send and receive functions).
 use Rattle.std.specs.Prelude.{◌≡◌, ◌⊎◌, ℕ, Bool, true, false, List, [], ◌∷◌, ◌++◌, length, ◌==◌, not, Option, Some, None, Result, Ok, Err, if◌then◌else◌, ℤ}
+use Rattle.std.specs.Bool.{MatchBool}
 use Rattle.std.specs.Int.{Width, byte_len, cast_signed, cast_unsigned}
 use Rattle.byteorder.specs.Endian.{big_bytes, big_number}
 use Rattle.pg_types.specs.declared.fault.ValueFault.{ValueFault}
@@ -26,27 +27,31 @@ wrong_type oid rust = record { postgres = oid; rust = rust }
 abbrev pub type_fault : Bool → ℕ → RustType → Option WrongType
 type_fault stands oid rust = if stands then None else Some (wrong_type oid rust)
 
--- what a value gives under a type that it may not stand under
-abbrev pub checked : Bool → ℕ → RustType → Given → Given
-checked accepted oid rust given = if accepted then given else Err (fault.WrongType (wrong_type oid rust))
+-- what a value may give, WrongType where it may not stand under the type
+abbrev pub Checked : Bool → ℕ → RustType → (Given → Type 0) → Given → Type 0
+Checked accepted oid rust gives given = MatchBool accepted (gives given) (Err (fault.WrongType (wrong_type oid rust)) ≡ given)
 
--- the value's bytes stand behind what was there; with null and with a fault what was there stays. A
--- fault is the value's own, or want of memory where there are bytes to write
+-- one of the things that a value may give is told: its bytes stand behind what was there; with null and with a fault what was there
+-- stays. A fault is the value's own, or want of memory where there are bytes to write
+abbrev pub WritesOneOf : (Given → Type 0) → List ℕ → List ℕ → Result IsNull ValueFault → Type 0
+WritesOneOf gives old new (Ok null.No) = (bytes : List ℕ) × gives (Ok (Some bytes)) × (new ≡ old ++ bytes)
+WritesOneOf gives old new (Ok null.Yes) = gives (Ok None) × (new ≡ old)
+WritesOneOf gives old new (Err f) = (((bytes : List ℕ) × gives (Ok (Some bytes)) × (f ≡ fault.OutOfMemory)) ⊎ gives (Err f)) × (new ≡ old)
+
+-- what a value gives is told so
 abbrev pub Writes : Given → List ℕ → List ℕ → Result IsNull ValueFault → Type 0
-Writes given old new (Ok null.No) = (bytes : List ℕ) × (given ≡ Ok (Some bytes)) × (new ≡ old ++ bytes)
-Writes given old new (Ok null.Yes) = (given ≡ Ok None) × (new ≡ old)
-Writes given old new (Err f) = (((bytes : List ℕ) × (given ≡ Ok (Some bytes)) × (f ≡ fault.OutOfMemory)) ⊎ (given ≡ Err f)) × (new ≡ old)
+Writes given old new result = WritesOneOf (λ g. given ≡ g) old new result
 
 -- reading may lack memory: there are bytes, and the Rust type owns memory
 abbrev pub may_lack : Bool → Option (List ℕ) → Bool
 may_lack owns None = false
 may_lack owns (Some bytes) = owns
 
--- what is read is the value that the bytes, or null (None), spell; they are refused with their own fault.
--- Want of memory comes only where reading may lack it
-abbrev pub Reads : {A : Type 0} → Bool → (Option (List ℕ) → A → Type 0) → (Option (List ℕ) → Option ValueFault) → Option (List ℕ) → Result A ValueFault → Type 0
-Reads owns spelled refused raw (Ok value) = (refused raw ≡ None) × spelled raw value
-Reads owns spelled refused raw (Err f) = ((may_lack owns raw ≡ true) × (f ≡ fault.OutOfMemory)) ⊎ (refused raw ≡ Some f)
+-- what is read is a value that the bytes, or null (None), spell; they are refused with their own fault, and else not (None). Want of
+-- memory comes only where reading may lack it
+abbrev pub Reads : {A : Type 0} → Bool → (Option (List ℕ) → A → Type 0) → (Option (List ℕ) → Option ValueFault → Type 0) → Option (List ℕ) → Result A ValueFault → Type 0
+Reads owns spelled refused raw (Ok value) = refused raw None × spelled raw value
+Reads owns spelled refused raw (Err f) = ((may_lack owns raw ≡ true) × (f ≡ fault.OutOfMemory)) ⊎ refused raw (Some f)
 
 -- a value that bytes spell; null spells none
 abbrev pub Spells : {A : Type 0} → (List ℕ → A) → Option (List ℕ) → A → Type 0
@@ -87,9 +92,9 @@ abbrev pub oid_in : List ℕ → ℕ
 oid_in bytes = big_number 4 bytes
 
 -- null where there is no value
-abbrev pub given_or_null : {A : Type 0} → (A → Given) → Option A → Given
-given_or_null gives None = Ok None
-given_or_null gives (Some value) = gives value
+abbrev pub GivenOrNull : {A : Type 0} → (A → Given → Type 0) → Option A → Given → Type 0
+GivenOrNull gives None given = Ok None ≡ given
+GivenOrNull gives (Some value) given = gives value given
 
 -- a value may stand under a type by its own rule, and null by the Rust type's
 abbrev pub accepted_or_null : {A : Type 0} → (A → Bool) → Bool → Option A → Bool
@@ -104,6 +109,6 @@ SpellsOption spelled (Some bytes) None = ⊥
 SpellsOption spelled (Some bytes) (Some value) = spelled (Some bytes) value
 
 -- null isn't refused
-abbrev pub refusal_of_bytes : (Option (List ℕ) → Option ValueFault) → Option (List ℕ) → Option ValueFault
-refusal_of_bytes refused None = None
-refusal_of_bytes refused (Some bytes) = refused (Some bytes)
+abbrev pub RefusalOfBytes : (Option (List ℕ) → Option ValueFault → Type 0) → Option (List ℕ) → Option ValueFault → Type 0
+RefusalOfBytes refused None f = None ≡ f
+RefusalOfBytes refused (Some bytes) f = refused (Some bytes) f

@@ -16,8 +16,8 @@ pub trait FromSql<'a>: Sized {
     /// The value that bytes of a type, or null (`None`), spell.
     ghost spelled: { PgType → Option (List ℕ) → Self → Type 0 };
 
-    /// The fault for which bytes of a type, or null, are refused.
-    ghost refused: { PgType → Option (List ℕ) → Option ValueFault };
+    /// A fault for which bytes of a type, or null, are refused, or that they aren't (`None`).
+    ghost refused: { PgType → Option (List ℕ) → Option ValueFault → Type 0 };
 
     /// The Rust type owns memory, so that reading may lack it.
     ghost owns_memory: { Bool };
@@ -53,8 +53,8 @@ pub trait FromSqlOwned: Sized {
     /// The value that bytes of a type, or null (`None`), spell.
     ghost spelled: { PgType → Option (List ℕ) → Self → Type 0 };
 
-    /// The fault for which bytes of a type, or null, are refused.
-    ghost refused: { PgType → Option (List ℕ) → Option ValueFault };
+    /// A fault for which bytes of a type, or null, are refused, or that they aren't (`None`).
+    ghost refused: { PgType → Option (List ℕ) → Option ValueFault → Type 0 };
 
     /// The Rust type owns memory, so that reading may lack it.
     ghost owns_memory: { Bool };

@@ -7,9 +7,9 @@ use bytes::BytesMut;
 use std::alloc::Global;
 
 impl<T: ToSql> ToSql for Option<T> {
-    ghost use Rattle.pg_types.specs.Values.{given_or_null, accepted_or_null};
+    ghost use Rattle.pg_types.specs.Values.{GivenOrNull, accepted_or_null};
 
-    ghost gives = { λ o ty. given_or_null (λ x. T.gives x ty) o };
+    ghost gives = { λ o ty given. GivenOrNull (λ x. T.gives x ty) o given };
 
     ghost accepted = { λ o ty. accepted_or_null (λ x. T.accepted x ty) (T.stands_for ty) o };
 
@@ -47,13 +47,13 @@ impl<T: ToSql> ToSql for Option<T> {
 }
 
 impl<'a, T: FromSql<'a>> FromSql<'a> for Option<T> {
-    ghost use Rattle.pg_types.specs.Values.{SpellsOption, refusal_of_bytes};
+    ghost use Rattle.pg_types.specs.Values.{SpellsOption, RefusalOfBytes};
 
     ghost stands_for = { T.stands_for };
 
     ghost spelled = { λ ty raw o. SpellsOption (T.spelled ty) raw o };
 
-    ghost refused = { λ ty raw. refusal_of_bytes (T.refused ty) raw };
+    ghost refused = { λ ty raw fault. RefusalOfBytes (T.refused ty) raw fault };
 
     ghost owns_memory = { T.owns_memory };
 
@@ -82,13 +82,13 @@ impl<'a, T: FromSql<'a>> FromSql<'a> for Option<T> {
 }
 
 impl<T: FromSqlOwned> FromSqlOwned for Option<T> {
-    ghost use Rattle.pg_types.specs.Values.{SpellsOption, refusal_of_bytes};
+    ghost use Rattle.pg_types.specs.Values.{SpellsOption, RefusalOfBytes};
 
     ghost stands_for = { T.stands_for };
 
     ghost spelled = { λ ty raw o. SpellsOption (T.spelled ty) raw o };
 
-    ghost refused = { λ ty raw. refusal_of_bytes (T.refused ty) raw };
+    ghost refused = { λ ty raw fault. RefusalOfBytes (T.refused ty) raw fault };
 
     ghost owns_memory = { T.owns_memory };
 

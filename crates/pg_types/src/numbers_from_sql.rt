@@ -6,7 +6,7 @@ use byteorder::{BigEndian, ByteOrder};
 use std::alloc::Global;
 
 impl<'a> FromSql<'a> for bool {
-    ghost use Rattle.std.specs.Prelude.{◌==◌, false};
+    ghost use Rattle.std.specs.Prelude.{◌≡◌, ◌==◌, false};
     ghost use Rattle.pg_types.specs.Oids as oids;
     ghost use Rattle.pg_types.specs.Values.{Spells, refusal, has_length, bool_in};
 
@@ -14,7 +14,7 @@ impl<'a> FromSql<'a> for bool {
 
     ghost spelled = { λ _ raw b. Spells bool_in raw b };
 
-    ghost refused = { λ _ raw. refusal (has_length 1) raw };
+    ghost refused = { λ _ raw fault. refusal (has_length 1) raw ≡ fault };
 
     ghost owns_memory = { false };
 
@@ -46,7 +46,7 @@ impl<'a> FromSql<'a> for bool {
 }
 
 impl FromSqlOwned for bool {
-    ghost use Rattle.std.specs.Prelude.{◌==◌, false};
+    ghost use Rattle.std.specs.Prelude.{◌≡◌, ◌==◌, false};
     ghost use Rattle.pg_types.specs.Oids as oids;
     ghost use Rattle.pg_types.specs.Values.{Spells, refusal, has_length, bool_in};
 
@@ -54,7 +54,7 @@ impl FromSqlOwned for bool {
 
     ghost spelled = { λ _ raw b. Spells bool_in raw b };
 
-    ghost refused = { λ _ raw. refusal (has_length 1) raw };
+    ghost refused = { λ _ raw fault. refusal (has_length 1) raw ≡ fault };
 
     ghost owns_memory = { false };
 
@@ -68,7 +68,7 @@ impl FromSqlOwned for bool {
 }
 
 impl<'a> FromSql<'a> for i8 {
-    ghost use Rattle.std.specs.Prelude.{◌==◌, false};
+    ghost use Rattle.std.specs.Prelude.{◌≡◌, ◌==◌, false};
     ghost use Rattle.std.specs.Int.{w8};
     ghost use Rattle.pg_types.specs.Oids as oids;
     ghost use Rattle.pg_types.specs.Values.{Spells, refusal, has_length, int_in};
@@ -77,7 +77,7 @@ impl<'a> FromSql<'a> for i8 {
 
     ghost spelled = { λ _ raw n. Spells (int_in w8) raw n };
 
-    ghost refused = { λ _ raw. refusal (has_length 1) raw };
+    ghost refused = { λ _ raw fault. refusal (has_length 1) raw ≡ fault };
 
     ghost owns_memory = { false };
 
@@ -109,7 +109,7 @@ impl<'a> FromSql<'a> for i8 {
 }
 
 impl FromSqlOwned for i8 {
-    ghost use Rattle.std.specs.Prelude.{◌==◌, false};
+    ghost use Rattle.std.specs.Prelude.{◌≡◌, ◌==◌, false};
     ghost use Rattle.std.specs.Int.{w8};
     ghost use Rattle.pg_types.specs.Oids as oids;
     ghost use Rattle.pg_types.specs.Values.{Spells, refusal, has_length, int_in};
@@ -118,7 +118,7 @@ impl FromSqlOwned for i8 {
 
     ghost spelled = { λ _ raw n. Spells (int_in w8) raw n };
 
-    ghost refused = { λ _ raw. refusal (has_length 1) raw };
+    ghost refused = { λ _ raw fault. refusal (has_length 1) raw ≡ fault };
 
     ghost owns_memory = { false };
 
@@ -132,7 +132,7 @@ impl FromSqlOwned for i8 {
 }
 
 impl<'a> FromSql<'a> for i16 {
-    ghost use Rattle.std.specs.Prelude.{◌==◌, false};
+    ghost use Rattle.std.specs.Prelude.{◌≡◌, ◌==◌, false};
     ghost use Rattle.std.specs.Int.{w16};
     ghost use Rattle.pg_types.specs.Oids as oids;
     ghost use Rattle.pg_types.specs.Values.{Spells, refusal, has_length, int_in};
@@ -141,7 +141,7 @@ impl<'a> FromSql<'a> for i16 {
 
     ghost spelled = { λ _ raw n. Spells (int_in w16) raw n };
 
-    ghost refused = { λ _ raw. refusal (has_length 2) raw };
+    ghost refused = { λ _ raw fault. refusal (has_length 2) raw ≡ fault };
 
     ghost owns_memory = { false };
 
@@ -173,7 +173,7 @@ impl<'a> FromSql<'a> for i16 {
 }
 
 impl FromSqlOwned for i16 {
-    ghost use Rattle.std.specs.Prelude.{◌==◌, false};
+    ghost use Rattle.std.specs.Prelude.{◌≡◌, ◌==◌, false};
     ghost use Rattle.std.specs.Int.{w16};
     ghost use Rattle.pg_types.specs.Oids as oids;
     ghost use Rattle.pg_types.specs.Values.{Spells, refusal, has_length, int_in};
@@ -182,7 +182,7 @@ impl FromSqlOwned for i16 {
 
     ghost spelled = { λ _ raw n. Spells (int_in w16) raw n };
 
-    ghost refused = { λ _ raw. refusal (has_length 2) raw };
+    ghost refused = { λ _ raw fault. refusal (has_length 2) raw ≡ fault };
 
     ghost owns_memory = { false };
 
@@ -196,7 +196,7 @@ impl FromSqlOwned for i16 {
 }
 
 impl<'a> FromSql<'a> for i32 {
-    ghost use Rattle.std.specs.Prelude.{◌==◌, false};
+    ghost use Rattle.std.specs.Prelude.{◌≡◌, ◌==◌, false};
     ghost use Rattle.std.specs.Int.{w32};
     ghost use Rattle.pg_types.specs.Oids as oids;
     ghost use Rattle.pg_types.specs.Values.{Spells, refusal, has_length, int_in};
@@ -205,7 +205,7 @@ impl<'a> FromSql<'a> for i32 {
 
     ghost spelled = { λ _ raw n. Spells (int_in w32) raw n };
 
-    ghost refused = { λ _ raw. refusal (has_length 4) raw };
+    ghost refused = { λ _ raw fault. refusal (has_length 4) raw ≡ fault };
 
     ghost owns_memory = { false };
 
@@ -237,7 +237,7 @@ impl<'a> FromSql<'a> for i32 {
 }
 
 impl FromSqlOwned for i32 {
-    ghost use Rattle.std.specs.Prelude.{◌==◌, false};
+    ghost use Rattle.std.specs.Prelude.{◌≡◌, ◌==◌, false};
     ghost use Rattle.std.specs.Int.{w32};
     ghost use Rattle.pg_types.specs.Oids as oids;
     ghost use Rattle.pg_types.specs.Values.{Spells, refusal, has_length, int_in};
@@ -246,7 +246,7 @@ impl FromSqlOwned for i32 {
 
     ghost spelled = { λ _ raw n. Spells (int_in w32) raw n };
 
-    ghost refused = { λ _ raw. refusal (has_length 4) raw };
+    ghost refused = { λ _ raw fault. refusal (has_length 4) raw ≡ fault };
 
     ghost owns_memory = { false };
 
@@ -260,7 +260,7 @@ impl FromSqlOwned for i32 {
 }
 
 impl<'a> FromSql<'a> for i64 {
-    ghost use Rattle.std.specs.Prelude.{◌==◌, false};
+    ghost use Rattle.std.specs.Prelude.{◌≡◌, ◌==◌, false};
     ghost use Rattle.std.specs.Int.{w64};
     ghost use Rattle.pg_types.specs.Oids as oids;
     ghost use Rattle.pg_types.specs.Values.{Spells, refusal, has_length, int_in};
@@ -269,7 +269,7 @@ impl<'a> FromSql<'a> for i64 {
 
     ghost spelled = { λ _ raw n. Spells (int_in w64) raw n };
 
-    ghost refused = { λ _ raw. refusal (has_length 8) raw };
+    ghost refused = { λ _ raw fault. refusal (has_length 8) raw ≡ fault };
 
     ghost owns_memory = { false };
 
@@ -301,7 +301,7 @@ impl<'a> FromSql<'a> for i64 {
 }
 
 impl FromSqlOwned for i64 {
-    ghost use Rattle.std.specs.Prelude.{◌==◌, false};
+    ghost use Rattle.std.specs.Prelude.{◌≡◌, ◌==◌, false};
     ghost use Rattle.std.specs.Int.{w64};
     ghost use Rattle.pg_types.specs.Oids as oids;
     ghost use Rattle.pg_types.specs.Values.{Spells, refusal, has_length, int_in};
@@ -310,7 +310,7 @@ impl FromSqlOwned for i64 {
 
     ghost spelled = { λ _ raw n. Spells (int_in w64) raw n };
 
-    ghost refused = { λ _ raw. refusal (has_length 8) raw };
+    ghost refused = { λ _ raw fault. refusal (has_length 8) raw ≡ fault };
 
     ghost owns_memory = { false };
 
@@ -324,7 +324,7 @@ impl FromSqlOwned for i64 {
 }
 
 impl<'a> FromSql<'a> for u32 {
-    ghost use Rattle.std.specs.Prelude.{◌==◌, false};
+    ghost use Rattle.std.specs.Prelude.{◌≡◌, ◌==◌, false};
     ghost use Rattle.pg_types.specs.Oids as oids;
     ghost use Rattle.pg_types.specs.Values.{Spells, refusal, has_length, oid_in};
 
@@ -332,7 +332,7 @@ impl<'a> FromSql<'a> for u32 {
 
     ghost spelled = { λ _ raw n. Spells oid_in raw n };
 
-    ghost refused = { λ _ raw. refusal (has_length 4) raw };
+    ghost refused = { λ _ raw fault. refusal (has_length 4) raw ≡ fault };
 
     ghost owns_memory = { false };
 
@@ -364,7 +364,7 @@ impl<'a> FromSql<'a> for u32 {
 }
 
 impl FromSqlOwned for u32 {
-    ghost use Rattle.std.specs.Prelude.{◌==◌, false};
+    ghost use Rattle.std.specs.Prelude.{◌≡◌, ◌==◌, false};
     ghost use Rattle.pg_types.specs.Oids as oids;
     ghost use Rattle.pg_types.specs.Values.{Spells, refusal, has_length, oid_in};
 
@@ -372,7 +372,7 @@ impl FromSqlOwned for u32 {
 
     ghost spelled = { λ _ raw n. Spells oid_in raw n };
 
-    ghost refused = { λ _ raw. refusal (has_length 4) raw };
+    ghost refused = { λ _ raw fault. refusal (has_length 4) raw ≡ fault };
 
     ghost owns_memory = { false };
 

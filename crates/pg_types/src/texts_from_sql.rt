@@ -31,7 +31,7 @@ impl<'a> FromSql<'a> for &'a str {
 
     ghost spelled = { λ _ raw s. Spells (λ bytes. bytes) raw s.now };
 
-    ghost refused = { λ _ raw. refusal is_utf8 raw };
+    ghost refused = { λ _ raw fault. refusal is_utf8 raw ≡ fault };
 
     ghost owns_memory = { false };
 
@@ -65,7 +65,7 @@ impl<'a> FromSql<'a> for &'a str {
 }
 
 impl<'a> FromSql<'a> for Text {
-    ghost use Rattle.std.specs.Prelude.{true};
+    ghost use Rattle.std.specs.Prelude.{◌≡◌, true};
     ghost use Rattle.std.specs.Str.{is_utf8};
     ghost use Rattle.pg_types.specs.Oids as oids;
     ghost use Rattle.pg_types.specs.Values.{Spells, refusal};
@@ -74,7 +74,7 @@ impl<'a> FromSql<'a> for Text {
 
     ghost spelled = { λ _ raw t. Spells (λ bytes. bytes) raw t };
 
-    ghost refused = { λ _ raw. refusal is_utf8 raw };
+    ghost refused = { λ _ raw fault. refusal is_utf8 raw ≡ fault };
 
     ghost owns_memory = { true };
 
@@ -106,7 +106,7 @@ impl<'a> FromSql<'a> for Text {
 }
 
 impl FromSqlOwned for Text {
-    ghost use Rattle.std.specs.Prelude.{true};
+    ghost use Rattle.std.specs.Prelude.{◌≡◌, true};
     ghost use Rattle.std.specs.Str.{is_utf8};
     ghost use Rattle.pg_types.specs.Oids as oids;
     ghost use Rattle.pg_types.specs.Values.{Spells, refusal};
@@ -115,7 +115,7 @@ impl FromSqlOwned for Text {
 
     ghost spelled = { λ _ raw t. Spells (λ bytes. bytes) raw t };
 
-    ghost refused = { λ _ raw. refusal is_utf8 raw };
+    ghost refused = { λ _ raw fault. refusal is_utf8 raw ≡ fault };
 
     ghost owns_memory = { true };
 
@@ -137,7 +137,7 @@ impl<'a> FromSql<'a> for &'a [u8] {
 
     ghost spelled = { λ _ raw b. Spells (λ bytes. bytes) raw b.now };
 
-    ghost refused = { λ _ raw. refusal (λ _. true) raw };
+    ghost refused = { λ _ raw fault. refusal (λ _. true) raw ≡ fault };
 
     ghost owns_memory = { false };
 
@@ -168,7 +168,7 @@ impl<'a> FromSql<'a> for &'a [u8] {
 }
 
 impl<'a> FromSql<'a> for Blob {
-    ghost use Rattle.std.specs.Prelude.{◌==◌, true};
+    ghost use Rattle.std.specs.Prelude.{◌≡◌, ◌==◌, true};
     ghost use Rattle.pg_types.specs.Oids as oids;
     ghost use Rattle.pg_types.specs.Values.{Spells, refusal};
 
@@ -176,7 +176,7 @@ impl<'a> FromSql<'a> for Blob {
 
     ghost spelled = { λ _ raw b. Spells (λ bytes. bytes) raw b };
 
-    ghost refused = { λ _ raw. refusal (λ _. true) raw };
+    ghost refused = { λ _ raw fault. refusal (λ _. true) raw ≡ fault };
 
     ghost owns_memory = { true };
 
@@ -205,7 +205,7 @@ impl<'a> FromSql<'a> for Blob {
 }
 
 impl FromSqlOwned for Blob {
-    ghost use Rattle.std.specs.Prelude.{◌==◌, true};
+    ghost use Rattle.std.specs.Prelude.{◌≡◌, ◌==◌, true};
     ghost use Rattle.pg_types.specs.Oids as oids;
     ghost use Rattle.pg_types.specs.Values.{Spells, refusal};
 
@@ -213,7 +213,7 @@ impl FromSqlOwned for Blob {
 
     ghost spelled = { λ _ raw b. Spells (λ bytes. bytes) raw b };
 
-    ghost refused = { λ _ raw. refusal (λ _. true) raw };
+    ghost refused = { λ _ raw fault. refusal (λ _. true) raw ≡ fault };
 
     ghost owns_memory = { true };
 

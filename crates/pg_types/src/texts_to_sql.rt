@@ -23,7 +23,7 @@ impl ToSql for &str {
     ghost use Rattle.pg_types.specs.Oids as oids;
     ghost use Rattle.pg_types.specs.Values.{bytes_given, type_fault};
 
-    ghost gives = { λ s _. bytes_given s.now };
+    ghost gives = { λ s _ given. bytes_given s.now ≡ given };
 
     ghost accepted = { λ _ ty. oids.is_text ty.oid };
 
@@ -54,11 +54,12 @@ impl ToSql for &str {
 }
 
 impl ToSql for Text {
+    ghost use Rattle.std.specs.Prelude.{◌≡◌};
     ghost use Rattle.pg_types.specs.declared.fault.RustType.TheVariants as rust_type;
     ghost use Rattle.pg_types.specs.Oids as oids;
     ghost use Rattle.pg_types.specs.Values.{bytes_given};
 
-    ghost gives = { λ t _. bytes_given t };
+    ghost gives = { λ t _ given. bytes_given t ≡ given };
 
     ghost accepted = { λ _ ty. oids.is_text ty.oid };
 
@@ -92,7 +93,7 @@ impl ToSql for &[u8] {
     ghost use Rattle.pg_types.specs.Oids as oids;
     ghost use Rattle.pg_types.specs.Values.{bytes_given, type_fault};
 
-    ghost gives = { λ b _. bytes_given b.now };
+    ghost gives = { λ b _ given. bytes_given b.now ≡ given };
 
     ghost accepted = { λ _ ty. ty.oid == oids.bytea };
 
@@ -123,12 +124,12 @@ impl ToSql for &[u8] {
 }
 
 impl ToSql for Blob {
-    ghost use Rattle.std.specs.Prelude.{◌==◌};
+    ghost use Rattle.std.specs.Prelude.{◌≡◌, ◌==◌};
     ghost use Rattle.pg_types.specs.declared.fault.RustType.TheVariants as rust_type;
     ghost use Rattle.pg_types.specs.Oids as oids;
     ghost use Rattle.pg_types.specs.Values.{bytes_given};
 
-    ghost gives = { λ b _. bytes_given b };
+    ghost gives = { λ b _ given. bytes_given b ≡ given };
 
     ghost accepted = { λ _ ty. ty.oid == oids.bytea };
 

@@ -4,15 +4,15 @@ ghost use Rattle.std.specs.Prelude.{◌≡◌, Bool};
 ghost use Rattle.pg_types.specs.declared.pg_type.PgType.{PgType};
 ghost use Rattle.pg_types.specs.declared.fault.RustType.{RustType};
 ghost use Rattle.pg_types.specs.declared.format.Format.TheVariants.{Binary};
-ghost use Rattle.pg_types.specs.Values.{Given, Writes, bytes_given, checked, type_fault};
+ghost use Rattle.pg_types.specs.Values.{Checked, Given, Writes, WritesOneOf, bytes_given, type_fault};
 
 use crate::{Format, IsNull, RustType, Type, ValueFault, WrongType};
 use bytes::BytesMut;
 
 /// A value that can be written as some of the server's types.
 pub trait ToSql {
-    /// What the value gives under a type: bytes, null, or a fault.
-    ghost gives: { Self → PgType → Given };
+    /// What the value may give under a type: bytes, null, or a fault.
+    ghost gives: { Self → PgType → Given → Type 0 };
 
     /// The value may stand under a type.
     ghost accepted: { Self → PgType → Bool };
@@ -32,7 +32,7 @@ pub trait ToSql {
     /// Appends the value's bytes. After null and after a fault `out` is as before. BadValue comes where
     /// the value is out of the type's range.
     fn to_sql(&self, ty: &Type, out: &mut BytesMut) -> Result<IsNull, ValueFault>
-        ensures { Writes (gives self.now ty.now) out.old.items out.new.items result };
+        ensures { WritesOneOf (gives self.now ty.now) out.old.items out.new.items result };
 
     /// Whether the value may stand under a type.
     fn accepts(&self, ty: &Type) -> bool
@@ -47,7 +47,7 @@ pub trait ToSql {
 
     /// Like `to_sql`, but WrongType exactly where the value may not stand under the type.
     fn to_sql_checked(&self, ty: &Type, out: &mut BytesMut) -> Result<IsNull, ValueFault>
-        ensures { Writes (checked (accepted self.now ty.now) ty.now.oid rust (gives self.now ty.now))
+        ensures { WritesOneOf (Checked (accepted self.now ty.now) ty.now.oid rust (gives self.now ty.now))
             out.old.items out.new.items result };
 }
 

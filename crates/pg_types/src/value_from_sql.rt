@@ -7,14 +7,14 @@ use crate::{Blob, Text, Type, Value, ValueFault, oid};
 use std::alloc::Global;
 
 impl<'a> FromSql<'a> for Value {
-    ghost use Rattle.std.specs.Prelude.{true};
+    ghost use Rattle.std.specs.Prelude.{◌≡◌, true};
     ghost use Rattle.pg_types.specs.AnyValues.{SpellsValue, value_refusal, is_read};
 
     ghost stands_for = { λ ty. is_read ty.oid };
 
     ghost spelled = { λ ty raw v. SpellsValue ty.oid raw v };
 
-    ghost refused = { λ ty raw. value_refusal ty.oid raw };
+    ghost refused = { λ ty raw fault. value_refusal ty.oid raw ≡ fault };
 
     ghost owns_memory = { true };
 
@@ -55,14 +55,14 @@ impl<'a> FromSql<'a> for Value {
 }
 
 impl FromSqlOwned for Value {
-    ghost use Rattle.std.specs.Prelude.{true};
+    ghost use Rattle.std.specs.Prelude.{◌≡◌, true};
     ghost use Rattle.pg_types.specs.AnyValues.{SpellsValue, value_refusal, is_read};
 
     ghost stands_for = { λ ty. is_read ty.oid };
 
     ghost spelled = { λ ty raw v. SpellsValue ty.oid raw v };
 
-    ghost refused = { λ ty raw. value_refusal ty.oid raw };
+    ghost refused = { λ ty raw fault. value_refusal ty.oid raw ≡ fault };
 
     ghost owns_memory = { true };
 

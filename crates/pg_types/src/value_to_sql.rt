@@ -103,10 +103,10 @@ fn put_number(n: i64, ty: &Type, out: &mut BytesMut) -> Result<IsNull, ValueFaul
 }
 
 impl ToSql for Value {
-    ghost use Rattle.std.specs.Prelude.{true};
+    ghost use Rattle.std.specs.Prelude.{◌≡◌, true};
     ghost use Rattle.pg_types.specs.AnyValues.{value_gives, is_accepted};
 
-    ghost gives = { λ v ty. value_gives v ty.oid };
+    ghost gives = { λ v ty given. value_gives v ty.oid ≡ given };
 
     ghost accepted = { λ v ty. is_accepted v ty.oid };
 
