@@ -84,10 +84,7 @@ impl<'a> Field<'a> {
     fn read(bytes: &'a [u8]) -> Result<(Field<'a>, &'a [u8]), WireFault>
         ensures { MatchResult result (λ read. field_at bytes.now ≡ Ok (read.0, read.1.now)) (λ fault. Refuses (field_at bytes.now) fault) }
     {
-        let (name, mut rest) = match text(bytes) {
-            Ok(read) => read,
-            Err(fault) => return Err(fault),
-        };
+        let (name, mut rest) = text(bytes)?;
         let Ok(table_oid) = rest.try_get_u32() else {
             return Err(WireFault::Layout);
         };
@@ -123,14 +120,11 @@ impl<'a> Field<'a> {
 fn text(bytes: &[u8]) -> Result<(&str, &[u8]), WireFault>
     ensures { MatchResult result (λ read. utf8_at bytes.now ≡ Ok (read.0.now, read.1.now)) (λ fault. Refuses (utf8_at bytes.now) fault) }
 {
-    let end = match text_end(bytes) {
-        Some(end) => end,
-        None => return Err(WireFault::Layout),
+    let Some(end) = text_end(bytes) else {
+        return Err(WireFault::Layout);
     };
-    match utf8(&bytes[..end]) {
-        Ok(text) => Ok((text, &bytes[end + 1..])),
-        Err(fault) => Err(fault),
-    }
+    let text = utf8(&bytes[..end])?;
+    Ok((text, &bytes[end + 1..]))
 }
 
 /// The columns not yet read.
