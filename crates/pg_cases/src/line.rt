@@ -15,8 +15,5 @@ pub fn words_of(
         return Ok(None);
     }
     out.push_str(" =>")?;
-    match words::read(alloc, line.as_bytes()) {
-        Ok(words) => Ok(Some(words)),
-        Err(error) => Err(error),
-    }
+    Ok(Some(words::read(alloc, line.as_bytes())?))
 }
