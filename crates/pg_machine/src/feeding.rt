@@ -85,10 +85,7 @@ impl Machine {
         ensures { GoesOn self.now startup.now taken.now (take len taken.now) said.old.items said.new.items result }
     {
         match fed {
-            Some(fed) => match self.go_behind(taken, len, fed, said) {
-                Ok(fed) => Ok(Some(fed)),
-                Err(e) => Err(e),
-            },
+            Some(fed) => Ok(Some(self.go_behind(taken, len, fed, said)?)),
             None => self.begin(startup, taken, said),
         }
     }
