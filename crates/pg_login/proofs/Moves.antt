@@ -1,14 +1,12 @@
 -- What the parts of a move say of an answer.
 use Rattle.std.proofs.Common.{◌≡◌, ℕ, ◌||◌, Bool, true, false, List, [], ◌∷◌, Option, Some, None, Result, Ok, Err, if◌then◌else◌, refl, sym, ap, subst, ◌∙◌}
-use Rattle.std.specs.Prelude.{codes, nat_lt, unwrap_or}
-use Rattle.std.specs.List.{list_all}
+use Rattle.std.specs.Prelude.{codes, unwrap_or}
 use Rattle.std.specs.Str.{bytes_eq}
 use Rattle.pg_spec.specs.Bodies.{mechanisms_of}
 use Rattle.pg_spec.specs.Faults.{FrameFault, Authentication, BindingRequired, ◌>>=◌}
 use Rattle.pg_spec.specs.Faults as spec
 use Rattle.pg_spec.specs.Settings.{Mode}
-use Rattle.pg_spec.specs.Bindings.{client_first, client_final_of}
-use Rattle.pg_spec.specs.Frames.{sasl_initial_frame}
+use Rattle.pg_spec.specs.Bindings.{client_final_of}
 use Rattle.pg_spec.specs.Messages as said
 use Rattle.pg_spec.specs.Passwords.{server_final_fault}
 use Rattle.pg_spec.specs.SimpleQuery.{unreadable, server_error}
@@ -30,15 +28,12 @@ use Rattle.pg_faults.specs.declared.fault.FrameFault.TheVariants as frame_faults
 use Rattle.pg_faults.specs.declared.cause.Cause.TheVariants as cause
 use Rattle.pg_faults.specs.declared.error.Error.{Error}
 use Rattle.pg_faults.specs.declared.error.Error.TheVariants as error
-use Rattle.bytes.specs.Filled.{Filled as BytesMut}
 use Rattle.pg_scram.specs.Bindings.{binding_of}
-use Rattle.pg_scram.specs.Dialogue.{IsOpened, reply_of}
-use Rattle.pg_scram.specs.declared.binding.ChannelBinding.{ChannelBinding}
+use Rattle.pg_scram.specs.Dialogue.{reply_of}
 use Rattle.pg_scram.specs.declared.sasl.ScramSha256.{ScramSha256}
 use Rattle.pg_scram.specs.declared.sasl.ScramSha256Final.{ScramSha256Final}
 use Rattle.pg_login.specs.declared.phase.Phase.TheVariants as phase
 use Rattle.pg_login.specs.declared.phase.Step.{Step}
-use Rattle.pg_login.specs.declared.phase.Step.TheVariants as step
 use Rattle.pg_login.specs.declared.phase.Phase as code
 use Rattle.pg_login.specs.Stages.{Holds, phase_of}
 use Rattle.pg_login.specs.Steps.{IsMove, Made, offered_behind, unreadable_error}
@@ -98,35 +93,6 @@ pub offered-step : (plus plain : Bool) (bytes name rest : List ℕ) → mechanis
 offered-step plus plain bytes name rest is =
     sym (offered-more plus plain name (mechanisms_of rest))
     ∙ ap (offered_behind plus plain) (sym (mechanisms-step bytes ∙ ap mechanisms_by_step is))
-
--- ---- the first message of SCRAM
-
-pub first-ascii : (l : Login) (password : List ℕ) (scheme : Scheme) → list_all (λ b. nat_lt b 128) password ≡ true →
-    writes_first l password scheme ≡ writes (sasl_initial_frame scheme.mechanism (client_first scheme.binding l.nonce)) (startups.Continue scheme.binding)
-first-ascii l password scheme is =
-    ap (λ (b : Bool). if b then writes (sasl_initial_frame scheme.mechanism (client_first scheme.binding l.nonce)) (startups.Continue scheme.binding) else Refuses (Authentication spec.NotAscii)) is
-
--- it is sent
-pub scram-sends : (l : Login) (password mechanism : List ℕ) (binding : ChannelBinding) (scram : ScramSha256) (frame : BytesMut) → IsOpened password binding l.nonce scram → l.settings.password ≡ Some password →
-    list_all (λ b. nat_lt b 128) password ≡ true → Made (sasl_initial_frame mechanism scram.message) (Ok frame.items) →
-    IsMove l (writes_first l password (record { mechanism = mechanism; binding = binding_of binding })) (Ok (step.Sends frame (phase.Continue scram)))
-scram-sends l password mechanism binding scram frame opened is ascii made = (
-  first-ascii l password (record { mechanism = mechanism; binding = binding_of binding }) ascii
-      ∙ ap (λ (m : List ℕ). writes (sasl_initial_frame mechanism m) (startups.Continue (binding_of binding))) (sym opened.first)
-      ∙ made-sends (sasl_initial_frame mechanism scram.message) frame.items (startups.Continue (binding_of binding)) made
-      ∙ ap (λ (b : ChannelBinding). startups.Writes (frame.items ∷ []) (startups.Continue (binding_of b))) (sym opened.binding_kept),
-  (opened.password_kept ∙ ap (λ (o : Option (List ℕ)). unwrap_or o []) (sym is), opened.nonce_kept),
-)
-
--- or can't be made
-pub scram-refuses : (l : Login) (password mechanism : List ℕ) (binding : ChannelBinding) (scram : ScramSha256) (e : Error) → IsOpened password binding l.nonce scram →
-    list_all (λ b. nat_lt b 128) password ≡ true → Made (sasl_initial_frame mechanism scram.message) (Err e) →
-    IsMove l (writes_first l password (record { mechanism = mechanism; binding = binding_of binding })) (Err e)
-scram-refuses l password mechanism binding scram e opened ascii made =
-    subst (λ (m : Move). IsMove l m (Err e))
-    (sym (first-ascii l password (record { mechanism = mechanism; binding = binding_of binding }) ascii
-    ∙ ap (λ (m : List ℕ). writes (sasl_initial_frame mechanism m) (startups.Continue (binding_of binding))) (sym opened.first)))
-    (made-refuses l (sasl_initial_frame mechanism scram.message) e (startups.Continue (binding_of binding)) made)
 
 -- ---- the offer
 

@@ -1,5 +1,5 @@
 -- Where a startup's dialogue stands.
-use Rattle.std.specs.Prelude.{◌≡◌, ℕ, List, [], unwrap_or}
+use Rattle.std.specs.Prelude.{◌≡◌, [], unwrap_or}
 use Rattle.pg_spec.specs.Startup as startups
 use Rattle.pg_config.specs.Views.{settings_of}
 use Rattle.pg_scram.specs.Bindings.{binding_of}

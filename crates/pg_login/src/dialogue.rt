@@ -110,13 +110,11 @@ fn cleartext(alloc: Global, login: &Login<'_>) -> Result<Step, Error>
     if !may_skip(login.config) {
         return Err(Error::Authentication(Cause::BindingRequired));
     }
-    match login.config.get_password() {
-        None => Err(Error::Config(Cause::NoPassword)),
-        Some(password) => match password_frame(alloc, password) {
-            Ok(frame) => Ok(Step::Sends(frame, Phase::Accepted)),
-            Err(e) => Err(e),
-        },
-    }
+    let Some(password) = login.config.get_password() else {
+        return Err(Error::Config(Cause::NoPassword));
+    };
+    let frame = password_frame(alloc, password)?;
+    Ok(Step::Sends(frame, Phase::Accepted))
 }
 
 /// A request for the password's digest.
@@ -126,13 +124,11 @@ fn digest(alloc: Global, login: &Login<'_>, salt: [u8; 4]) -> Result<Step, Error
     if !may_skip(login.config) {
         return Err(Error::Authentication(Cause::BindingRequired));
     }
-    match login.config.get_password() {
-        None => Err(Error::Config(Cause::NoPassword)),
-        Some(password) => match digest_frame(alloc, login.config, password, salt) {
-            Ok(frame) => Ok(Step::Sends(frame, Phase::Accepted)),
-            Err(e) => Err(e),
-        },
-    }
+    let Some(password) = login.config.get_password() else {
+        return Err(Error::Config(Cause::NoPassword));
+    };
+    let frame = digest_frame(alloc, login.config, password, salt)?;
+    Ok(Step::Sends(frame, Phase::Accepted))
 }
 
 /// The frame with the password's digest.
@@ -146,10 +142,10 @@ fn digest_frame(
         (λ frame. Made (frames.password_frame (md5_reply (unwrap_or (settings_of config.now).user []) password.now salt)) (Ok frame.items))
         (λ e. Made (frames.password_frame (md5_reply (unwrap_or (settings_of config.now).user []) password.now salt)) (Err e)) }
 {
-    match md5_hash(alloc, user_of(config), password, salt) {
-        Ok(reply) => password_frame(alloc, reply.as_str().as_bytes()),
-        Err(_) => Err(Error::OutOfMemory),
-    }
+    let Ok(reply) = md5_hash(alloc, user_of(config), password, salt) else {
+        return Err(Error::OutOfMemory);
+    };
+    password_frame(alloc, reply.as_str().as_bytes())
 }
 
 /// The user's bytes; none where none is set.
@@ -266,14 +262,11 @@ fn begin(
     if !is_ascii(password) {
         return Err(Error::Authentication(Cause::NotAscii));
     }
-    let scram = match ScramSha256::new(alloc, password, binding, login.nonce) {
-        Ok(scram) => scram,
-        Err(_) => return Err(Error::OutOfMemory),
+    let Ok(scram) = ScramSha256::new(alloc, password, binding, login.nonce) else {
+        return Err(Error::OutOfMemory);
     };
-    match initial_frame(alloc, mechanism, scram.message()) {
-        Ok(frame) => Ok(Step::Sends(frame, Phase::Continue(scram))),
-        Err(e) => Err(e),
-    }
+    let frame = initial_frame(alloc, mechanism, scram.message())?;
+    Ok(Step::Sends(frame, Phase::Continue(scram)))
 }
 
 /// The reply to the server's challenge.
@@ -285,10 +278,8 @@ fn answer(alloc: Global, scram: ScramSha256, challenge: &[u8]) -> Result<Step, E
         Err(ScramFault::OutOfMemory) => return Err(Error::OutOfMemory),
         Err(fault) => return Err(Error::Authentication(Cause::Scram(fault))),
     };
-    match response_frame(alloc, last.message()) {
-        Ok(frame) => Ok(Step::Sends(frame, Phase::Final(last))),
-        Err(e) => Err(e),
-    }
+    let frame = response_frame(alloc, last.message())?;
+    Ok(Step::Sends(frame, Phase::Final(last)))
 }
 
 /// The server's proof.

@@ -50,10 +50,7 @@ fn parameters(alloc: Global, config: &Config) -> Result<StartupParams, OutOfMemo
 pub fn opening_frame(alloc: Global, config: &Config) -> Result<BytesMut, Error>
     ensures { MatchResult result (λ frame. Made (frame_of (settings_of config.now)) (Ok frame.items)) (λ e. Made (frame_of (settings_of config.now)) (Err e)) }
 {
-    let params = match parameters(alloc, config) {
-        Ok(params) => params,
-        Err(OutOfMemory) => return Err(Error::OutOfMemory),
-    };
+    let params = parameters(alloc, config)?;
     let mut frame = BytesMut::new(alloc);
     match startup_message(&params, &mut frame) {
         Ok(()) => Ok(frame),

@@ -1,4 +1,5 @@
 use Rattle.std.proofs.Common.{Ok, Err, sym}
+use Rattle.std.proofs.lemmas.Result.{err_from_is_err_and}
 use Rattle.pg_spec.specs.Startup as startups
 use Rattle.pg_faults.specs.declared.cause.Cause.TheVariants as cause
 use Rattle.pg_faults.specs.declared.error.Error.TheVariants as error
@@ -8,19 +9,22 @@ use Rattle.pg_login.specs.Stages.{login_of}
 use Rattle.pg_login.proofs.Moves.{skipped, none-given, some-given, made-sends, made-refuses}
 use Rattle.pg_login.proofs.dialogue.digest.Goals as goal
 
-pub returns-in-None : goal.returns-in-None
-returns-in-None c =
+pub returns-in_default : goal.returns-in_default
+returns-in_default c =
     let l = login_of c.args.login.now in
-    skipped l _ (Err (error.Config cause.NoPassword)) c.may_skip.result c.may_skip.ensures c.if-not-may_skip.false (none-given l _ (sym c.in-None.ensures))
+    skipped l _ (Err (error.Config cause.NoPassword)) c.may_skip.result c.may_skip.ensures c.if-not-may_skip.false (none-given l _ (sym c.in_default.ensures))
 
-pub returns-in-Ok : goal.returns-in-Ok
-returns-in-Ok c =
+pub returns : goal.returns
+returns c =
     let l = login_of c.args.login.now in
-    skipped l _ (Ok (step.Sends c.in-Ok.frame phase.Accepted)) c.may_skip.result c.may_skip.ensures c.if-not-may_skip.false
-    (some-given l _ c.in-Some.password.now (Ok (step.Sends c.in-Ok.frame phase.Accepted)) (sym c.in-Some.ensures) (made-sends _ c.in-Ok.frame.items startups.Accepted c.in-Ok.ensures, tt))
+    let frame = c.in_ok-frame.frame in
+    skipped l _ (Ok (step.Sends frame phase.Accepted)) c.may_skip.result c.may_skip.ensures c.if-not-may_skip.false
+    (some-given l _ c.in-Some.password.now (Ok (step.Sends frame phase.Accepted)) (sym c.in-Some.ensures) (made-sends _ frame.items startups.Accepted c.in_ok-frame.ensures, tt))
 
-pub returns-in-Err : goal.returns-in-Err
-returns-in-Err c =
+pub returns-in_err-frame : goal.returns-in_err-frame
+returns-in_err-frame c =
     let l = login_of c.args.login.now in
-    skipped l _ (Err c.in-Err.e) c.may_skip.result c.may_skip.ensures c.if-not-may_skip.false
-    (some-given l _ c.in-Some.password.now (Err c.in-Err.e) (sym c.in-Some.ensures) (made-refuses l _ c.in-Err.e startups.Accepted c.in-Err.ensures))
+    let e = c.in_err-frame.field-0.0 in
+    let p = err_from_is_err_and c.from_residual.result c.from_residual.ensures.1 in
+    rw (p.1, p.2) (skipped l _ (Err e) c.may_skip.result c.may_skip.ensures c.if-not-may_skip.false
+    (some-given l _ c.in-Some.password.now (Err e) (sym c.in-Some.ensures) (made-refuses l _ e startups.Accepted c.in_err-frame.ensures)))
