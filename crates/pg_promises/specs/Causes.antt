@@ -90,7 +90,7 @@ pub record IsStalled (call : Call) (before after : ℕ) : Type 0 where
   pub rose : Rose before after
   -- between them one read and at most one other call weren't ready; on a steady link the read alone
   pub round : (after ≤ before + 2) × (IsTrue call.before.steady → after ≤ before + 1)
-  -- and behind them at most the wait wasn't; on a steady link it wasn't, so the counts are those around the round before it
+  -- and behind them at most one call wasn't; on a steady link one
   pub last : call.after.quiet ≤ after + 1
   pub exact : IsTrue call.before.steady → call.before.lulls < 2 ^ 64 - 1 → call.after.quiet ≡ next_count after
   pub awaited : IsTrue call.before.steady → (call.after.due ≡ Some []) × OfDialogue call (IsAwaited call)

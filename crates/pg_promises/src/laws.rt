@@ -14,8 +14,8 @@ ghost use Rattle.pg_promises.specs.EndedWell.{EndedWell, startup_of, replies};
 ghost use Rattle.pg_promises.specs.Examples.{select_one, select_one_sent, select_one_text, two_clients, two_clients_sent, exchanged, asked, good_plan, broken_plan, hasty_plan, with_password, with_password_sent, three_commands, three_sent, early_reply, booked_later, one_for_two, synced_first, notice_left_out, first_value, bad_header, report_skipped, asked_so};
 ghost use Rattle.pg_promises.specs.Promises.{IsFront, IsValid, Conforms, MustEndWell, SentInOrder};
 
-/// Where a session stalled over a steady link, the last call that wasn't ready was its wait, the one before it was
-/// in the round that moved nothing, and the two counts are those around that round.
+/// Where a session stalled over a steady link, its two counts are one call that wasn't ready apart, and one more such call
+/// came behind them.
 pub fn counts_of_a_stall()
     ensures { (call : Call) (before after : ℕ) → IsStalled call before after → IsTrue call.before.steady →
         call.before.lulls < 2 ^ 64 - 1 → call.after.quiet < 2 ^ 64 - 1 → (call.after.quiet ≡ after + 1) × (after ≡ before + 1) }
