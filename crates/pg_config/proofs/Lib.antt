@@ -5,9 +5,9 @@ mod Decoded
 mod GroupLaws
 mod KeyValueSpelling
 mod Marks
-mod Meanings
+pub mod Meanings
 mod NumberLaws
-mod OneMeaning
+pub mod OneMeaning
 mod Places
 mod ReadAll
 mod Readings
