@@ -1,5 +1,5 @@
 -- A session that was played over a link in memory.
-use Rattle.std.proofs.Common.{◌≡◌, ℕ, zero, suc, List, [], ◌∷◌, ◌++◌, take, drop, take-append-drop, append_assoc, Option, Some, None, refl, sym, ap, subst, ◌∙◌}
+use Rattle.std.proofs.Common.{◌≡◌, ℕ, zero, suc, List, [], ◌∷◌, ◌++◌, take, drop, take-append-drop, append_assoc, Option, Some, None, IfOk, Result, Ok, Err, refl, sym, ap, subst, ◌∙◌}
 use Rattle.std.specs.List.{concat}
 use Rattle.pg_promises.specs.Causes.{Call}
 use Rattle.pg_spec.specs.Links.{LinkView, Plan}
@@ -10,8 +10,13 @@ use Rattle.pg_wire.specs.MemoryLinks.{memory_of}
 use Rattle.pg_text.specs.declared.session.Session.{Session}
 use Rattle.pg_text.specs.Sessions.{IsNew, session_of}
 use Rattle.pg_text.specs.Views.{scripts_of}
-use Rattle.pg_tool.specs.RunContract.{IsPlayed, call_of, default_nonce}
-use Rattle.pg_tool.specs.SessionContract.{SessionContract, SessionResult}
+use Rattle.pg_faults.specs.declared.error.Error.{Error}
+use Rattle.pg_promises.specs.ConnectionStrings.{Means}
+use Rattle.pg_session.specs.Sessions.{HasPlayed}
+use Rattle.pg_spec.specs.Settings.{only_user}
+use Rattle.pg_text.specs.declared.report.Report.{Report}
+use Rattle.pg_tool.specs.RunContract.{IsPlayed, WasPlayed, call_of, default_nonce}
+use Rattle.pg_tool.specs.SessionContract.{SessionContract, result_of}
 
 -- the bytes before a place are a front of the plan's
 front_of : (entries : List (List ℕ)) (entry at : ℕ) → (rest : List ℕ) × (bytes_before entries entry at ++ rest ≡ concat entries)
@@ -61,10 +66,30 @@ asked_is config nonce turns s after new config_is nonce_is turns_is =
     ∙ ap (λ (v : List ℕ). asked s.config default_nonce v s after) turns_is
     ∙ ap (λ (m : Memory). record (call_of (session_of s) after) { before = link_of m }) new.link
 
-pub played_over : (config nonce turns : List ℕ) (s : Session) (m : Memory) (r : SessionResult) → IsNew s →
-    config ≡ s.config → nonce ≡ s.nonce → turns ≡ s.turns → SessionContract (asked config nonce turns s (link_of m)) r →
-    (rest : List ℕ) × (m.given ++ rest ≡ concat m.entries) → IsPlayed (session_of s) r
-played_over config nonce turns s m r new config_is nonce_is turns_is promised front = record {
+-- it was played turn by turn, of the text
+was_played : (config nonce turns : List ℕ) (s : Session) (m : Memory) (r : Result Report Error) → IsNew s → config ≡ s.config → nonce ≡ s.nonce → turns ≡ s.turns →
+    IfOk r (λ told. (user : List ℕ) × Means config (only_user user) × HasPlayed user nonce s.scripts turns (link_of s.link) (link_of m) told) →
+    WasPlayed (session_of s) (link_of m) (result_of r)
+was_played config nonce turns s m (Err e) new config_is nonce_is turns_is played = tt
+was_played config nonce turns s m (Ok told) new config_is nonce_is turns_is played =
+    let named : HasPlayed played.0 default_nonce s.scripts turns (link_of s.link) (link_of m) told =
+        subst (λ (v : List ℕ). HasPlayed played.0 v s.scripts turns (link_of s.link) (link_of m) told) (nonce_is ∙ new.nonce) played.2 in
+    let turned : HasPlayed played.0 default_nonce s.scripts s.turns (link_of s.link) (link_of m) told =
+        subst (λ (v : List ℕ). HasPlayed played.0 default_nonce s.scripts v (link_of s.link) (link_of m) told) turns_is named in (
+      played.0,
+      subst (λ (v : List ℕ). Means v (only_user played.0)) config_is played.1,
+      s.scripts,
+      refl,
+      told,
+      refl,
+      subst (λ (v : Memory). HasPlayed played.0 default_nonce s.scripts s.turns (link_of v) (link_of m) told) new.link turned,
+    )
+
+pub played_over : (config nonce turns : List ℕ) (s : Session) (m : Memory) (r : Result Report Error) → IsNew s →
+    config ≡ s.config → nonce ≡ s.nonce → turns ≡ s.turns → SessionContract (asked config nonce turns s (link_of m)) (result_of r) →
+    IfOk r (λ told. (user : List ℕ) × Means config (only_user user) × HasPlayed user nonce s.scripts turns (link_of s.link) (link_of m) told) →
+    (rest : List ℕ) × (m.given ++ rest ≡ concat m.entries) → IsPlayed (session_of s) (result_of r)
+played_over config nonce turns s m r new config_is nonce_is turns_is promised played front = record {
   after = link_of m;
   given = m.given;
   taken = m.taken;
@@ -75,7 +100,8 @@ played_over config nonce turns s m r new config_is nonce_is turns_is promised fr
   front = front.1 ∙ ap (λ (plan : Option Plan). concat (told_entries plan)) session.link.keeps.plan;
   no_fault = refl;
   session = session;
+  turns = was_played config nonce turns s m r new config_is nonce_is turns_is played;
 }
   where
-    session : SessionContract (call_of (session_of s) (link_of m)) r
-    session = subst (λ (call : Call). SessionContract call r) (asked_is config nonce turns s (link_of m) new config_is nonce_is turns_is) promised
+    session : SessionContract (call_of (session_of s) (link_of m)) (result_of r)
+    session = subst (λ (call : Call). SessionContract call (result_of r)) (asked_is config nonce turns s (link_of m) new config_is nonce_is turns_is) promised

@@ -1,5 +1,5 @@
 -- The contract of the program: what it writes, and its exit status.
-use Rattle.std.specs.Prelude.{◌≡◌, ◌≢◌, ℕ, ◌+◌, ◌<◌, ◌≤◌, ◌⊎◌, true, false, List, [], ◌∷◌, ◌++◌, length, Ok, Err, Option, Some, None, IfSome, codes, decimal}
+use Rattle.std.specs.Prelude.{◌≡◌, ◌≢◌, ℕ, ◌+◌, ◌<◌, ◌≤◌, ◌⊎◌, true, false, List, [], ◌∷◌, ◌++◌, length, Ok, Err, Option, Some, None, IfSome, codes, decimal, ⊤}
 use Rattle.std.specs.List.{concat}
 use Rattle.pg_promises.specs.Causes.{Call}
 use Rattle.pg_spec.specs.Faults.{OutOfMemory}
@@ -7,11 +7,15 @@ use Rattle.pg_promises.specs.ConnectionStrings.{Means}
 use Rattle.pg_spec.specs.Links.{LinkView, Plan, Rose, Grew, course_of}
 use Rattle.pg_promises.specs.Promises.{Conforms, IsValid, requests_in}
 use Rattle.pg_spec.specs.Sent.{turns_given}
-use Rattle.pg_spec.specs.Settings.{Settings}
+use Rattle.pg_spec.specs.Settings.{Settings, only_user}
 use Rattle.pg_spec.specs.ReportText.{report_text, error_text}
 use Rattle.pg_spec.specs.SessionText.{SessionText, IsSessionText, IsRefusedAt}
 use Rattle.pg_wire.specs.LinkCalls.{Tells}
 use Rattle.pg_wire.specs.Streams.{SourceView, SinkView}
+use Rattle.pg_session.specs.Sessions.{HasPlayed}
+use Rattle.pg_text.specs.Views.{report_of, scripts_of}
+use Rattle.pg_text.specs.declared.command.Command.{Command}
+use Rattle.pg_text.specs.declared.report.Report.{Report}
 use Rattle.pg_tool.specs.SessionContract.{SessionContract, SessionResult}
 use Rattle.pg_tool.specs.Reading.{longest_text}
 use Rattle.pg_tool.specs.Writing as writing
@@ -69,6 +73,13 @@ call_of text after = record {
   after = after;
 }
 
+-- where it answered Ok, the text's scripts were played turn by turn over that link, and this is the report
+abbrev pub WasPlayed : SessionText → LinkView → SessionResult → Type 0
+WasPlayed text after (Ok report) = (user : List ℕ) × Means text.config (only_user user)
+    × (scripts : List (List Command)) × (scripts_of scripts ≡ text.scripts) × (told : Report) × (report_of told ≡ report)
+    × HasPlayed user default_nonce scripts text.turns (new_link text) after told
+WasPlayed text after (Err failure) = ⊤
+
 -- the result is that of the text's session over the text's own link, which tells all bytes that crossed
 -- it, gave a front of its plan, and didn't fail
 pub record IsPlayed (text : SessionText) (result : SessionResult) : Type 0 where
@@ -83,6 +94,8 @@ pub record IsPlayed (text : SessionText) (result : SessionResult) : Type 0 where
   pub no_fault : after.faults ≡ 0
   -- all that a session promises
   pub session : SessionContract (call_of text after) result
+  -- turn by turn
+  pub turns : WasPlayed text after result
 
 -- With the status that is due the text was written whole, with 4 or 5 a front of it; and nothing else was.
 abbrev pub EndsWith : SinkView → SinkView → List ℕ → (due status : ℕ) → Type 0
