@@ -7,11 +7,10 @@ use Rattle.pg_wire.specs.Faults.{wire_fault}
 use Rattle.pg_faults.specs.declared.fault.WireFault.{WireFault}
 use Rattle.pg_query.specs.Messages.{IsMalformed, Means}
 use Rattle.pg_spec.specs.declared.stamps.Stamp.{Stamp}
-use Rattle.pg_desk.specs.declared.event.Take.TheVariants as taking
 use Rattle.pg_desk.specs.declared.event.Event.{Event}
 use Rattle.pg_desk.specs.declared.event.Event.TheVariants as call
 use Rattle.pg_faults.specs.declared.error.Error.{Error}
-use Rattle.pg_faults.specs.declared.error.Error.TheVariants.{Closed, OutOfMemory}
+use Rattle.pg_faults.specs.declared.error.Error.TheVariants.{OutOfMemory}
 use Rattle.pg_query.specs.declared.script.Want.TheVariants as want
 use Rattle.pg_query.specs.declared.script.Action.TheVariants as act
 use Rattle.pg_query.specs.declared.script.Want.{Want}
@@ -19,10 +18,10 @@ use Rattle.pg_query.specs.Faults.{of_fault}
 use Rattle.pg_desk.specs.declared.event.DeskFault.{DeskFault}
 use Rattle.pg_query.specs.declared.desk_call.DeskCall.{DeskCall}
 use Rattle.pg_query.specs.declared.desk_call.Reply.{Reply}
-use Rattle.pg_query.specs.Dialogue.{Dialogue, Answer, Ask, Send, Leave, Read, HangUp, Call, Hear, feed, feed_one, after_reply, Told, Steps, Walks}
-use Rattle.pg_query.specs.Scripts.{IsRead, IsLast, Waiting, wanting, GoesOn}
+use Rattle.pg_query.specs.Dialogue.{Dialogue, Answer, Ask, Send, Leave, HangUp, Call, feed, feed_one, after_reply, Told, Steps, Walks}
+use Rattle.pg_query.specs.Scripts.{IsLast, Waiting, wanting, GoesOn}
 use Rattle.pg_query.specs.declared.running.Running.{Running}
-use Rattle.pg_query.specs.Meaning.{Place, left_by, meaning_at, PullsOne, Goes, GoesToAnswer}
+use Rattle.pg_query.specs.Meaning.{Place, meaning_at, PullsOne, Goes, GoesToAnswer}
 
 pub feed-answer : {T : Type 0} (ms : List RawMessage) (r : Result T Error) → feed ms (Answer r) ≡ Answer r
 feed-answer [] r = refl
@@ -81,16 +80,16 @@ pub called : {T : Type 0} (stamp : Stamp) (ms : List RawMessage) (id : ℕ) (q :
     Walks stamp (feed ms (Call q next)) id (e ∷ []) (after_reply r (λ x. feed ms (next x))) id
 called stamp ms id q next e r h = step stamp (feed ms (Call q next)) (Call q (λ x. feed ms (next x))) id e _ id (feed-call ms q next) (r, h, refl, refl)
 
--- where the script went on after events that lead to this dialogue
+-- where the script went on after events that lead to this dialogue, with the messages that came and aren't read yet
 pub resumed : {S D T : Type 0} (becomes : D → List Event → D → Type 0) (stamp : Stamp) (a : D) (p : Place T) (b : D)
     (dialogue : S → Dialogue T) (waits : (s : S) → Waiting (dialogue s)) (from : Dialogue T) (new : Running S T) (es : List Event) → becomes a es b →
-    Walks stamp p.dialogue p.reads es (feed new.batch from) new.id →
+    (ms : List RawMessage) (id : ℕ) → new.batch ≡ ms → new.id ≡ id → Walks stamp p.dialogue p.reads es (feed ms from) id →
     (r : Result (Want T) Error) → MatchResult r (λ w. GoesOn dialogue waits from w new.script) (λ e. e ≡ OutOfMemory) →
     MatchResult r (λ w. Goes becomes stamp a p b (meaning_at dialogue new w)) (λ e. GoesToAnswer becomes stamp a p b (Err e))
-resumed {S} {D} {T} becomes stamp a p b dialogue waits from new es ev w (Ok x) h =
-    record { events = es; became = ev; walked = subst (λ (c : Dialogue T). Walks stamp p.dialogue p.reads es (feed new.batch c) new.id) (sym h.is) w }
-resumed becomes stamp a p b dialogue waits from new es ev w (Err e) h =
-    record { last = record { dialogue = feed new.batch from; reads = new.id }; goes = record { events = es; became = ev; walked = w }; answers = inr (ap Err h) }
+resumed {S} {D} {T} becomes stamp a p b dialogue waits from new es ev ms id left reads w (Ok x) h =
+    record { events = es; became = ev; walked = rw (h.is, left, reads) w }
+resumed becomes stamp a p b dialogue waits from new es ev ms id left reads w (Err e) h =
+    record { last = record { dialogue = feed ms from; reads = id }; goes = record { events = es; became = ev; walked = w }; answers = inr (ap Err h) }
 
 -- where the desk refused
 pub refused : {D T : Type 0} (becomes : D → List Event → D → Type 0) (stamp : Stamp) (a : D) (p : Place T) (b : D) (es : List Event) → becomes a es b →
@@ -98,11 +97,6 @@ pub refused : {D T : Type 0} (becomes : D → List Event → D → Type 0) (stam
     GoesToAnswer becomes stamp a p b (Err e)
 refused becomes stamp a p b es ev f id w e same =
     record { last = record { dialogue = Answer (Err (of_fault f)); reads = id }; goes = record { events = es; became = ev; walked = w }; answers = inl (ap (λ (x : Error). Answer (Err x)) (sym same)) }
-
--- the same walk, where its end is named otherwise
-pub end-at : {T : Type 0} (stamp : Stamp) (p : Place T) (es : List Event) (c d : Dialogue T) (ms : List RawMessage) (n id : ℕ) → d ≡ feed ms c → n ≡ id →
-    Walks stamp p.dialogue p.reads es d n → Walks stamp p.dialogue p.reads es (feed ms c) id
-end-at {T} stamp p es c d ms n id e f w = subst (λ (x : Dialogue T). Walks stamp p.dialogue p.reads es x id) e (subst (λ (m : ℕ). Walks stamp p.dialogue p.reads es d m) f w)
 
 pub walk-joined : {T : Type 0} (stamp : Stamp) (d : Dialogue T) (id : ℕ) (es fs : List Event) (d' d'' : Dialogue T) (id' id'' : ℕ) →
     Walks stamp d id es d' id' → Walks stamp d' id' fs d'' id'' → Walks stamp d id (es ++ fs) d'' id''
@@ -185,57 +179,3 @@ pulled-last {S} {T} dialogue waits old new raw rest front none id w h last = rec
   wanted = h.wanted;
   fewer = omega (arith, ap length none, ap length front);
 }
-
--- a take from the desk, where the batch was used up
-pub took : {T : Type 0} (stamp : Stamp) (d : Dialogue T) (id : ℕ) (ms : List RawMessage) → IsRead d → Walks stamp d id (call.Take id (Ok (taking.Batch ms)) ∷ []) (feed ms d) id
-took stamp (Read cleanup decides next) id ms s = (_, id, (refl, refl, refl), (refl, refl))
-took stamp (Answer r) id ms s = absurd s
-took stamp (Ask copying part d) id ms s = absurd s
-took stamp (Send part d) id ms s = absurd s
-took stamp (Leave i d) id ms s = absurd s
-took stamp (HangUp d) id ms s = absurd s
-took stamp (Call q next) id ms s = absurd s
-took stamp (Hear next) id ms s = absurd s
-
-pub took-nothing : {T : Type 0} (stamp : Stamp) (d : Dialogue T) (id : ℕ) → IsRead d → Walks stamp d id (call.Take id (Ok taking.Empty) ∷ []) d id
-took-nothing stamp (Read cleanup decides next) id s = (_, id, (refl, refl, refl), (refl, refl))
-took-nothing stamp (Answer r) id s = absurd s
-took-nothing stamp (Ask copying part d) id s = absurd s
-took-nothing stamp (Send part d) id s = absurd s
-took-nothing stamp (Leave i d) id s = absurd s
-took-nothing stamp (HangUp d) id s = absurd s
-took-nothing stamp (Call q next) id s = absurd s
-took-nothing stamp (Hear next) id s = absurd s
-
-pub took-over : {T : Type 0} (stamp : Stamp) (d : Dialogue T) (id : ℕ) → IsRead d → Walks stamp d id (call.Take id (Ok taking.Over) ∷ []) (Answer (Err Closed)) id
-took-over stamp (Read cleanup decides next) id s = (_, id, (refl, refl, refl), (refl, refl))
-took-over stamp (Answer r) id s = absurd s
-took-over stamp (Ask copying part d) id s = absurd s
-took-over stamp (Send part d) id s = absurd s
-took-over stamp (Leave i d) id s = absurd s
-took-over stamp (HangUp d) id s = absurd s
-took-over stamp (Call q next) id s = absurd s
-took-over stamp (Hear next) id s = absurd s
-
--- a request that is gone is hung up
-pub took-gone : {T : Type 0} (stamp : Stamp) (d : Dialogue T) (id : ℕ) (answer : Result (Unit {0}) DeskFault) → IsRead d →
-    Walks stamp d id (call.Take id (Ok taking.Gone) ∷ call.HangUp id answer ∷ []) (Answer (Err (left_by answer))) id
-took-gone stamp (Read cleanup decides next) id (Ok x) s = (HangUp (Answer (Err Closed)), id, (refl, refl, refl), (Answer (Err Closed), id, (refl, refl, refl), (refl, refl)))
-took-gone stamp (Read cleanup decides next) id (Err e) s = (HangUp (Answer (Err Closed)), id, (refl, refl, refl), (Answer (Err (of_fault e)), id, (refl, refl, refl), (refl, refl)))
-took-gone stamp (Answer r) id answer s = absurd s
-took-gone stamp (Ask copying part d) id answer s = absurd s
-took-gone stamp (Send part d) id answer s = absurd s
-took-gone stamp (Leave i d) id answer s = absurd s
-took-gone stamp (HangUp d) id answer s = absurd s
-took-gone stamp (Call q next) id answer s = absurd s
-took-gone stamp (Hear next) id answer s = absurd s
-
-pub take-refused : {T : Type 0} (stamp : Stamp) (d : Dialogue T) (id : ℕ) (e : DeskFault) → IsRead d → Walks stamp d id (call.Take id (Err e) ∷ []) (Answer (Err (of_fault e))) id
-take-refused stamp (Read cleanup decides next) id e s = (_, id, (refl, refl, refl), (refl, refl))
-take-refused stamp (Answer r) id e s = absurd s
-take-refused stamp (Ask copying part d) id e s = absurd s
-take-refused stamp (Send part d) id e s = absurd s
-take-refused stamp (Leave i d) id e s = absurd s
-take-refused stamp (HangUp d) id e s = absurd s
-take-refused stamp (Call q next) id e s = absurd s
-take-refused stamp (Hear next) id e s = absurd s
