@@ -1,5 +1,5 @@
 -- What is kept of the server's parameter reports.
-use Rattle.std.specs.Prelude.{ℕ, List, [], Option, fold}
+use Rattle.std.specs.Prelude.{ℕ, List, Option, fold}
 use Rattle.std.specs.BTreeMap.{insert_entry}
 use Rattle.std.specs.Map.{lookup}
 use Rattle.std.specs.Cmp.Lexicographic.{slice_cmp}

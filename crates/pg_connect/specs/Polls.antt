@@ -1,5 +1,5 @@
 -- How a turn of the connection ends, and why.
-use Rattle.std.specs.Prelude.{◌≡◌, ℕ, ◌<◌, ◌⊎◌, Bool, true, false, not, IsTrue, ◌||◌, List, [], ◌∷◌, ◌++◌, length, Some, None, IfSome, OnOk, Result, Ok, Err}
+use Rattle.std.specs.Prelude.{◌≡◌, ℕ, ◌<◌, ◌⊎◌, Bool, true, false, not, IsTrue, List, [], ◌∷◌, ◌++◌, Some, None, IfSome, OnOk, Result, Ok, Err}
 use Rattle.pg_spec.specs.Links.{LinkView, Rose, due_by}
 use Rattle.pg_spec.specs.RawMessages.{RawMessage}
 use Rattle.pg_desk.specs.declared.event.Event.{Event}

@@ -34,7 +34,7 @@ use Rattle.pg_connect.specs.declared.streams.Streams.{Streams}
 use Rattle.pg_connect.specs.Ends.{last_is, some_is}
 use Rattle.pg_connect.specs.Kept.{keep}
 use Rattle.pg_connect.specs.Passed.{delivered_by}
-use Rattle.pg_connect.specs.Passes.{Goes, Hands, Passes, StandsLast, waiting, delayed_in}
+use Rattle.pg_connect.specs.Passes.{Hands, Passes, StandsLast, waiting, delayed_in}
 
 -- ---- messages that no request asked for
 

@@ -16,26 +16,16 @@ impl Streams {
         ensures ok { OnOk result (KeepsReport self.old self.new (Message.ParameterStatus report.now)) }
         ensures fault { IfErr result (λ e. IsUnreadable (Message.ParameterStatus report.now) e × (self.new ≡ self.old)) }
     {
-        let name = match report.name() {
-            Ok(name) => name,
-            Err(_) => return Err(ConnectionFault::Unreadable(Cause::NotUtf8)),
+        let Ok(name) = report.name() else {
+            return Err(ConnectionFault::Unreadable(Cause::NotUtf8));
         };
-        let value = match report.value() {
-            Ok(value) => value,
-            Err(_) => return Err(ConnectionFault::Unreadable(Cause::NotUtf8)),
+        let Ok(value) = report.value() else {
+            return Err(ConnectionFault::Unreadable(Cause::NotUtf8));
         };
-        let name = match String::from_str(alloc, name) {
-            Ok(name) => name,
-            Err(_) => return Err(ConnectionFault::OutOfMemory),
-        };
-        let value = match String::from_str(alloc, value) {
-            Ok(value) => value,
-            Err(_) => return Err(ConnectionFault::OutOfMemory),
-        };
-        match self.parameters.keep(name, value) {
-            Ok(()) => Ok(()),
-            Err(_) => Err(ConnectionFault::OutOfMemory),
-        }
+        let name = String::from_str(alloc, name)?;
+        let value = String::from_str(alloc, value)?;
+        self.parameters.keep(name, value)?;
+        Ok(())
     }
 
     /// Keeps a parameter report, or reads a message to be handed out. None comes where there is none to
@@ -48,10 +38,8 @@ impl Streams {
         ensures { Sorts self.old self.new message.now result }
     {
         if let Message::ParameterStatus(report) = message {
-            return match self.keep(alloc, report) {
-                Ok(()) => Ok(None),
-                Err(e) => Err(e),
-            };
+            self.keep(alloc, report)?;
+            return Ok(None);
         }
         match AsyncMessage::read(alloc, message) {
             Ok(handed) => Ok(handed),
@@ -110,10 +98,7 @@ impl Streams {
     fn first_notice(&self, alloc: Global) -> Option<Result<DbError, ConnectionFault>>
         ensures { ReadsFirst self.now result }
     {
-        let notice = match self.delayed.front() {
-            Some(notice) => notice,
-            None => return None,
-        };
+        let notice = self.delayed.front()?;
         match DbError::parse(alloc, notice) {
             Ok(error) => Some(Ok(error)),
             Err(e) => Some(Err(unreadable(e))),

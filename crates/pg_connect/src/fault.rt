@@ -5,7 +5,9 @@ ghost use Rattle.pg_connect.specs.Faults.{error_of, of_desk};
 
 use pg_desk::DeskFault;
 use pg_errors::{Cause, Error};
+use pg_types::OutOfMemory;
 use pg_wire::WireFault;
+use std::alloc::AllocError;
 
 /// Why a connection ends before its time.
 #[derive(Debug, Drop)]
@@ -45,6 +47,28 @@ impl ConnectionFault {
             ConnectionFault::LimitReached { given, limit } => Error::LimitReached { given, limit },
             ConnectionFault::OutOfMemory => Error::OutOfMemory,
         }
+    }
+}
+
+impl From<OutOfMemory> for ConnectionFault {
+    ghost use Rattle.std.specs.Prelude.{◌≡◌};
+    ghost use Rattle.pg_connect.specs.declared.fault.ConnectionFault.TheVariants.{OutOfMemory};
+
+    ghost from_gives = { λ _ fault. fault ≡ OutOfMemory };
+
+    fn from(_: OutOfMemory) -> ConnectionFault {
+        ConnectionFault::OutOfMemory
+    }
+}
+
+impl From<AllocError> for ConnectionFault {
+    ghost use Rattle.std.specs.Prelude.{◌≡◌};
+    ghost use Rattle.pg_connect.specs.declared.fault.ConnectionFault.TheVariants.{OutOfMemory};
+
+    ghost from_gives = { λ _ fault. fault ≡ OutOfMemory };
+
+    fn from(_: AllocError) -> ConnectionFault {
+        ConnectionFault::OutOfMemory
     }
 }
 

@@ -40,10 +40,8 @@ impl Parameters {
     pub fn keep(&mut self, name: String, value: String) -> Result<(), OutOfMemory>
         ensures { MatchResult result (λ _. self.new ≡ keep self.old (string_bytes name, string_bytes value)) (λ _. self.new ≡ self.old) }
     {
-        match self.last.insert(name, value) {
-            Ok(_) => Ok(()),
-            Err(_) => Err(OutOfMemory),
-        }
+        self.last.insert(name, value)?;
+        Ok(())
     }
 
     /// The names and their values, ascending by the name's bytes.

@@ -191,10 +191,7 @@ impl Streams {
         ensures quiet { MissesOne (L.view link.old) (L.view link.new) }
         ensures ready { result ≡ Ok true → MissesNone (L.view link.old) (L.view link.new) }
     {
-        match self.buffer.reserve(PIECE) {
-            Ok(()) => {}
-            Err(_) => return Err(ConnectionFault::OutOfMemory),
-        }
+        self.buffer.reserve(PIECE)?;
         let mut piece = [0u8; PIECE];
         match link.read(&mut piece) {
             LinkRead::Got(n) => {

@@ -18,7 +18,6 @@ use crate::{Parameters, Streams};
 use bytes::{Bytes, BytesMut};
 use futures::task::Poll;
 use pg_errors::{Cause, Error};
-use pg_types::OutOfMemory;
 use pg_wire::{
     BackendMessage, BackendMessages, FrameFault, Link, LinkRead, LinkStep, LinkWrite, Message,
     PostgresCodec, StartupParams, WireFault, startup_message,
@@ -81,14 +80,8 @@ fn opening_frame(alloc: Global, user: &str) -> Result<BytesMut, Error>
     ensures { MatchResult result (λ frame. Made user.now (Ok frame.items)) (λ e. Made user.now (Err e)) }
 {
     let mut params = StartupParams::new(alloc);
-    match params.push(alloc, "client_encoding", "UTF8") {
-        Ok(()) => {}
-        Err(OutOfMemory) => return Err(Error::OutOfMemory),
-    }
-    match params.push(alloc, "user", user) {
-        Ok(()) => {}
-        Err(OutOfMemory) => return Err(Error::OutOfMemory),
-    }
+    params.push(alloc, "client_encoding", "UTF8")?;
+    params.push(alloc, "user", user)?;
     let mut frame = BytesMut::new(alloc);
     match startup_message(&params, &mut frame) {
         Ok(()) => Ok(frame),
@@ -105,10 +98,7 @@ impl Startup {
         ensures fresh { (nonce : List ℕ) (begin : LinkView) → MatchResult result (λ s. Opening user.now nonce begin begin s) (λ e. Unit {0}) }
         ensures limit { MatchResult result (λ s. (s.max_bytes ≡ max_bytes) × (s.given ≡ 0)) (λ e. Unit {0}) }
     {
-        let frame = match opening_frame(alloc, user) {
-            Ok(frame) => frame,
-            Err(error) => return Err(error),
-        };
+        let frame = opening_frame(alloc, user)?;
         let Ok(opening) = Vec::from_slice(alloc, frame.as_slice()) else {
             return Err(Error::OutOfMemory);
         };

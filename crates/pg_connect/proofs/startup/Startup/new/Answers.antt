@@ -4,5 +4,5 @@ use Rattle.pg_connect.proofs.startup.Startup.new.Goals as goal
 
 pub returns-clause-fresh : goal.returns-clause-fresh
 returns-clause-fresh c nonce begin =
-    let same : c.in-Ok-from_slice.opening.items ≡ c.in-Ok.frame.items = c.in-Ok-from_slice.ensures.items ∙ c.as_slice.ensures in
-    opens c.args.user.now nonce begin _ c.new.ensures.items (c.in-Ok-freeze.ensures.ok ∙ sym same) (c.in-Ok.ensures ∙ ap (λ l. Ok l) (sym same)) refl refl refl
+    let same : c.in-Ok.opening.items ≡ c.in_ok-frame.frame.items = c.in-Ok.ensures.items ∙ c.as_slice.ensures in
+    opens c.args.user.now nonce begin _ c.new.ensures.items (c.in-Ok-freeze.ensures.ok ∙ sym same) (c.in_ok-frame.ensures ∙ ap (λ l. Ok l) (sym same)) refl refl refl

@@ -3,8 +3,8 @@ use Rattle.pg_connect.proofs.Joining.{keeps_same, untouched_same}
 use Rattle.pg_connect.proofs.Taking.{piece_taken, piece_still, piece_end}
 use Rattle.pg_connect.proofs.streams.Streams.read_piece.Goals as goal
 
-pub returns-in-Err-clause-takes : goal.returns-in-Err-clause-takes
-returns-in-Err-clause-takes g c =
+pub returns-in_err-reserve-clause-takes : goal.returns-in_err-reserve-clause-takes
+returns-in_err-reserve-clause-takes g c =
     let l = g.L.Link.view c.args.link.now in
     piece_still c.args.self.now c.reserve.new.self l l c.requires.unread c.reserve.ensures.items (untouched_same l) (keeps_same l)
 
