@@ -12,10 +12,11 @@ use Rattle.pg_types.specs.declared.format.IsNull.TheVariants as null
 use Rattle.pg_types.specs.declared.value.Value.{Value}
 use Rattle.pg_types.specs.declared.value.Value.TheVariants as value
 use Rattle.pg_types.specs.AnyValues.{value_in, value_of_width, int_width, in_form, value_gives, number_given, number_of_width, wrong_given, fits, fits_oid}
+use Rattle.pg_types.specs.declared.fault.RustType.{RustType}
 use Rattle.pg_types.specs.declared.fault.RustType.TheVariants as rust
 use Rattle.pg_types.specs.Oids as oids
 use Rattle.pg_types.specs.Oids.{is_text}
-use Rattle.pg_types.specs.Values.{Given, Writes, bytes_given, checked, wrong_type, bool_in, bool_bytes, int_in, int_bytes, oid_in, oid_bytes}
+use Rattle.pg_types.specs.Values.{Checked, Given, Writes, WritesOneOf, bytes_given, wrong_type, bool_in, bool_bytes, int_in, int_bytes, oid_in, oid_bytes}
 use Rattle.pg_values.specs.declared.datum.Datum as d
 use Rattle.pg_values.specs.declared.datum.Datum.{Datum}
 use Rattle.pg_values.specs.Scalars.{datum_of, IsValue, IsDate, IsTimestamp}
@@ -319,6 +320,27 @@ not_chosen : (b : Bool) (own : List ℕ) (f g : ValueFault) → (if b then bytes
 not_chosen true own f g e = absurd (cc e)
 not_chosen false own f g e = refl
 
+-- what a value gives that may not stand under every type
+abbrev given_if : Bool → ℕ → RustType → List ℕ → Given
+given_if b n r own = if b then bytes_given own else Err (fault.WrongType (wrong_type n r))
+
+checked_is : (b : Bool) (n : ℕ) (r : RustType) (own : List ℕ) (given : Given) → Checked b n r (λ g. bytes_given own ≡ g) given → given_if b n r own ≡ given
+checked_is true n r own given e = e
+checked_is false n r own given e = e
+
+-- what is written is one of those too
+wider : (G H : Given → Type 0) (old new : List ℕ) (answer : Result IsNull ValueFault) → ((given : Given) → G given → H given)
+    → WritesOneOf G old new answer → WritesOneOf H old new answer
+wider G H old new (Ok null.No) to wrote = (wrote.0, to (Ok (Some wrote.0)) wrote.1, wrote.2)
+wider G H old new (Ok null.Yes) to wrote = (to (Ok None) wrote.0, wrote.1)
+wider G H old new (Err f) to (inl lack, e) = (inl (lack.0, to (Ok (Some lack.0)) lack.1, lack.2), e)
+wider G H old new (Err f) to (inr own, e) = (inr (to (Err f) own), e)
+
+checked_written : (b : Bool) (n : ℕ) (r : RustType) (own old new : List ℕ) (answer : Result IsNull ValueFault)
+    → WritesOneOf (Checked b n r (λ g. bytes_given own ≡ g)) old new answer → Writes (given_if b n r own) old new answer
+checked_written b n r own old new answer wrote =
+    wider (Checked b n r (λ g. bytes_given own ≡ g)) (λ g. given_if b n r own ≡ g) old new answer (checked_is b n r own) wrote
+
 pub bool_written : (b : Bool) (n : ℕ) (old new : List ℕ) (answer : Result IsNull ValueFault) (result : Result (Unit {0}) ValueFault)
     → Writes (value_gives (value.Bool b) n) old new answer → Sends answer result → WritesAs (IsValue true n (d.Bool b)) (IsValue false n (d.Bool b)) old new result
 bool_written b n old new answer result =
@@ -327,21 +349,23 @@ bool_written b n old new answer result =
     (λ f e bytes are is. absurd (cc ((shape n bytes (value.Bool b) (has_value (value.Bool b) n bytes is)).0, not_chosen (n == oids.bool) (bool_bytes b) _ f e)))
 
 pub text_written : (t : List ℕ) → is_utf8 t ≡ true → (n : ℕ) (old new : List ℕ) (answer : Result IsNull ValueFault) (result : Result (Unit {0}) ValueFault)
-    → Writes (checked (is_text n) n rust.Str (bytes_given t)) old new answer → Sends answer result
+    → WritesOneOf (Checked (is_text n) n rust.Str (λ g. bytes_given t ≡ g)) old new answer → Sends answer result
     → WritesAs (IsValue true n (d.Text t)) (IsValue false n (d.Text t)) old new result
-text_written t u n old new answer result =
-    wrote_given (IsValue true n (d.Text t)) (IsValue false n (d.Text t)) (checked (is_text n) n rust.Str (bytes_given t)) old new answer result (λ e. some_chosen (is_text n) t _ e)
+text_written t u n old new answer result wrote sent =
+    wrote_given (IsValue true n (d.Text t)) (IsValue false n (d.Text t)) (given_if (is_text n) n rust.Str t) old new answer result (λ e. some_chosen (is_text n) t _ e)
     (λ bytes e. let is = chosen (is_text n) t bytes _ e in
     let given : value_gives (value.Text t) n ≡ bytes_given bytes = rw is.0 (ap (λ (l : List ℕ). bytes_given l) is.1) in
     is_value (value.Text t) n bytes (text_in t u bytes n given) given)
     (λ f e bytes are is. absurd (cc ((shape n bytes (value.Text t) (has_value (value.Text t) n bytes is)).0, not_chosen (is_text n) t _ f e)))
+    (checked_written (is_text n) n rust.Str t old new answer wrote) sent
 
 pub bytea_written : (t : List ℕ) (n : ℕ) (old new : List ℕ) (answer : Result IsNull ValueFault) (result : Result (Unit {0}) ValueFault)
-    → Writes (checked (n == oids.bytea) n rust.Blob (bytes_given t)) old new answer → Sends answer result
+    → WritesOneOf (Checked (n == oids.bytea) n rust.Blob (λ g. bytes_given t ≡ g)) old new answer → Sends answer result
     → WritesAs (IsValue true n (d.Bytes t)) (IsValue false n (d.Bytes t)) old new result
-bytea_written t n old new answer result =
-    wrote_given (IsValue true n (d.Bytes t)) (IsValue false n (d.Bytes t)) (checked (n == oids.bytea) n rust.Blob (bytes_given t)) old new answer result (λ e. some_chosen (n == oids.bytea) t _ e)
+bytea_written t n old new answer result wrote sent =
+    wrote_given (IsValue true n (d.Bytes t)) (IsValue false n (d.Bytes t)) (given_if (n == oids.bytea) n rust.Blob t) old new answer result (λ e. some_chosen (n == oids.bytea) t _ e)
     (λ bytes e. let is = chosen (n == oids.bytea) t bytes _ e in
     let given : value_gives (value.Bytes t) n ≡ bytes_given bytes = rw is.0 (ap (λ (l : List ℕ). bytes_given l) is.1) in
     is_value (value.Bytes t) n bytes (bytea_back t n bytes (same_nat n oids.bytea is.0) is.1) given)
     (λ f e bytes are is. absurd (cc ((shape n bytes (value.Bytes t) (has_value (value.Bytes t) n bytes is)).0, not_chosen (n == oids.bytea) t _ f e)))
+    (checked_written (n == oids.bytea) n rust.Blob t old new answer wrote) sent
