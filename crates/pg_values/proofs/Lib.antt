@@ -19,3 +19,4 @@ pub mod Insides
 pub mod DatumWritten
 pub mod SpanLaws
 pub mod ShortLaws
+pub mod TraitLaws

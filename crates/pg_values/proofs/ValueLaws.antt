@@ -329,7 +329,7 @@ checked_is true n r own given e = e
 checked_is false n r own given e = e
 
 -- what is written is one of those too
-wider : (G H : Given → Type 0) (old new : List ℕ) (answer : Result IsNull ValueFault) → ((given : Given) → G given → H given)
+pub wider : (G H : Given → Type 0) (old new : List ℕ) (answer : Result IsNull ValueFault) → ((given : Given) → G given → H given)
     → WritesOneOf G old new answer → WritesOneOf H old new answer
 wider G H old new (Ok null.No) to wrote = (wrote.0, to (Ok (Some wrote.0)) wrote.1, wrote.2)
 wider G H old new (Ok null.Yes) to wrote = (to (Ok None) wrote.0, wrote.1)

@@ -1,5 +1,5 @@
 -- What reading a value answers.
-use Rattle.std.specs.Prelude.{◌≡◌, ℕ, true, false, List, Option, Result, Ok, Err}
+use Rattle.std.specs.Prelude.{◌≡◌, ℕ, true, false, List, Option, Some, None, Result, Ok, Err}
 use Rattle.pg_types.specs.Values.{wrong_type, may_lack}
 use Rattle.pg_types.specs.declared.fault.ValueFault.{ValueFault}
 use Rattle.pg_types.specs.declared.fault.ValueFault.TheVariants as fault
@@ -42,3 +42,12 @@ ReadsDatum ty raw (Err (fault.WrongType wrong)) = IsWrong ty wrong
 ReadsDatum ty raw (Err fault.BadValue) = SpellsNone ty raw
 ReadsDatum ty raw (Err fault.OutOfMemory) = (is_supported ty ≡ true) × (may_lack true raw ≡ true)
 ReadsDatum ty raw (Err fault.WasNull) = ⊥
+
+-- the fault for which bytes of a type, or null, are refused, or that they aren't (None): WrongType where the type isn't supported,
+-- BadValue where it is and no value is spelled
+abbrev pub RefusesDatum : PgType → Option (List ℕ) → Option ValueFault → Type 0
+RefusesDatum ty raw None = is_supported ty ≡ true
+RefusesDatum ty raw (Some (fault.WrongType wrong)) = IsWrong ty wrong
+RefusesDatum ty raw (Some fault.BadValue) = SpellsNone ty raw
+RefusesDatum ty raw (Some fault.OutOfMemory) = ⊥
+RefusesDatum ty raw (Some fault.WasNull) = ⊥

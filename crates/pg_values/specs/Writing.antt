@@ -1,11 +1,12 @@
 -- What writing a value answers.
-use Rattle.std.specs.Prelude.{◌≡◌, ◌≢◌, ◌<◌, ◌++◌, ℕ, true, false, List, Some, Result, Ok, Err, IsOk, MatchResult}
+use Rattle.std.specs.Prelude.{◌≡◌, ◌≢◌, ◌<◌, ◌++◌, ℕ, true, false, List, Some, None, Result, Ok, Err, IsOk, MatchResult}
 use Rattle.std.specs.List.{AllByRecursion}
 use Rattle.pg_types.specs.declared.fault.ValueFault.{ValueFault}
 use Rattle.pg_types.specs.declared.fault.ValueFault.TheVariants as fault
 use Rattle.pg_types.specs.declared.format.IsNull.{IsNull}
 use Rattle.pg_types.specs.declared.format.IsNull.TheVariants as null
 use Rattle.pg_types.specs.declared.pg_type.PgType.{PgType}
+use Rattle.pg_types.specs.Values.{Given}
 use Rattle.pg_values.specs.declared.datum.Datum as d
 use Rattle.pg_values.specs.declared.datum.Datum.{Datum}
 use Rattle.pg_values.specs.Supported.{is_supported}
@@ -75,3 +76,18 @@ WritesDatum ty v old new (Err (fault.WrongType wrong)) = IsWrong ty wrong × (ne
 WritesDatum ty v old new (Err fault.BadValue) = HasNoBytes ty v × (new ≡ old)
 WritesDatum ty v old new (Err fault.OutOfMemory) = (is_supported ty ≡ true) × (v ≢ d.Null) × (new ≡ old)
 WritesDatum ty v old new (Err fault.WasNull) = ⊥
+
+-- bytes in the written form, which are read again as the value
+pub record IsWrittenAs (ty : PgType) (v : Datum) (bytes : List ℕ) : Type 0 where
+  pub written : spells true ty v (Some bytes)
+  pub again : IsTheValue ty (Some bytes) v
+
+-- what a value may give under a type: bytes in the written form; null, where it is null; WrongType exactly where the type isn't
+-- supported; BadValue where no bytes spell the value. Memory may lack where there is a value to be written
+abbrev pub GivesDatum : Datum → PgType → Given → Type 0
+GivesDatum v ty (Ok (Some bytes)) = IsWrittenAs ty v bytes
+GivesDatum v ty (Ok None) = (is_supported ty ≡ true) × (v ≡ d.Null)
+GivesDatum v ty (Err (fault.WrongType wrong)) = IsWrong ty wrong
+GivesDatum v ty (Err fault.BadValue) = HasNoBytes ty v
+GivesDatum v ty (Err fault.OutOfMemory) = (is_supported ty ≡ true) × (v ≢ d.Null)
+GivesDatum v ty (Err fault.WasNull) = ⊥

@@ -4,6 +4,8 @@
 
 mod arrays;
 mod datum;
+mod datum_from_sql;
+mod datum_to_sql;
 mod display;
 mod escape;
 mod held;

@@ -3,8 +3,10 @@
 ghost use Rattle.std.specs.Prelude.{◌≡◌};
 ghost use Rattle.pg_values.specs.Supported.{is_supported, is_scalar, are_supported};
 ghost use Rattle.pg_types.proofs.KindLaws.{row_of};
+ghost use Rattle.pg_types.specs.Values.{type_fault};
+ghost use Rattle.pg_types.specs.declared.fault.RustType.TheVariants as rust_type;
 
-use pg_types::{Field, FromSql, Kind, Type, Value};
+use pg_types::{Field, FromSql, Kind, RustType, Type, Value, WrongType};
 
 /// Whether a type without parts has values here.
 fn is_scalar(ty: &Type) -> bool
@@ -40,4 +42,18 @@ fn are_supported(fields: &[Field]) -> bool
         }
     }
     true
+}
+
+/// The fault of a type that isn't supported.
+pub(crate) fn type_fault(ty: &Type) -> Option<WrongType>
+    ensures { result ≡ type_fault (is_supported ty.now) ty.now.oid rust_type.Other }
+{
+    if is_supported(ty) {
+        None
+    } else {
+        Some(WrongType {
+            postgres: ty.oid(),
+            rust: RustType::Other,
+        })
+    }
 }
