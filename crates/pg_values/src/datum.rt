@@ -28,6 +28,7 @@ pub enum Bound {
 /// source file that is named).
 #[derive(Debug, Drop)]
 pub enum Datum {
+    /// No value, of any type.
     Null,
     /// bool (bool.c).
     Bool(bool),
@@ -66,7 +67,9 @@ pub enum Datum {
     Range {
         /// It has no value in it; both bounds are then `Infinite`.
         empty: bool,
+        /// The bound below.
         lower: Bound,
+        /// The bound above.
         upper: Bound,
         /// The values of the bounds that aren't infinite, the lower first.
         bounds: List<Datum>,
