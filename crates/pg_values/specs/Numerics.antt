@@ -13,6 +13,7 @@ abbrev pub top : (weight : ℤ) → (n : ℕ) → ℕ
 top (pos w) n = max w (n - 1)
 top (negsuc w) n = n - 1
 
+-- the powers by which all are raised
 abbrev pub shift : (weight : ℤ) → (n : ℕ) → ℕ
 shift (pos w) n = n - 1 - w
 shift (negsuc w) n = n + w
@@ -22,11 +23,12 @@ abbrev pub digits_value : ℕ → List ℕ → ℕ
 digits_value power [] = 0
 digits_value power (digit ∷ digits) = digit * 10000 ^ power + digits_value (power - 1) digits
 
--- no zero digit stands at the front, or at the end
+-- the first digit, if there is one, isn't zero
 abbrev pub HasFirst : List ℕ → Type 0
 HasFirst [] = Unit {0}
 HasFirst (x ∷ xs) = x ≢ 0
 
+-- the last digit, if there is one, isn't zero
 abbrev pub HasLast : List ℕ → Type 0
 HasLast [] = Unit {0}
 HasLast (x ∷ []) = x ≢ 0
@@ -48,13 +50,15 @@ pub record IsNumericOf (plain : Bool) (sign scale : ℕ) (weight : ℤ) (digits 
   pub first : IsTrue plain → HasFirst digits
   pub last : IsTrue plain → HasLast digits
 
--- the signs of plus, minus and NaN
+-- the sign of a number that isn't below zero
 abbrev pub plus : ℕ
 plus = 0
 
+-- of one that is
 abbrev pub minus : ℕ
 minus = 16384
 
+-- of NaN
 abbrev pub not_a_number : ℕ
 not_a_number = 49152
 

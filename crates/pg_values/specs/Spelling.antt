@@ -27,11 +27,12 @@ SpellsScalar plain oid v bytes =
 
 -- ---- arrays (array_send)
 
--- how many items an array of these dimensions has: the product of the lengths, none where there is no dimension
+-- the product of the dimensions' lengths
 abbrev pub product : List Dim → ℕ
 product [] = 1
 product (dim ∷ dims) = unsigned_abs dim.len * product dims
 
+-- how many items an array of these dimensions has: that product, none where there is no dimension
 abbrev pub count_of : List Dim → ℕ
 count_of [] = 0
 count_of (dim ∷ dims) = product (dim ∷ dims)
@@ -42,6 +43,7 @@ pub record IsDim (dim : Dim) : Type 0 where
   pub len : FitsSigned w32 dim.len
   pub lower : FitsSigned w32 dim.lower
 
+-- a dimension's bytes: its length and its lower bound
 abbrev pub dim_bytes : Dim → List ℕ
 dim_bytes dim = i32_bytes dim.len ++ i32_bytes dim.lower
 
@@ -96,9 +98,11 @@ bound_by false true inclusive = Infinite
 bound_by false false true = Inclusive
 bound_by false false false = Exclusive
 
+-- the lower bound that flags say
 abbrev pub lower_by : ℕ → Bound
 lower_by flags = bound_by (has_flag 1 flags) (has_flag 8 flags) (has_flag 2 flags)
 
+-- the upper bound that flags say
 abbrev pub upper_by : ℕ → Bound
 upper_by flags = bound_by (has_flag 1 flags) (has_flag 16 flags) (has_flag 4 flags)
 
@@ -114,11 +118,13 @@ lower_flags Infinite = 8
 lower_flags Inclusive = 2
 lower_flags Exclusive = 0
 
+-- the flags of an upper bound
 abbrev pub upper_flags : Bound → ℕ
 upper_flags Infinite = 16
 upper_flags Inclusive = 4
 upper_flags Exclusive = 0
 
+-- the flags of a range that is empty, or has these bounds
 abbrev pub range_flags : (empty : Bool) → (lower upper : Bound) → ℕ
 range_flags true lower upper = 1
 range_flags false lower upper = lower_flags lower + upper_flags upper
