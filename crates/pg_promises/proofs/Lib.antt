@@ -4,3 +4,5 @@ pub mod WorkedPlans
 pub mod WorkedThree
 pub mod WorkedRefused
 pub mod Required
+pub mod Strings
+pub mod WorkedStrings

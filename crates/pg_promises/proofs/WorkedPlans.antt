@@ -7,12 +7,12 @@ use Rattle.pg_spec.specs.Startup.{Done, used_of}
 use Rattle.std.specs.Str.{is_utf8, chars}
 use lib.Utf8.{encode}
 use Rattle.pg_spec.specs.Settings.{only_user}
-use Rattle.pg_promises.specs.ConnectionStrings.{Means}
 use Rattle.pg_promises.specs.Examples.{asked, asked_so, good_plan, hasty_plan, with_password, with_password_sent}
 use Rattle.pg_spec.specs.Faults.{Failure, OutOfMemory}
 use Rattle.pg_promises.specs.Promises.{Conforms, EndsWell, IsOneReply, IsValid, MustEndWell, dialogue_over}
 use Rattle.pg_spec.specs.Sent.{turns_given}
 use Rattle.pg_spec.specs.RawMessages.{RawMessage, messages, bytes_left, is_async, is_parameter}
+use Rattle.pg_promises.proofs.WorkedStrings.{means_a}
 
 pub only_first : (P : ℕ → Type 0) → P 0 → (i : ℕ) → i < 1 → P i
 only_first P p zero lt = p
@@ -47,15 +47,12 @@ conforms = conforms_so []
 -- its user is named, and its frame is made
 valid : (sent : List ℕ) → IsValid (asked_so good_plan sent) (only_user (codes "a")) good_plan
 unfolding is_utf8 chars encode
-valid sent = record { user = refl; nonce = refl; frame = refl; no_tls = λ e. cc; no_binding = λ e. cc; limit = omega arith }
+valid sent = record { user = refl; alone = (codes "a", refl); nonce = refl; frame = refl; no_tls = λ e. cc; no_binding = λ e. cc; limit = omega arith }
 
 -- only want of memory may stand in place of a session that must end well
 ends_so : (failure : Failure) → EndsWell (Err failure) → failure ≡ OutOfMemory
 ends_so OutOfMemory ends = refl
 ends_so _ ends = absurd ends
-
-pub means_a : Means (codes "user=a") (only_user (codes "a"))
-means_a = (codes "a", record { some = omega arith; not_long = omega arith; letters = refl }, refl, refl)
 
 pub only_memory : (failure : Failure) (taken : List ℕ) → turns_given taken ≤ 2 → MustEndWell (asked_so good_plan taken) (Err failure) → failure ≡ OutOfMemory
 only_memory failure taken few must =

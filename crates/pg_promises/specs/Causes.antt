@@ -2,10 +2,11 @@
 use Rattle.std.specs.Prelude.{◌≡◌, ◌≢◌, ℕ, ◌+◌, ◌-◌, ◌^◌, ◌≤◌, ◌<◌, ◌⊎◌, take, IsTrue, IsFalse, List, [], ◌∷◌, length, count_by, Some, None, if◌then◌else◌, Result, Ok, Err, IsSome, slice_get, ◌==◌, ⊤}
 use Rattle.std.specs.List.{concat}
 use Rattle.std.specs.Str.{byte}
-use Rattle.pg_promises.specs.ConnectionStrings.{Means}
+use Rattle.pg_config.specs.ConnectionStrings.{ConnectionStringMeans}
+use Rattle.pg_promises.specs.ConnectionStrings.{IsUserAlone, Means}
 use Rattle.pg_spec.specs.Asides.{AsideBreaks, AsideUnreadable, out_of_turn}
 use Rattle.pg_spec.specs.Built.{is_built}
-use Rattle.pg_spec.specs.Faults.{WireFault, BadLength, Cause, Link, Ended, Wire, Fields, NotText, Frame, NoUser, Nonce, NoPassword, NotBuilt, Handshake, Method, Mechanism, BindingRequired, NotAscii, Scram, Syntax, UnknownOption, InvalidValue, Failure, Io, UnexpectedMessage, Tls, Closed, Db, Parse, Encode, Authentication, ConfigParse, Config, Stalled, LimitReached, OutOfMemory}
+use Rattle.pg_spec.specs.Faults.{WireFault, BadLength, Cause, Link, Ended, Wire, Fields, NotText, Frame, NoUser, Nonce, NoPassword, NotBuilt, Handshake, Method, Mechanism, BindingRequired, NotAscii, Scram, Failure, Io, UnexpectedMessage, Tls, Closed, Db, Parse, Encode, Authentication, ConfigParse, Config, Stalled, LimitReached, OutOfMemory}
 use Rattle.pg_spec.specs.Faults as faults
 use Rattle.pg_faults.specs.declared.fault.WireFault.TheVariants as wire
 use Rattle.pg_faults.specs.declared.fault.FrameFault.TheVariants as frame
@@ -109,14 +110,6 @@ NoTlsFor cause Direct other t = ⊥
 NoTlsFor cause Postgres (b ∷ []) t = (cause ≡ (if b == byte "S" then Handshake else faults.Refused)) × (t ≡ ssl_request)
 NoTlsFor cause Postgres other t = ⊥
 
--- what is wrong with a connection string
-abbrev pub IsOfText : Cause → Type 0
-IsOfText Syntax = ⊤
-IsOfText (UnknownOption key) = ⊤
-IsOfText (InvalidValue key) = ⊤
-IsOfText NotText = ⊤
-IsOfText other = ⊥
-
 -- the causes that may stand in each failure, also over a link that tells no bytes: of TLS
 abbrev pub IsOfTls : Cause → Type 0
 IsOfTls faults.Refused = ⊤
@@ -141,9 +134,11 @@ IsOfLogin (Scram scram.OutOfMemory) = ⊥
 IsOfLogin (Scram fault) = ⊤
 IsOfLogin other = ⊥
 
--- This version reads a connection string of one form only, and a nonce that is in form.
-abbrev pub IsNotBuilt : Call → Type 0
-IsNotBuilt call = (WithSettings call (λ s. ⊤) → ⊥) ⊎ IsFalse (is_nonce call.nonce)
+-- The string names a user and says more that a startup reads, and the nonce is in form. This version starts up
+-- with a user alone.
+pub record IsNotBuilt (call : Call) : Type 0 where
+  pub settings : WithSettings call (λ s. IsSome s.user × (IsUserAlone s → ⊥))
+  pub nonce : IsTrue (is_nonce call.nonce)
 
 -- the startup's next message is another
 pub record AsksMore (call : Call) (s : Settings) (g : List ℕ) : Type 0 where
@@ -155,7 +150,7 @@ pub record AsksMore (call : Call) (s : Settings) (g : List ℕ) : Type 0 where
 
 -- the cause of each failure; no other comes
 abbrev pub HasCause : Call → Failure → Type 0
-HasCause call (ConfigParse cause) = IsOfText cause × ((s : Settings) → Means call.config s → ⊥)
+HasCause call (ConfigParse cause) = ConnectionStringMeans call.config (Err cause)
 HasCause call (Config NotBuilt) = IsNotBuilt call ⊎ OfDialogue call (λ s g t. NeedsNoTls s × AsksMore call s g)
 HasCause call (Config NoUser) = WithSettings call (λ s. s.user ≡ None)
 HasCause call (Config Nonce) = WithSettings call (λ s. IsSome s.user) × IsFalse (is_nonce call.nonce)
@@ -186,3 +181,16 @@ abbrev pub Unless : {R : Type 0} → (Failure → Type 0) → Result R Failure �
 Unless P (Ok report) = ⊥
 Unless P (Err OutOfMemory) = ⊤
 Unless P (Err failure) = P failure
+
+-- this failure or want of memory, over a link that is as it was before
+pub record RefusedFor {R : Type 0} (failure : Failure) (call : Call) (result : Result R Failure) : Type 0 where
+  pub answer : (result ≡ Err failure) ⊎ (result ≡ Err OutOfMemory)
+  pub untouched : call.after ≡ call.before
+
+-- What is refused before any byte, in this order: the string's first fault, no user, a nonce out of form; and so
+-- far settings that say more than a user.
+pub record MustRefuse {R : Type 0} (call : Call) (result : Result R Failure) : Type 0 where
+  pub text : (cause : Cause) → ConnectionStringMeans call.config (Err cause) → RefusedFor (ConfigParse cause) call result
+  pub user : WithSettings call (λ s. s.user ≡ None) → RefusedFor (Config NoUser) call result
+  pub nonce : WithSettings call (λ s. IsSome s.user) → IsFalse (is_nonce call.nonce) → RefusedFor (Config Nonce) call result
+  pub not_built : IsNotBuilt call → RefusedFor (Config NotBuilt) call result

@@ -6,7 +6,7 @@ use Rattle.pg_promises.specs.Causes.{Call, OfDialogue, MustAskForTls, NeedsNoTls
 use Rattle.pg_spec.specs.Passwords.{is_nonce}
 use Rattle.pg_spec.specs.Asides.{is_readable}
 use Rattle.pg_spec.specs.Built.{is_built}
-use Rattle.pg_promises.specs.ConnectionStrings.{Means}
+use Rattle.pg_promises.specs.ConnectionStrings.{IsUserAlone, Means}
 use Rattle.pg_spec.specs.Faults.{Failure, OutOfMemory, Stalled}
 use Rattle.pg_spec.specs.Frames.{startup_frame, query_frame, ssl_request, terminate_frame}
 use Rattle.pg_spec.specs.Links.{Plan}
@@ -22,6 +22,8 @@ use Rattle.pg_spec.specs.Startup.{Startup, Done, startup}
 -- what the caller owes
 pub record IsValid (call : Call) (s : Settings) (plan : Plan) : Type 0 where
   pub user : IsSome s.user
+  -- this version starts up with a user alone
+  pub alone : IsUserAlone s
   pub nonce : IsTrue (is_nonce call.nonce)
   pub frame : IsOk (startup_frame (startup_parameters s))
   pub no_tls : s.ssl_mode ≢ Require

@@ -1,8 +1,9 @@
 //! Laws over the definitions: they show what these mean. Each body does nothing.
 
-ghost use Rattle.std.specs.Prelude.{◌≡◌, ◌+◌, ◌-◌, ◌^◌, ◌<◌, ◌≤◌, ◌∷◌, [], List, ℕ, length, codes, IsTrue, Err};
+ghost use Rattle.std.specs.Prelude.{◌≡◌, ◌+◌, ◌-◌, ◌^◌, ◌<◌, ◌≤◌, ◌∷◌, [], List, ℕ, length, codes, IsTrue, None, Err};
 ghost use Rattle.pg_spec.specs.Examples.{one_row};
-ghost use Rattle.pg_spec.specs.Faults.{Failure, OutOfMemory};
+ghost use Rattle.pg_config.specs.ConnectionStrings.{ConnectionStringMeans};
+ghost use Rattle.pg_spec.specs.Faults.{Failure, OutOfMemory, InvalidValue, Syntax, UnknownOption};
 ghost use Rattle.pg_spec.specs.Frames.{ssl_request};
 ghost use Rattle.pg_spec.specs.RawMessages.{messages};
 ghost use Rattle.pg_spec.specs.ReportText.{report_text};
@@ -10,6 +11,7 @@ ghost use Rattle.pg_spec.specs.Sent.{units, turns_given};
 ghost use Rattle.pg_spec.specs.Settings.{only_user, Direct, Require, Settings};
 ghost use Rattle.pg_spec.specs.Startup.{Done};
 ghost use Rattle.pg_promises.specs.Causes.{Behind, Call, InStartup, IsStalled, OutOfTurn};
+ghost use Rattle.pg_promises.specs.ConnectionStrings.{IsUserAlone, Means};
 ghost use Rattle.pg_promises.specs.EndedWell.{EndedWell, startup_of, replies};
 ghost use Rattle.pg_promises.specs.Examples.{select_one, select_one_sent, select_one_text, two_clients, two_clients_sent, exchanged, asked, good_plan, broken_plan, hasty_plan, with_password, with_password_sent, three_commands, three_sent, early_reply, booked_later, one_for_two, synced_first, notice_left_out, first_value, bad_header, report_skipped, asked_so};
 ghost use Rattle.pg_promises.specs.Promises.{IsFront, IsValid, Conforms, MustEndWell, SentInOrder};
@@ -19,6 +21,19 @@ ghost use Rattle.pg_promises.specs.Promises.{IsFront, IsValid, Conforms, MustEnd
 pub fn counts_of_a_stall()
     ensures { (call : Call) (before after : ℕ) → IsStalled call before after → IsTrue call.before.steady →
         call.before.lulls < 2 ^ 64 - 1 → call.after.quiet < 2 ^ 64 - 1 → (call.after.quiet ≡ after + 1) × (after ≡ before + 1) }
+{}
+
+/// What these connection strings say: a user alone, in both forms and whatever they say of a host and its port; no
+/// user; more than a user; and the first fault.
+pub fn worked_strings()
+    ensures user { Means (codes "user=postgres") (only_user (codes "postgres")) }
+    ensures keys { Means (codes "host=localhost port=5432 user=postgres") (only_user (codes "postgres")) }
+    ensures url { Means (codes "postgres://postgres@localhost:5432") (only_user (codes "postgres")) }
+    ensures no_user { (s : Settings) → Means (codes "host=localhost") s → s.user ≡ None }
+    ensures not_alone { (s : Settings) → Means (codes "postgres://postgres@/x") s → IsUserAlone s → ⊥ }
+    ensures no_value { ConnectionStringMeans (codes "user") (Err Syntax) }
+    ensures unknown_key { ConnectionStringMeans (codes "a=b") (Err (UnknownOption (codes "a"))) }
+    ensures no_port { ConnectionStringMeans (codes "postgres://postgres@localhost:x") (Err (InvalidValue (codes "port"))) }
 {}
 
 /// The session around it meets the main theorem, and its report prints so.

@@ -6,5 +6,5 @@ mod laws;
 
 pub use laws::{
     counts_of_a_stall, what_crosses_where_tls_is_required, worked_plans, worked_refused,
-    worked_session, worked_three, worked_turns,
+    worked_session, worked_strings, worked_three, worked_turns,
 };
