@@ -21,6 +21,7 @@ use Rattle.pg_spec.specs.Faults as faults
 use Rattle.pg_spec.specs.Links.{Plan, added, due_by}
 use Rattle.pg_spec.specs.Messages.{Message}
 use Rattle.pg_promises.specs.Promises.{IsValid, Conforms, EndsWell, IsOneReply}
+use Rattle.pg_promises.proofs.Strings.{means_one, no_fault}
 use Rattle.pg_spec.specs.RawMessages.{RawMessage, messages, bytes_left, has_bad_header, groups, is_async, is_parameter, is_whole_group}
 use Rattle.pg_spec.specs.Sent.{after_startup_frame, asked_for_tls, gives_turn, turns_given}
 use Rattle.pg_spec.specs.Startup.{Startup, Done, More, First, used_of, begun_by, dialogue, startup, session_part, plain_login}
@@ -32,12 +33,6 @@ use Rattle.pg_session.proofs.Complete.Bytes.{IsWhole, IsFrontOf, all-behind, all
 use Rattle.pg_session.proofs.Complete.Groups.{AreReplies, IsAside, are-replies, few-units-whole, groups-behind}
 use Rattle.pg_session.proofs.Complete.Start.{done-later, front-startup, never-refused, used-within, waits-within}
 use Rattle.pg_session.proofs.Crossing.Start.{no-frames}
-
--- a connection string means one thing
-pub means-one : (text : List ℕ) (s : Settings) (user : List ℕ) → Means text s → Means text (only_user user) → s ≡ only_user user
-means-one text s user a b =
-    let same : a.0 ≡ b.0 = ap (drop 5) (sym a.2 ∙ b.2) in
-    a.3 ∙ ap only_user same ∙ sym b.3
 
 ok-of : (r : Result (List ℕ) FrameFault) → IsOk r → (frame : List ℕ) × (r ≡ Ok frame)
 ok-of (Ok frame) is = (frame, refl)
@@ -269,7 +264,7 @@ module _ (call : Call) (user : List ℕ) (plan : Plan) (g t : List ℕ) (means :
   dialogue-says P (s', is, told) =
       let given : added call.before.given call.after.given ≡ Some g = ap (λ o. added o call.after.given) k.none_given ∙ ap (λ o. added (Some []) o) k.tells_given in
       let taken : added call.before.taken call.after.taken ≡ Some t = ap (λ o. added o call.after.taken) k.none_taken ∙ ap (λ o. added (Some []) o) k.tells_taken in
-      subst (λ (x : Settings). P x g t) (means-one call.config s' user is means)
+      subst (λ (x : Settings). P x g t) (means_one call.config s' s is means)
       (subst (λ o. IfSome o (λ t. P s' g t)) taken
       (subst (λ o. IfSome o (λ g. IfSome (added call.before.taken call.after.taken) (λ t. P s' g t))) given told))
 
@@ -298,12 +293,12 @@ module _ (call : Call) (user : List ℕ) (plan : Plan) (g t : List ℕ) (means :
 
   -- a session that fails fails for want of memory
   pub ends-well : (f : Failure) → HasCause call f → EndsWell (Err f)
-  ends-well (faults.ConfigParse cause) h = h.1 s means
-  ends-well (faults.Config faults.NotBuilt) (inl (inl none)) = none (s, means, tt)
-  ends-well (faults.Config faults.NotBuilt) (inl (inr nonce)) = true≢false (sym v.nonce ∙ nonce)
+  ends-well (faults.ConfigParse cause) h = no_fault call.config s cause means h
+  ends-well (faults.Config faults.NotBuilt) (inl more) =
+      let said = more.settings in said.2.1 (user, means_one call.config said.0 s said.1 means)
   ends-well (faults.Config faults.NotBuilt) (inr h) = asks (dialogue-says (λ s g t. NeedsNoTls s × AsksMore call s g) h).1
   ends-well (faults.Config faults.NoUser) h =
-      let none : Some user ≡ None = subst (λ (x : Settings). x.user ≡ None) (means-one call.config h.0 user h.1 means) h.2 in cc
+      let none : Some user ≡ None = subst (λ (x : Settings). x.user ≡ None) (means_one call.config h.0 s h.1 means) h.2 in cc
   ends-well (faults.Config faults.Nonce) h = true≢false (sym v.nonce ∙ h.1)
   ends-well (faults.Config faults.NoPassword) h = refused (faults.Config faults.NoPassword) (dialogue-says _ h)
   ends-well (faults.Config _) h = absurd h

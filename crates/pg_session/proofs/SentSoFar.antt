@@ -10,7 +10,7 @@ use Rattle.std.proofs.lemmas.List.Elements.{All-nil, All-weaker}
 use Rattle.pg_spec.specs.Book as said
 use Rattle.pg_promises.specs.Causes.{Call, OfDialogue}
 use Rattle.pg_promises.specs.ConnectionStrings.{Means}
-use Rattle.pg_spec.specs.Settings.{only_user}
+use Rattle.pg_spec.specs.Settings.{Settings, only_user}
 use Rattle.pg_spec.specs.Frames.{terminate_frame}
 use Rattle.pg_spec.specs.Links.{LinkView}
 use Rattle.pg_promises.specs.Promises.{IsFront, InScriptOrder, SentInOrder}
@@ -218,12 +218,12 @@ sent-stopped call user s before after means h =
           (start-sent call user s.opening.items o.got o.sent s.unsent o.frame o.out),
     )
 
--- where no byte crossed
-pub sent-untouched : (call : Call) (user : List ℕ) → Means call.config (only_user user) → call.after ≡ call.before → OfDialogue call (λ s g t. SentInOrder call s g t)
-sent-untouched call user means same = (
-  only_user user,
+-- where no byte crossed, whatever the settings say
+pub sent-untouched : (call : Call) (s : Settings) → Means call.config s → call.after ≡ call.before → OfDialogue call (λ s g t. SentInOrder call s g t)
+sent-untouched call s means same = (
+  s,
   means,
-  of_grown call.before call.after [] [] (λ g t. SentInOrder call (only_user user) g t) (grew_same call.before.given call.after.given (ap (λ (l : LinkView). l.given) same))
+  of_grown call.before call.after [] [] (λ g t. SentInOrder call s g t) (grew_same call.before.given call.after.given (ap (λ (l : LinkView). l.given) same))
       (grew_same call.before.taken call.after.taken (ap (λ (l : LinkView). l.taken) same))
       (record { book = []; owners = All-nil (λ b. b.stamp.owner < length call.scripts); order = none-order call.scripts; front = inl refl }),
 )

@@ -7,11 +7,12 @@ use Rattle.pg_spec.specs.Settings.{only_user, Settings}
 use Rattle.pg_promises.specs.ConnectionStrings.{Means}
 use Rattle.pg_spec.specs.Faults.{Failure}
 use Rattle.pg_spec.specs.Links.{Plan, Rose, added, due_by}
+use Rattle.pg_promises.proofs.Strings.{means_one}
 use Rattle.pg_promises.specs.Promises.{Conforms, IsValid, MustEndWell, SentInOrder}
 use Rattle.pg_spec.specs.Sent.{turns_given, units}
 use Rattle.pg_wire.specs.LinkCalls.{Continues, Extends, Tells}
 use Rattle.pg_session.specs.Course.{HoldsCourse}
-use Rattle.pg_session.proofs.Complete.{ends-well, means-one}
+use Rattle.pg_session.proofs.Complete.{ends-well}
 use Rattle.pg_session.proofs.SentSoFar.TurnsAsked.{few-turns}
 
 -- what is told holds of what is told
@@ -99,13 +100,13 @@ module _ (call : Call) (plan : Plan) (taken : List ℕ) (before : Tells call.bef
 pub must-end-well : (call : Call) (failure : Failure) → Tells call.before → Tells call.after → Continues call.before call.after →
     (WithSettings call (λ s. Unit {0}) → OfDialogue call (λ s g t. SentInOrder call s g t)) → HasCause call failure → MustEndWell call (Err failure)
 must-end-well call failure before after goes sent cause plan s taken none_given none_taken planned told means valid conforms =
-    let user = means.0 in
-    let is : s ≡ only_user user = means.3 in
+    let user = valid.alone.0 in
+    let is : s ≡ only_user user = valid.alone.1 in
     let as-user : Means call.config (only_user user) = subst (λ (x : Settings). Means call.config x) is means in
     let calm = neither plan.is_troubled plan.ends conforms.untroubled in
     let crossed = of-bytes call plan taken before after goes none_given none_taken planned told calm.0 calm.1 (λ s g t. SentInOrder call s g t) (sent (s, means, tt)) in
     let given = all-given call plan taken before after goes none_given none_taken planned told calm.0 calm.1 in
-    let in-order : SentInOrder call (only_user user) given.0 taken = subst (λ (x : Settings). SentInOrder call x given.0 taken) (means-one call.config crossed.0 user crossed.1 as-user) crossed.2 in
+    let in-order : SentInOrder call (only_user user) given.0 taken = subst (λ (x : Settings). SentInOrder call x given.0 taken) (means_one call.config crossed.0 (only_user user) crossed.1 as-user) crossed.2 in
     ends-well call user plan given.0 taken as-user
     (subst (λ (x : Settings). IsValid call x plan) is valid)
     (subst (λ (x : Settings). Conforms call x plan taken) is conforms)
