@@ -1,6 +1,6 @@
 //! What each case calls.
 
-use crate::values;
+use crate::{many, parameters, values};
 use pg_cases::words::{at, text_at};
 use std::alloc::{AllocError, Global};
 
@@ -15,6 +15,8 @@ pub(crate) fn tell(alloc: Global, words: &[Vec<u8>], out: &mut String) -> Result
             at(words, 3),
             out,
         ),
+        "parameter" => parameters::tell(alloc, words, out),
+        "many" => many::tell(alloc, words, out),
         "size" => values::tell_size(out),
         _ => out.push_str(" no such case"),
     }

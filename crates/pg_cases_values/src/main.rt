@@ -2,6 +2,8 @@
 #![tactic(auto)]
 
 mod case;
+mod many;
+mod parameters;
 mod types;
 mod values;
 

@@ -18,7 +18,7 @@ fn digit(c: u8) -> u8 {
 }
 
 /// The bytes that are written in hexadecimal.
-fn bytes_of(alloc: Global, text: &[u8]) -> Result<Vec<u8>, AllocError> {
+pub(crate) fn bytes_of(alloc: Global, text: &[u8]) -> Result<Vec<u8>, AllocError> {
     let mut bytes = Vec::new(alloc);
     let mut high = None;
     for &c in text {
@@ -43,7 +43,7 @@ fn tell_hex(bytes: &[u8], out: &mut String) -> Result<(), AllocError> {
 }
 
 /// What was written: `same` where it is the bytes that the value was read from.
-fn tell_written(
+pub(crate) fn tell_written(
     answer: Result<IsNull, ValueFault>,
     bytes: &[u8],
     raw: Option<&[u8]>,
@@ -90,7 +90,7 @@ fn tell_read(
 }
 
 /// The type that words say.
-fn typed(alloc: Global, words: &str) -> Result<Type, AllocError> {
+pub(crate) fn typed(alloc: Global, words: &str) -> Result<Type, AllocError> {
     match type_of(alloc, words) {
         Ok(ty) => Ok(ty),
         Err(OutOfMemory) => Err(AllocError),
