@@ -1,5 +1,5 @@
 -- A session that must end well does so, and so does the program that plays it.
-use Rattle.std.proofs.Common.{◌≡◌, ◌≤◌, ◌+◌, ◌⊎◌, ℕ, inl, inr, List, [], length, Option, Some, None, Result, Ok, Err, IfErr, refl, ap, subst, arith}
+use Rattle.std.proofs.Common.{◌≡◌, ◌≤◌, ◌+◌, ◌⊎◌, ℕ, inl, inr, List, [], length, Option, Some, None, Result, Ok, Err, IfErr, refl, ap, subst, ◌∙◌, arith}
 use Rattle.std.specs.Prelude.{IfSome}
 use Rattle.pg_promises.specs.Causes.{Call, HasCause}
 use Rattle.pg_spec.specs.Faults.{Failure, OutOfMemory}
@@ -8,7 +8,8 @@ use Rattle.pg_promises.specs.Promises.{Conforms, EndsWell, IsValid, MustEndWell,
 use Rattle.pg_spec.specs.ReportText.{report_text}
 use Rattle.pg_spec.specs.Sent.{turns_given}
 use Rattle.pg_spec.specs.SessionText.{SessionText, IsSessionText}
-use Rattle.pg_spec.specs.Settings.{Settings}
+use Rattle.pg_spec.specs.Settings.{Settings, only_user}
+use Rattle.pg_promises.proofs.Strings.{means_one}
 use Rattle.pg_wire.specs.LinkCalls.{Continues, Tells}
 use Rattle.pg_wire.specs.Streams.{SinkView}
 use Rattle.pg_faults.specs.declared.error.Error.{Error}
@@ -30,7 +31,7 @@ must_all call (Err e) before after goes sent causes = must-end-well call e befor
 
 -- a call that ended elsewhere was asked the same
 same_valid : (text : SessionText) (a b : LinkView) (s : Settings) (plan : Plan) → IsValid (call_of text a) s plan → IsValid (call_of text b) s plan
-same_valid text a b s plan v = record { user = v.user; nonce = v.nonce; frame = v.frame; no_tls = v.no_tls; no_binding = v.no_binding; limit = v.limit }
+same_valid text a b s plan v = record { user = v.user; alone = v.alone; nonce = v.nonce; frame = v.frame; no_tls = v.no_tls; no_binding = v.no_binding; limit = v.limit }
 
 same_conforms : (text : SessionText) (a b : LinkView) (s : Settings) (plan : Plan) (taken : List ℕ) → Conforms (call_of text a) s plan taken → Conforms (call_of text b) s plan taken
 same_conforms text a b s plan taken c = record {
@@ -58,12 +59,13 @@ few_turns text result failure p is made =
     let call = call_of text p.after in
     let sent : SendsInOrder call (Err failure) = subst (SendsInOrder call) is p.session.sent in
     let crossed = sent (made.settings, made.means, tt) in
-    let user = crossed.1.0 in
+    let user = made.valid.alone.0 in
+    let is_user : crossed.0 ≡ only_user user = means_one text.config crossed.0 made.settings crossed.1 made.means ∙ made.valid.alone.1 in
     let gave : added (Some []) p.after.given ≡ Some p.given = ap (λ o. added (Some []) o) p.told_given in
     let took : added (Some []) p.after.taken ≡ Some p.taken = ap (λ o. added (Some []) o) p.told_taken in
     let t = of-some (added (Some []) p.after.taken) p.taken (λ t. SentInOrder call crossed.0 p.given t) took
     (of-some (added (Some []) p.after.given) p.given (λ g. IfSome (added (Some []) p.after.taken) (λ t. SentInOrder call crossed.0 g t)) gave crossed.2) in
-    (few-turns call user p.given p.taken (subst (λ (x : Settings). SentInOrder call x p.given p.taken) crossed.1.3 t)).requests
+    (few-turns call user p.given p.taken (subst (λ (x : Settings). SentInOrder call x p.given p.taken) is_user t)).requests
 
 ends_well : (text : SessionText) (result : SessionResult) (failure : Failure) → IsPlayed text result → result ≡ Err failure → IsWellMade text → EndsWell (Err failure)
 ends_well text result failure p is made =

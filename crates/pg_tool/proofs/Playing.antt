@@ -73,9 +73,9 @@ was_played : (config nonce turns : List ℕ) (s : Session) (m : Memory) (r : Res
 was_played config nonce turns s m (Err e) new config_is nonce_is turns_is played = tt
 was_played config nonce turns s m (Ok told) new config_is nonce_is turns_is played =
     let named : HasPlayed played.0 default_nonce s.scripts turns (link_of s.link) (link_of m) told =
-        subst (λ (v : List ℕ). HasPlayed played.0 v s.scripts turns (link_of s.link) (link_of m) told) (nonce_is ∙ new.nonce) played.2 in
+    subst (λ (v : List ℕ). HasPlayed played.0 v s.scripts turns (link_of s.link) (link_of m) told) (nonce_is ∙ new.nonce) played.2 in
     let turned : HasPlayed played.0 default_nonce s.scripts s.turns (link_of s.link) (link_of m) told =
-        subst (λ (v : List ℕ). HasPlayed played.0 default_nonce s.scripts v (link_of s.link) (link_of m) told) turns_is named in (
+    subst (λ (v : List ℕ). HasPlayed played.0 default_nonce s.scripts v (link_of s.link) (link_of m) told) turns_is named in (
       played.0,
       subst (λ (v : List ℕ). Means v (only_user played.0)) config_is played.1,
       s.scripts,

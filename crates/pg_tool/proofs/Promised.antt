@@ -1,13 +1,19 @@
--- What `run_session` promises, where it refuses what isn't built and where it plays.
-use Rattle.std.proofs.Common.{◌≡◌, ◌<◌, ℕ, List, length, true, Option, Some, None, IfSome, Result, Ok, Err, IfOk, IfErr, inl, inr, refl, ◌∙◌, arith}
-use Rattle.std.specs.Prelude.{OnOk}
+-- What `run_session` promises, where it refuses what it was asked and where it plays.
+use Rattle.std.proofs.Common.{◌≡◌, ◌<◌, ℕ, List, length, true, Option, Some, None, IfSome, Result, Ok, Err, IfOk, IfErr, inl, inr, refl, sym, ap, subst, ◌∙◌, arith}
+use Rattle.std.specs.Prelude.{OnOk, IsSome, IsTrue}
 use Rattle.std.proofs.lemmas.Bool.{true≢false}
 use Rattle.std.proofs.lemmas.List.{length-drop}
-use Rattle.pg_promises.specs.Causes.{Call, HasCause, IsNotBuilt}
+use Rattle.pg_promises.specs.Causes.{Call, HasCause, MustRefuse}
+use Rattle.pg_promises.specs.Promises.{NoneKeptBack}
+use Rattle.pg_promises.proofs.Strings.{means_one, no_fault}
+use Rattle.pg_config.specs.ConnectionStrings.{ConnectionStringMeans}
+use Rattle.pg_config.specs.Outcomes.{HasFault}
+use Rattle.pg_config.specs.declared.config.Config.{Config as Settled}
+use Rattle.pg_config.proofs.OneMeaning.{meaning_one}
 use Rattle.pg_spec.specs.Passwords.{is_nonce}
 use Rattle.pg_promises.specs.ConnectionStrings.{Means}
-use Rattle.pg_spec.specs.Settings.{only_user}
-use Rattle.pg_spec.specs.Faults.{Config, NotBuilt}
+use Rattle.pg_spec.specs.Settings.{Settings, only_user}
+use Rattle.pg_spec.specs.Faults.{Cause, ConfigParse, OutOfMemory}
 use Rattle.pg_spec.specs.Links.{LinkView, added}
 use Rattle.pg_spec.specs.Report as said
 use Rattle.pg_wire.specs.LinkCalls.{Continues, Tells}
@@ -19,10 +25,11 @@ use Rattle.pg_text.specs.Views.{report_of}
 use Rattle.pg_text.specs.declared.command.Command.{Command}
 use Rattle.pg_text.specs.declared.report.Report.{Report}
 use Rattle.pg_session.proofs.Closing.{is-closed}
+use Rattle.pg_session.proofs.SentSoFar.{sent-untouched}
 use Rattle.pg_session.specs.WholeSession.{IsClosed}
-use Rattle.pg_tool.specs.Asked.{call_of, ConfigIsNotBuilt}
+use Rattle.pg_tool.specs.Asked.{call_of, ConfigIsNotBuilt, StartsAs}
 use Rattle.pg_tool.specs.Fails.{PlaysWithin, SessionFails}
-use Rattle.pg_tool.specs.SessionContract.{IsEndedWell, IsRun, NoOtherConfig, SendsInOrder, SessionContract, result_of}
+use Rattle.pg_tool.specs.SessionContract.{IsEndedWell, IsRun, MissesNoPassword, SendsInOrder, SessionContract, result_of}
 use Rattle.pg_tool.proofs.Causing.{caused}
 use Rattle.pg_tool.proofs.Completing.{must_all}
 use Rattle.pg_tool.proofs.Following.{continues_same}
@@ -30,7 +37,7 @@ use Rattle.pg_tool.proofs.Limiting.{ended_within, holds_all, keeps_limit}
 use Rattle.pg_tool.proofs.Played.{ended_well, has_run}
 use Rattle.pg_tool.proofs.Sending.{asks_all, leaves_all, sends_all}
 
--- ---- what was asked isn't built
+-- ---- what was asked is refused
 
 -- a link that is left alone gave nothing
 none_given : (given taken : Option (List ℕ)) (limit : ℕ) (P : List ℕ → Type 0) →
@@ -39,26 +46,117 @@ none_given None taken limit P = tt
 none_given (Some g) None limit P = tt
 none_given (Some g) (Some t) limit P = λ more. absurd (omega (arith, more, length-drop (length g) g))
 
-pub refuses : (config nonce : List ℕ) (scripts : List (List Command)) (turns : List ℕ) (limit : ℕ) (link : LinkView) → Tells link →
-    IsNotBuilt (call_of config nonce scripts turns limit link link) →
-    SendsInOrder (call_of config nonce scripts turns limit link link) (Err (Config NotBuilt)) →
-    SessionContract (call_of config nonce scripts turns limit link link) (Err (Config NotBuilt))
-refuses config nonce scripts turns limit link tells asks sent =
+-- an error that comes before any byte
+abbrev IsEarly : Error → Type 0
+IsEarly (error.ConfigParse c) = Unit {0}
+IsEarly (error.Config cause.NoPassword) = ⊥
+IsEarly (error.Config c) = Unit {0}
+IsEarly error.OutOfMemory = Unit {0}
+IsEarly _ = ⊥
+
+early_password : (e : Error) → IsEarly e → MissesNoPassword e
+early_password (error.Config cause.NoPassword) early = absurd early
+early_password _ early = tt
+
+early_kept : (call : Call) (e : Error) → IsEarly e → NoneKeptBack call (Err e)
+early_kept call (error.Stalled a b) early = absurd early
+early_kept call _ early = tt
+
+-- it is answered over a link that is left alone, where it has its cause and all that must be refused is
+pub refuses : (config nonce : List ℕ) (scripts : List (List Command)) (turns : List ℕ) (limit : ℕ) (link : LinkView) (e : Error) → Tells link → IsEarly e →
+    HasCause (call_of config nonce scripts turns limit link link) e → MustRefuse {R = said.Report} (call_of config nonce scripts turns limit link link) (Err e) →
+    SessionContract (call_of config nonce scripts turns limit link link) (Err e)
+refuses config nonce scripts turns limit link e tells early has must =
     let call = call_of config nonce scripts turns limit link link in
+    let sent : SendsInOrder call (Err e) = λ w. sent-untouched call w.0 w.1 refl in
     record {
       ended_well = tt;
       has_run = tt;
       closed = tt;
       stays_open = inl refl;
       link = continues_same link;
-      cause = inl asks;
-      config = tt;
+      cause = has;
+      no_password = early_password e early;
       limit = none_given link.given link.taken limit _;
       sent = sent;
-      none_kept_back = tt;
-      must_end_well = must_all call (Err (error.Config cause.NotBuilt)) tells tells (continues_same link) sent (inl asks);
-      refused = λ why. (refl, refl);
+      none_kept_back = early_kept call e early;
+      must_end_well = must_all call (Err e) tells tells (continues_same link) sent has;
+      must_refuse = must;
     }
+
+-- ---- the connection string has a fault, or memory lacked for its settings
+
+-- memory lacked, and nothing crossed
+lacks : {R : Type 0} (config nonce : List ℕ) (scripts : List (List Command)) (turns : List ℕ) (limit : ℕ) (link : LinkView) →
+    MustRefuse {R = R} (call_of config nonce scripts turns limit link link) (Err OutOfMemory)
+lacks config nonce scripts turns limit link = record {
+  text = λ c fault. record { answer = inr refl; untouched = refl };
+  user = λ w. record { answer = inr refl; untouched = refl };
+  nonce = λ w out. record { answer = inr refl; untouched = refl };
+  not_built = λ w. record { answer = inr refl; untouched = refl };
+}
+
+same_fault : (a b : Result Settled Cause) (c d : Cause) → a ≡ Err c → b ≡ Err d → a ≡ b → c ≡ d
+same_fault a b c d e f same = cc
+
+-- a fault is the only thing that a text with a fault says
+faulty : {R : Type 0} (config nonce : List ℕ) (scripts : List (List Command)) (turns : List ℕ) (limit : ℕ) (link : LinkView) (c : Cause) →
+    ConnectionStringMeans config (Err c) → MustRefuse {R = R} (call_of config nonce scripts turns limit link link) (Err (ConfigParse c))
+faulty config nonce scripts turns limit link c fault = record {
+  text = λ d other. record {
+    answer = inl (ap (λ x. Err (ConfigParse x)) (same_fault (Err c) (Err d) c d refl refl (meaning_one config (Err c) (Err d) fault other)));
+    untouched = refl;
+  };
+  user = λ w. absurd (no_fault config w.0 c w.1 fault);
+  nonce = λ w out. absurd (no_fault config w.0 c w.1 fault);
+  not_built = λ w. absurd (no_fault config w.settings.0 c w.settings.1 fault);
+}
+
+-- by what reading the settings answered
+pub text_refused : (config nonce : List ℕ) (scripts : List (List Command)) (turns : List ℕ) (limit : ℕ) (link : LinkView) (said : Result Settled Cause) (e : Error) →
+    Tells link → ConnectionStringMeans config said → HasFault said e → SessionContract (call_of config nonce scripts turns limit link link) (Err e)
+text_refused config nonce scripts turns limit link said (error.ConfigParse c) tells means is =
+    let fault : ConnectionStringMeans config (Err c) = subst (ConnectionStringMeans config) is means in
+    refuses config nonce scripts turns limit link (error.ConfigParse c) tells tt fault (faulty config nonce scripts turns limit link c fault)
+text_refused config nonce scripts turns limit link said error.OutOfMemory tells means is =
+    refuses config nonce scripts turns limit link error.OutOfMemory tells tt tt (lacks config nonce scripts turns limit link)
+text_refused config nonce scripts turns limit link said _ tells means is = absurd is
+
+-- ---- the settings or the nonce are refused
+
+none_some : (o : Option (List ℕ)) → o ≡ None → IsSome o → ⊥
+none_some None none some = absurd cc
+none_some (Some user) none some = cc
+
+-- of all settings that the text says the user is that of these
+user_of_said : (config : List ℕ) (s t : Settings) → Means config s → Means config t → s.user ≡ t.user
+user_of_said config s t a b = ap (λ (x : Settings). x.user) (means_one config s t a b)
+
+pub start_refused : (config nonce : List ℕ) (scripts : List (List Command)) (turns : List ℕ) (limit : ℕ) (link : LinkView) (s : Settings) (c : Cause) →
+    Tells link → Means config s → StartsAs s nonce (Err c) → SessionContract (call_of config nonce scripts turns limit link link) (Err (error.Config c))
+start_refused config nonce scripts turns limit link s cause.NoUser tells means none =
+    refuses config nonce scripts turns limit link (error.Config cause.NoUser) tells tt (s, means, none) (record {
+      text = λ d fault. absurd (no_fault config s d means fault);
+      user = λ w. record { answer = inl refl; untouched = refl };
+      nonce = λ w out. absurd (none_some w.0.user (user_of_said config w.0 s w.1 means ∙ none) w.2);
+      not_built = λ w. absurd (none_some w.settings.0.user (user_of_said config w.settings.0 s w.settings.1 means ∙ none) w.settings.2.0);
+    })
+start_refused config nonce scripts turns limit link s cause.Nonce tells means why =
+    refuses config nonce scripts turns limit link (error.Config cause.Nonce) tells tt ((s, means, why.0), why.1) (record {
+      text = λ d fault. absurd (no_fault config s d means fault);
+      user = λ w. absurd (none_some s.user (user_of_said config s w.0 means w.1 ∙ w.2) why.0);
+      nonce = λ w out. record { answer = inl refl; untouched = refl };
+      not_built = λ w. absurd (true≢false (sym w.nonce ∙ why.1));
+    })
+start_refused config nonce scripts turns limit link s cause.NotBuilt tells means why =
+    refuses config nonce scripts turns limit link (error.Config cause.NotBuilt) tells tt
+    (inl (record { settings = (s, means, (why.0, why.2)); nonce = why.1 })) (record {
+      text = λ d fault. absurd (no_fault config s d means fault);
+      user = λ w. absurd (none_some s.user (user_of_said config s w.0 means w.1 ∙ w.2) why.0);
+      nonce = λ w out. absurd (true≢false (sym why.1 ∙ out));
+      not_built = λ w. record { answer = inl refl; untouched = refl };
+    })
+start_refused config nonce scripts turns limit link s _ tells means why = absurd why
 
 -- ---- it was played
 
@@ -77,17 +175,16 @@ closed_so : (r : Result Report Error) (P : Report → Type 0) (Q : Type 0) → (
 closed_so (Ok report) P Q f h = f report h
 closed_so (Err e) P Q f h = tt
 
-no_other : (e : Error) → ConfigIsNotBuilt e → NoOtherConfig e
-no_other (error.Config cause.NotBuilt) is = tt
-no_other (error.Config _) is = absurd is
-no_other _ is = tt
+not_missed : (e : Error) → ConfigIsNotBuilt e → MissesNoPassword e
+not_missed (error.Config cause.NoPassword) is = absurd is
+not_missed _ is = tt
 
-no_other_config : (r : Result Report Error) → IfErr r ConfigIsNotBuilt → IfErr (result_of r) NoOtherConfig
-no_other_config (Ok report) h = tt
-no_other_config (Err e) h = no_other e h
+none_missed : (r : Result Report Error) → IfErr r ConfigIsNotBuilt → IfErr (result_of r) MissesNoPassword
+none_missed (Ok report) h = tt
+none_missed (Err e) h = not_missed e h
 
 pub plays : (config user nonce : List ℕ) (scripts : List (List Command)) (turns : List ℕ) (limit : ℕ) (before after : LinkView) (r : Result Report Error) →
-    Means config (only_user user) → true ≡ is_nonce nonce → Tells before → Tells after → Continues before after →
+    Means config (only_user user) → IsTrue (is_nonce nonce) → Tells before → Tells after → Continues before after →
     IfErr r (SessionFails user nonce scripts limit before after) → IfOk r (PlaysWithin user nonce scripts turns limit before after) →
     IfErr r ConfigIsNotBuilt → OnOk r (StaysCalm before after) →
     SessionContract (call_of config nonce scripts turns limit before after) (result_of r)
@@ -102,14 +199,16 @@ plays config user nonce scripts turns limit before after r means in_form told te
       stays_open = leaves_all user nonce scripts limit before after r fails;
       link = link;
       cause = of_error call r causes;
-      config = no_other_config r config_is;
+      no_password = none_missed r config_is;
       limit = keeps_limit call r (ended_within user nonce scripts turns limit before after r played)
           (holds_all config user nonce scripts turns limit before after r means fails) causes;
       sent = sent;
       none_kept_back = asks_all config user nonce scripts turns limit before after r means calm fails;
       must_end_well = must_all call r told tells link sent causes;
-      refused = λ why. elim why [
-        | inl none ↦ absurd (none (only_user user, means, tt))
-        | inr other ↦ absurd (true≢false (in_form ∙ other))
-      ];
+      must_refuse = record {
+        text = λ d fault. absurd (no_fault config (only_user user) d means fault);
+        user = λ w. absurd (none_some (Some user) (user_of_said config (only_user user) w.0 means w.1 ∙ w.2) refl);
+        nonce = λ w out. absurd (true≢false (sym in_form ∙ out));
+        not_built = λ w. absurd (w.settings.2.1 (user, means_one config w.settings.0 (only_user user) w.settings.1 means));
+      };
     }

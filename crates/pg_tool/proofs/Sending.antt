@@ -40,7 +40,7 @@ sent_by config user nonce scripts turns limit before after e means (inl lacks) =
   | inl opened ↦ sent-opened (call_of config nonce scripts turns limit before after) user means opened
   | inr over ↦ sent-over (call_of config nonce scripts turns limit before after) user scripts means refl over
 ]
-sent_by config user nonce scripts turns limit before after e means (inr (inl made)) = sent-untouched (call_of config nonce scripts turns limit before after) user means made.1
+sent_by config user nonce scripts turns limit before after e means (inr (inl made)) = sent-untouched (call_of config nonce scripts turns limit before after) (only_user user) means made.1
 sent_by config user nonce scripts turns limit before after e means (inr (inr (inl start))) =
     start_sent (call_of config nonce scripts turns limit before after) user start.startup e means start.ends
 sent_by config user nonce scripts turns limit before after e means (inr (inr (inr later))) =

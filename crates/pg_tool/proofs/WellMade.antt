@@ -9,12 +9,13 @@ use Rattle.pg_promises.specs.Examples.{good_plan, good_text}
 use Rattle.pg_promises.specs.Promises.{Conforms, IsValid, requests_in}
 use Rattle.pg_spec.specs.RawMessages.{bytes_left, is_async, is_parameter}
 use Rattle.pg_spec.specs.Sent.{turns_given}
-use Rattle.pg_promises.proofs.WorkedPlans.{means_a, only_first, replies_all}
+use Rattle.pg_promises.proofs.WorkedPlans.{only_first, replies_all}
+use Rattle.pg_promises.proofs.WorkedStrings.{means_a}
 use Rattle.pg_tool.specs.RunContract.{IsWellMade, call_of, new_link, plan_of}
 
 valid : IsValid (call_of good_text (new_link good_text)) (only_user (codes "a")) (plan_of good_text)
 unfolding is_utf8 chars encode
-valid = record { user = refl; nonce = refl; frame = refl; no_tls = λ e. cc; no_binding = λ e. cc; limit = omega arith }
+valid = record { user = refl; alone = (codes "a", refl); nonce = refl; frame = refl; no_tls = λ e. cc; no_binding = λ e. cc; limit = omega arith }
 
 conforms : (taken : List ℕ) → turns_given taken ≤ 2 → Conforms (call_of good_text (new_link good_text)) (only_user (codes "a")) (plan_of good_text) taken
 unfolding is_utf8 chars encode

@@ -1,56 +1,51 @@
-//! What this version can be asked for: a connection string of one form, and a nonce in form.
+//! What a session can be asked for: settings that say a user alone, and a nonce in form.
 
-ghost use Rattle.std.specs.Prelude.{◌≡◌, ◌&&◌, ◌↔◌, IsTrue, nat_le, option_map};
+ghost use Rattle.std.specs.Prelude.{◌≡◌, ◌&&◌, MatchResult, Ok, Err};
 ghost use Rattle.std.specs.List.{list_all};
-ghost use Rattle.std.specs.Str.{byte};
+ghost use Rattle.pg_config.specs.Views.{settings_of};
 ghost use Rattle.pg_spec.specs.Passwords.{is_nonce, is_nonce_byte};
-ghost use Rattle.pg_promises.specs.ConnectionStrings.{IsPlainName};
-ghost use Rattle.pg_tool.specs.Asked.{NamesUser};
+ghost use Rattle.pg_tool.specs.Asked.{StartsAs, says_user_alone};
 
-/// The longest user, in bytes.
-const MOST_LETTERS: usize = 63;
+use pg_config::{ChannelBinding, Config, SslMode, SslNegotiation};
+use pg_errors::Cause;
 
 /// The length of a nonce, in bytes.
 const NONCE_LENGTH: usize = 24;
 
-/// The user of a connection string that is `user=` and one to 63 lower-case ASCII letters.
-pub fn user_of(config: &str) -> Option<&str>
-    ensures { NamesUser config.now (option_map (λ name. name.now) result) }
+/// The user as whom a session starts up. NoUser comes exactly where none is set, else Nonce exactly where the nonce isn't
+/// in form, else NotBuilt exactly where the settings say more that a startup reads.
+pub fn starting_user<'a>(settings: &'a Config, nonce: &[u8]) -> Result<&'a str, Cause>
+    ensures { MatchResult result
+        (λ user. StartsAs (settings_of settings.now) nonce.now (Ok user.now))
+        (λ cause. StartsAs (settings_of settings.now) nonce.now (Err cause)) }
 {
-    let Some(name) = config.strip_prefix("user=") else {
-        return None;
+    let Some(user) = settings.get_user() else {
+        return Err(Cause::NoUser);
     };
-    if is_plain_name(name.as_bytes()) {
-        return Some(name);
+    if !is_in_form(nonce) {
+        return Err(Cause::Nonce);
     }
-    None
-}
-
-/// One to 63 lower-case ASCII letters.
-fn is_plain_name(name: &[u8]) -> bool
-    ensures { IsTrue result ↔ IsPlainName name.now }
-{
-    if name.is_empty() || name.len() > MOST_LETTERS {
-        return false;
+    if !is_user_alone(settings) {
+        return Err(Cause::NotBuilt);
     }
-    are_letters(name)
+    Ok(user)
 }
 
-/// Each byte is a lower-case ASCII letter.
-fn are_letters(name: &[u8]) -> bool
-    ensures { result ≡ list_all (λ c. nat_le (byte "a") c && nat_le c (byte "z")) name.now }
+/// Nothing else than the user is set of what a startup reads.
+fn is_user_alone(settings: &Config) -> bool
+    ensures { result ≡ says_user_alone (settings_of settings.now) }
 {
-    name.iter().all(|letter| is_letter(*letter))
-}
-
-fn is_letter(letter: u8) -> bool
-    ensures { result ≡ (nat_le (byte "a") letter && nat_le letter (byte "z")) }
-{
-    letter >= b'a' && letter <= b'z'
+    settings.get_password().is_none()
+        && settings.get_dbname().is_none()
+        && settings.get_options().is_none()
+        && settings.get_application_name().is_none()
+        && matches!(settings.get_ssl_mode(), SslMode::Prefer)
+        && matches!(settings.get_ssl_negotiation(), SslNegotiation::Postgres)
+        && matches!(settings.get_channel_binding(), ChannelBinding::Prefer)
 }
 
 /// The nonce has 24 bytes from 0x21 to 0x7e, none of them a comma.
-pub fn is_in_form(nonce: &[u8]) -> bool
+fn is_in_form(nonce: &[u8]) -> bool
     ensures { result ≡ is_nonce nonce.now }
 {
     if nonce.len() != NONCE_LENGTH {

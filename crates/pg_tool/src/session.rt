@@ -10,11 +10,12 @@ ghost use Rattle.pg_tool.specs.SessionContract.{SessionContract, result_of};
 ghost use Rattle.pg_tool.specs.Fails.{PlaysWithin, SessionFails};
 ghost use Rattle.pg_tool.specs.Asked.{call_of, ConfigIsNotBuilt};
 
-use crate::asked::{is_in_form, user_of};
+use crate::asked::starting_user;
 use crate::opening::open;
 use crate::play::Play;
+use pg_config::Config;
 use pg_connect::Startup;
-use pg_errors::{Cause, Error};
+use pg_errors::Error;
 use pg_text::{Report, Scripts};
 use pg_wire::Link;
 use std::alloc::Global;
@@ -23,9 +24,10 @@ use std::alloc::Global;
 /// number of scripts a handle's, else the connection's), then whole rounds, until the connection is shut
 /// down. `max_bytes` is the most bytes that the link may give.
 ///
-/// Config(NotBuilt) comes before any byte exactly where the connection string isn't `user=` and one to 63
-/// lower-case ASCII letters, or the nonce isn't in form; later only where a message of the startup is
-/// neither AuthenticationOk nor ReadyForQuery. LimitReached comes where the link gave more than
+/// Before any byte come ConfigParse exactly where the connection string has a fault, its first one, else
+/// Config(NoUser) exactly where it names no user, else Config(Nonce) exactly where the nonce isn't in form.
+/// Config(NotBuilt) comes then exactly where the string says more that a startup reads, and later only
+/// where a message of the startup is neither AuthenticationOk nor ReadyForQuery. LimitReached comes where the link gave more than
 /// `max_bytes` bytes, Stalled where two rounds or polls moved nothing, or the link has nothing to wait for.
 /// Over a link that conforms valid input answers Ok, or OutOfMemory.
 pub fn run_session<L: Link>(
@@ -43,13 +45,11 @@ pub fn run_session<L: Link>(
     ensures played { IfOk result (λ report. (user : List ℕ) × Means config.now (only_user user)
         × HasPlayed user nonce.now scripts.now turns.now (L.view link.old) (L.view link.new) report) }
 {
-    let Some(user) = user_of(config) else {
-        return Err(Error::Config(Cause::NotBuilt));
-    };
-    if !is_in_form(nonce) {
-        return Err(Error::Config(Cause::NotBuilt));
+    let settings = Config::from_str(alloc, config)?;
+    match starting_user(&settings, nonce) {
+        Ok(user) => play_as(alloc, user, scripts, turns, max_bytes, link),
+        Err(cause) => Err(Error::Config(cause)),
     }
-    play_as(alloc, user, scripts, turns, max_bytes, link)
 }
 
 /// The session of this user, whose nonce is in form.
