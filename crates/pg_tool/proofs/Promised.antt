@@ -8,6 +8,7 @@ use Rattle.pg_promises.specs.Promises.{NoneKeptBack}
 use Rattle.pg_promises.proofs.Strings.{means_one, no_fault}
 use Rattle.pg_config.specs.ConnectionStrings.{ConnectionStringMeans}
 use Rattle.pg_config.specs.Outcomes.{HasFault}
+use Rattle.pg_config.specs.Views.{settings_of}
 use Rattle.pg_config.specs.declared.config.Config.{Config as Settled}
 use Rattle.pg_config.proofs.OneMeaning.{meaning_one}
 use Rattle.pg_spec.specs.Passwords.{is_nonce}
@@ -122,11 +123,22 @@ text_refused config nonce scripts turns limit link said error.OutOfMemory tells 
     refuses config nonce scripts turns limit link error.OutOfMemory tells tt tt (lacks config nonce scripts turns limit link)
 text_refused config nonce scripts turns limit link said _ tells means is = absurd is
 
+-- and where it was handed on
+pub text_fails : (config nonce : List ℕ) (scripts : List (List Command)) (turns : List ℕ) (limit : ℕ) (link : LinkView) (said : Result Settled Cause) (r : Result Report Error) (told e : Error) →
+    r ≡ Err told → told ≡ e → Tells link → ConnectionStringMeans config said → HasFault said e → SessionContract (call_of config nonce scripts turns limit link link) (result_of r)
+text_fails config nonce scripts turns limit link said r told e is same tells means fault =
+    subst (λ (x : Result Report Error). SessionContract (call_of config nonce scripts turns limit link link) (result_of x)) (sym (is ∙ ap (λ (x : Error). Err x) same))
+    (text_refused config nonce scripts turns limit link said e tells means fault)
+
 -- ---- the settings or the nonce are refused
 
 none_some : (o : Option (List ℕ)) → o ≡ None → IsSome o → ⊥
 none_some None none some = absurd cc
 none_some (Some user) none some = cc
+
+-- the settings that were read are those that the text says
+pub read_so : (config : List ℕ) (said : Result Settled Cause) (c : Settled) → ConnectionStringMeans config said → said ≡ Ok c → Means config (settings_of c)
+read_so config said c means is = (c, subst (ConnectionStringMeans config) is means, refl)
 
 -- of all settings that the text says the user is that of these
 user_of_said : (config : List ℕ) (s t : Settings) → Means config s → Means config t → s.user ≡ t.user
@@ -159,6 +171,10 @@ start_refused config nonce scripts turns limit link s cause.NotBuilt tells means
 start_refused config nonce scripts turns limit link s _ tells means why = absurd why
 
 -- ---- it was played
+
+-- the settings that were read are a user alone
+pub user_so : (config user : List ℕ) (said : Result Settled Cause) (c : Settled) → ConnectionStringMeans config said → said ≡ Ok c → settings_of c ≡ only_user user → Means config (only_user user)
+user_so config user said c means is alone = (c, subst (ConnectionStringMeans config) is means, sym alone)
 
 -- what holds of a report that was answered, in the words of reports
 of_answer : (r : Result Report Error) (P : said.Report → Type 0) → IfOk r (λ report. P (report_of report)) → IfOk (result_of r) P

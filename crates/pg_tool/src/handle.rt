@@ -40,10 +40,10 @@ impl Handle {
     pub(crate) fn answered(&self) -> Result<u32, Error>
         ensures { MatchResult result (λ n. n ≡ length self.now.answers.items) (λ e. e ≡ Error.OutOfMemory) }
     {
-        match u32::try_from(self.answers.len()) {
-            Ok(answered) => Ok(answered),
-            Err(_) => Err(Error::OutOfMemory),
-        }
+        let Ok(answered) = u32::try_from(self.answers.len()) else {
+            return Err(Error::OutOfMemory);
+        };
+        Ok(answered)
     }
 
     /// A turn: the next command of the script begins where none runs, and the one that runs is polled
@@ -62,20 +62,15 @@ impl Handle {
             desk.old (view_of self.old) desk.new (view_of self.new)) }
         ensures error { IfErr result (λ e. e ≡ Error.OutOfMemory) }
     {
-        let stamp = match self.answered() {
-            Ok(command) => Stamp::new(owner, command, turn),
-            Err(error) => return Err(error),
-        };
+        let stamp = Stamp::new(owner, self.answered()?, turn);
         if let Some(state) = self.running.take() {
             return self.poll(alloc, desk, stamp, state, Polling::Waits);
         }
-        match script.get(self.answers.len()) {
-            Some(command) => match begin(alloc, command) {
-                Ok(state) => self.poll(alloc, desk, stamp, state, Polling::Began),
-                Err(error) => Err(error),
-            },
-            None => Ok(Polling::Idle),
-        }
+        let Some(command) = script.get(self.answers.len()) else {
+            return Ok(Polling::Idle);
+        };
+        let state = begin(alloc, command)?;
+        self.poll(alloc, desk, stamp, state, Polling::Began)
     }
 
     /// Polls a command once. Where it waits, `waiting` is what the turn did.
@@ -100,10 +95,8 @@ impl Handle {
                 Ok(waiting)
             }
             Poll::Ready(answer) => {
-                match self.answer(answer) {
-                    Ok(()) => Ok(Polling::Answered),
-                    Err(error) => Err(error),
-                }
+                self.answer(answer)?;
+                Ok(Polling::Answered)
             }
         }
     }
@@ -139,20 +132,15 @@ fn pushed<T: Drop>(values: &mut Vec<T>, value: T) -> Result<(), Error>
     ensures added { OnOk result (values.new.items ≡ values.old.items ++ value ∷ []) }
     ensures error { IfErr result (λ e. e ≡ Error.OutOfMemory) }
 {
-    match values.push(value) {
-        Ok(()) => Ok(()),
-        Err(_) => Err(Error::OutOfMemory),
-    }
+    values.push(value)?;
+    Ok(())
 }
 
 /// Puts a value on the heap.
 fn boxed<T: Drop>(alloc: Global, value: T) -> Result<Box<T>, Error>
     ensures { MatchResult result (λ boxed. boxed.value ≡ value) (λ e. e ≡ Error.OutOfMemory) }
 {
-    match Box::new(alloc, value) {
-        Ok(boxed) => Ok(boxed),
-        Err(_) => Err(Error::OutOfMemory),
-    }
+    Ok(Box::new(alloc, value)?)
 }
 
 /// The state of a command.
@@ -177,9 +165,7 @@ pub(crate) fn new_handles(alloc: Global, count: usize) -> Result<Vec<Handle>, Er
 {
     let mut handles = Vec::new(alloc);
     'handles: while handles.len() < count {
-        if handles.push(Handle::new(alloc)).is_err() {
-            return Err(Error::OutOfMemory);
-        }
+        handles.push(Handle::new(alloc))?;
     }
     Ok(handles)
 }

@@ -68,10 +68,8 @@ pub(crate) fn pause<L: Link>(
     if waited {
         return Err(Error::Stalled { before, after });
     }
-    match wait_for(link, before, after) {
-        Ok(()) => Ok(true),
-        Err(error) => Err(error),
-    }
+    wait_for(link, before, after)?;
+    Ok(true)
 }
 
 /// Polls the startup until it answers. Where a poll moved nothing the link is waited for, and where the
@@ -94,9 +92,6 @@ pub(crate) fn open<L: Link>(startup: &mut Startup, link: &mut L) -> Result<(), E
             Err(error) => return Err(error),
         };
         let after = link.quiet();
-        match pause(link, moved, waited, before, after) {
-            Ok(next) => waited = next,
-            Err(error) => return Err(error),
-        }
+        waited = pause(link, moved, waited, before, after)?;
     }
 }

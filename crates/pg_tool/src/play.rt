@@ -45,10 +45,7 @@ impl Play {
         ensures going { IfOk result IsGoing }
         ensures error { IfErr result (λ e. e ≡ Error.OutOfMemory) }
     {
-        let handles = match new_handles(alloc, scripts.as_slice().len()) {
-            Ok(handles) => handles,
-            Err(error) => return Err(error),
-        };
+        let handles = new_handles(alloc, scripts.as_slice().len())?;
         let mut play = Play {
             hub: Hub::new(alloc, 0, 0),
             streams,
@@ -57,10 +54,8 @@ impl Play {
             trace: Vec::new(alloc),
             asynchronous: Vec::new(alloc),
         };
-        match play.close_if_answered() {
-            Ok(()) => Ok(play),
-            Err(error) => Err(error),
-        }
+        play.close_if_answered()?;
+        Ok(play)
     }
 
     /// Where every command is answered, no request will be booked any more.
@@ -129,10 +124,7 @@ impl Play {
                 Err(error) => return Err(error),
             };
             let after = link.quiet();
-            match pause(link, moved, waited, before, after) {
-                Ok(next) => waited = next,
-                Err(error) => return Err(error),
-            }
+            waited = pause(link, moved, waited, before, after)?;
         }
     }
 
@@ -184,10 +176,8 @@ impl Play {
         if (turn as usize) < scripts.as_slice().len() {
             return self.handle_turn(alloc, scripts, turn);
         }
-        match self.poll_connection(alloc, link) {
-            Ok(moved) => self.mark(turn, moved),
-            Err(error) => Err(error),
-        }
+        let moved = self.poll_connection(alloc, link)?;
+        self.mark(turn, moved)
     }
 
     /// Notes a turn that was made, and passes on what it moved.
@@ -197,10 +187,9 @@ impl Play {
         ensures same { self.new ≡ record self.old { trace = self.new.trace } }
         ensures error { IfErr result (λ e. e ≡ Error.OutOfMemory) }
     {
-        match self.trace.push(TurnMark::new(turn, self.streams.delivered)) {
-            Ok(()) => Ok(moved),
-            Err(_) => Err(Error::OutOfMemory),
-        }
+        self.trace
+            .push(TurnMark::new(turn, self.streams.delivered))?;
+        Ok(moved)
     }
 
     /// How many turns were made, so the place of the next one.
@@ -226,14 +215,9 @@ impl Play {
         let script = script_at(scripts, turn);
         let turns = self.turns_made();
         let _ = self.hub.touched();
-        let polling = match turn_at(&mut self.handles, turn, alloc, &mut self.hub, script, turns) {
-            Ok(polling) => polling,
-            Err(error) => return Err(error),
-        };
-        match self.behind_poll(polling) {
-            Ok(moved) => self.mark(turn, Some(moved)),
-            Err(error) => Err(error),
-        }
+        let polling = turn_at(&mut self.handles, turn, alloc, &mut self.hub, script, turns)?;
+        let moved = self.behind_poll(polling)?;
+        self.mark(turn, Some(moved))
     }
 
     /// Closes requests behind the last answer, and says whether a handle's turn moved anything.
@@ -250,10 +234,8 @@ impl Play {
             Polling::Waits => Ok(self.hub.touched()),
             Polling::Answered => {
                 self.unanswered = self.unanswered.saturating_sub(1);
-                match self.close_if_answered() {
-                    Ok(()) => Ok(true),
-                    Err(error) => Err(error),
-                }
+                self.close_if_answered()?;
+                Ok(true)
             }
         }
     }
@@ -279,10 +261,10 @@ impl Play {
             Poll::Pending => Ok(Some(self.streams.moved)),
             Poll::Ready(None) => Ok(None),
             Poll::Ready(Some(Err(error))) => Err(error),
-            Poll::Ready(Some(Ok(message))) => match self.asynchronous.push(message) {
-                Ok(()) => Ok(Some(true)),
-                Err(_) => Err(Error::OutOfMemory),
-            },
+            Poll::Ready(Some(Ok(message))) => {
+                self.asynchronous.push(message)?;
+                Ok(Some(true))
+            }
         }
     }
 }

@@ -33,27 +33,19 @@ impl Play {
             asynchronous,
         } = self;
         let book = hub.into_book();
-        let parameters = match parameters_of(alloc, &streams.parameters) {
-            Ok(parameters) => parameters,
-            Err(error) => return Err(error),
-        };
-        let sent = match sent_bytes(opening, book.as_slice()) {
-            Ok(sent) => sent,
-            Err(error) => return Err(error),
-        };
-        match answers_of(alloc, handles) {
-            Ok(answers) => Ok(Report {
-                answers,
-                asynchronous: List::new(asynchronous),
-                parameters,
-                process_id: 0,
-                secret_key: 0,
-                book,
-                trace: List::new(trace),
-                sent,
-            }),
-            Err(error) => Err(error),
-        }
+        let parameters = parameters_of(alloc, &streams.parameters)?;
+        let sent = sent_bytes(opening, book.as_slice())?;
+        let answers = answers_of(alloc, handles)?;
+        Ok(Report {
+            answers,
+            asynchronous: List::new(asynchronous),
+            parameters,
+            process_id: 0,
+            secret_key: 0,
+            book,
+            trace: List::new(trace),
+            sent,
+        })
     }
 }
 
@@ -65,9 +57,7 @@ fn answers_of(alloc: Global, handles: Vec<Handle>) -> Result<List<List<Answer>>,
 {
     let mut answers = Vec::new(alloc);
     'handles: for handle in handles {
-        if answers.push(handle.into_answers()).is_err() {
-            return Err(Error::OutOfMemory);
-        }
+        answers.push(handle.into_answers())?;
     }
     Ok(List::new(answers))
 }
@@ -80,10 +70,7 @@ fn parameters_of(alloc: Global, parameters: &Parameters) -> Result<List<Pair>, E
 {
     let mut pairs = Vec::new(alloc);
     'settings: for (name, value) in parameters.as_map() {
-        match add_pair(alloc, &mut pairs, name.as_str(), value.as_str()) {
-            Ok(()) => {}
-            Err(error) => return Err(error),
-        }
+        add_pair(alloc, &mut pairs, name.as_str(), value.as_str())?;
     }
     Ok(List::new(pairs))
 }
@@ -93,16 +80,10 @@ fn add_pair(alloc: Global, pairs: &mut Vec<Pair>, name: &str, value: &str) -> Re
     ensures added { OnOk result (map pair_view pairs.new.items ≡ map pair_view pairs.old.items ++ (name.now, value.now) ∷ []) }
     ensures error { IfErr result (λ e. e ≡ Error.OutOfMemory) }
 {
-    let Ok(name) = Text::from_str(alloc, name) else {
-        return Err(Error::OutOfMemory);
-    };
-    let Ok(value) = Text::from_str(alloc, value) else {
-        return Err(Error::OutOfMemory);
-    };
-    match pairs.push(Pair { name, value }) {
-        Ok(()) => Ok(()),
-        Err(_) => Err(Error::OutOfMemory),
-    }
+    let name = Text::from_str(alloc, name)?;
+    let value = Text::from_str(alloc, value)?;
+    pairs.push(Pair { name, value })?;
+    Ok(())
 }
 
 /// Terminate (PostgreSQL documentation, "Message Formats").
@@ -116,15 +97,10 @@ fn sent_bytes(opening: Vec<u8>, book: &[Booking]) -> Result<Blob, Error>
 {
     let mut sent = opening;
     'requests: for booking in book {
-        match add_parts(&mut sent, booking.parts.as_slice()) {
-            Ok(()) => {}
-            Err(error) => return Err(error),
-        }
+        add_parts(&mut sent, booking.parts.as_slice())?;
     }
-    match sent.extend_from_slice(&TERMINATE) {
-        Ok(()) => Ok(Blob::new(sent)),
-        Err(_) => Err(Error::OutOfMemory),
-    }
+    sent.extend_from_slice(&TERMINATE)?;
+    Ok(Blob::new(sent))
 }
 
 /// Adds the parts of a request, in order.
@@ -133,10 +109,7 @@ fn add_parts(sent: &mut Vec<u8>, parts: &[Blob]) -> Result<(), Error>
     ensures error { IfErr result (λ e. e ≡ Error.OutOfMemory) }
 {
     'parts: for part in parts {
-        match sent.extend_from_slice(part.as_slice()) {
-            Ok(()) => {}
-            Err(_) => return Err(Error::OutOfMemory),
-        }
+        sent.extend_from_slice(part.as_slice())?;
     }
     Ok(())
 }

@@ -68,22 +68,10 @@ fn play_as<L: Link>(
     ensures config { IfErr result ConfigIsNotBuilt }
     ensures calm { OnOk result (StaysCalm (L.view link.old) (L.view link.new)) }
 {
-    let mut startup = match Startup::new(alloc, user, max_bytes) {
-        Ok(startup) => startup,
-        Err(error) => return Err(error),
-    };
-    match open(&mut startup, link) {
-        Ok(()) => {}
-        Err(error) => return Err(error),
-    }
+    let mut startup = Startup::new(alloc, user, max_bytes)?;
+    open(&mut startup, link)?;
     let (opening, streams) = startup.into_streams(alloc);
-    let mut play = match Play::new(alloc, streams, scripts) {
-        Ok(play) => play,
-        Err(error) => return Err(error),
-    };
-    match play.run(alloc, link, scripts, turns) {
-        Ok(()) => {}
-        Err(error) => return Err(error),
-    }
+    let mut play = Play::new(alloc, streams, scripts)?;
+    play.run(alloc, link, scripts, turns)?;
     play.into_report(alloc, opening)
 }

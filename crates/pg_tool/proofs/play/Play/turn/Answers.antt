@@ -2,8 +2,7 @@ use Rattle.std.proofs.Common.{◌≡◌, ◌<◌, ◌≤◌, List, length, false
 use Rattle.pg_text.specs.declared.command.Command.{Command}
 use Rattle.pg_tool.specs.declared.play.Play.{Play}
 use Rattle.pg_tool.specs.Plays.{state_of}
-use Rattle.pg_tool.proofs.Crossing.{crosses_none, crosses_poll}
-use Rattle.pg_tool.proofs.Failing.{handle_lacks, mark_lacks}
+use Rattle.pg_tool.proofs.Failing.{mark_lacks}
 use Rattle.pg_tool.proofs.Going.{connection_limited, handle_limited, leaves_of, turn_goes}
 use Rattle.pg_tool.proofs.Made.{connection_turns, handle_turns}
 use Rattle.pg_tool.proofs.play.Play.turn.Goals as goal
@@ -13,19 +12,16 @@ returns-then-turn-as_slice-clause-made g c =
     let own : c.args.turn < length c.args.scripts.now = omega (arith, ap (λ (l : List (List Command)). length l) c.as_slice.ensures.scripts) in
     handle_turns c.args.scripts.now c.args.turn (state_of c.args.self.now) (state_of c.handle_turn.new.self) (g.L.Link.view c.args.link.now) c.handle_turn.result own c.handle_turn.ensures.made
 
-pub returns-in-Ok-clause-made : goal.returns-in-Ok-clause-made
-returns-in-Ok-clause-made g c =
+pub returns-clause-made : goal.returns-clause-made
+returns-clause-made g c =
     let other : length c.args.scripts.now ≤ c.args.turn = omega (arith, ap (λ (l : List (List Command)). length l) c.as_slice.ensures.scripts) in
     connection_turns c.args.scripts.now c.args.turn c.args.self.now c.poll_connection.new.self c.mark.new.self (g.L.Link.view c.args.link.now) (g.L.Link.view c.poll_connection.new.link)
-    c.in-Ok.moved c.mark.result other c.in-Ok.ensures.polled c.mark.ensures.same c.mark.ensures.moved c.mark.ensures.trace
+    c.in_ok-moved.moved c.mark.result other c.in_ok-moved.ensures.polled c.mark.ensures.same c.mark.ensures.moved c.mark.ensures.trace
 
-pub returns-then-turn-as_slice-clause-fails : goal.returns-then-turn-as_slice-clause-fails
-returns-then-turn-as_slice-clause-fails g c = handle_lacks (state_of c.args.self.now) (g.L.Link.view c.args.link.now) c.handle_turn.result c.handle_turn.ensures.error
-
-pub returns-in-Ok-clause-fails : goal.returns-in-Ok-clause-fails
-returns-in-Ok-clause-fails g c =
-    mark_lacks (state_of c.args.self.now) (state_of c.poll_connection.new.self) (g.L.Link.view c.args.link.now) (g.L.Link.view c.poll_connection.new.link) c.in-Ok.moved c.mark.result
-    c.in-Ok.ensures.polled c.mark.ensures.error
+pub returns-clause-fails : goal.returns-clause-fails
+returns-clause-fails g c =
+    mark_lacks (state_of c.args.self.now) (state_of c.poll_connection.new.self) (g.L.Link.view c.args.link.now) (g.L.Link.view c.poll_connection.new.link) c.in_ok-moved.moved c.mark.result
+    c.in_ok-moved.ensures.polled c.mark.ensures.error
 
 pub returns-then-turn-as_slice-clause-leaves : goal.returns-then-turn-as_slice-clause-leaves
 returns-then-turn-as_slice-clause-leaves g c =
@@ -38,26 +34,16 @@ returns-then-turn-as_slice-clause-leaves g c =
     (turn_goes c.args.scripts.now c.args.turn p u l l c.handle_turn.result c.requires.going c.handle_turn.ensures.ready.within
     (handle_turns c.args.scripts.now c.args.turn (state_of p) (state_of u) l c.handle_turn.result own c.handle_turn.ensures.made))
 
-pub returns-in-Ok-clause-leaves : goal.returns-in-Ok-clause-leaves
-returns-in-Ok-clause-leaves g c =
+pub returns-clause-leaves : goal.returns-clause-leaves
+returns-clause-leaves g c =
     let other : length c.args.scripts.now ≤ c.args.turn = omega (arith, ap (λ (l : List (List Command)). length l) c.as_slice.ensures.scripts) in
     let l = g.L.Link.view c.args.link.now in
     let m = g.L.Link.view c.poll_connection.new.link in
     let p = c.args.self.now in
     let q = c.poll_connection.new.self in
     let u = c.mark.new.self in
-    let within = subst (λ (x : Play). x.streams.ended ≡ false → x.streams.given ≤ x.streams.max_bytes) (sym c.mark.ensures.same) c.in-Ok.ensures.within in
+    let within = subst (λ (x : Play). x.streams.ended ≡ false → x.streams.given ≤ x.streams.max_bytes) (sym c.mark.ensures.same) c.in_ok-moved.ensures.within in
     leaves_of c.args.scripts.now p u c.mark.result
-    (connection_limited p q u l m c.in-Ok.moved c.mark.result c.in-Ok.ensures.polled c.in-Ok.ensures.limit c.mark.ensures.same)
+    (connection_limited p q u l m c.in_ok-moved.moved c.mark.result c.in_ok-moved.ensures.polled c.in_ok-moved.ensures.limit c.mark.ensures.same)
     (turn_goes c.args.scripts.now c.args.turn p u l m c.mark.result c.requires.going within
-    (connection_turns c.args.scripts.now c.args.turn p q u l m c.in-Ok.moved c.mark.result other c.in-Ok.ensures.polled c.mark.ensures.same c.mark.ensures.moved c.mark.ensures.trace))
-
-pub returns-then-turn-as_slice-clause-crosses : goal.returns-then-turn-as_slice-clause-crosses
-returns-then-turn-as_slice-clause-crosses g c = crosses_none (g.L.Link.view c.args.link.now) c.handle_turn.result c.handle_turn.ensures.error
-
-pub returns-in-Ok-clause-crosses : goal.returns-in-Ok-clause-crosses
-returns-in-Ok-clause-crosses g c =
-    crosses_poll (g.L.Link.view c.args.link.now) (g.L.Link.view c.poll_connection.new.link) c.mark.result c.poll_connection.ensures.link c.poll_connection.ensures.calm c.mark.ensures.error
-
-pub returns-in-Err-clause-crosses : goal.returns-in-Err-clause-crosses
-returns-in-Err-clause-crosses g c = record { link = c.poll_connection.ensures.link; error = c.in-Err.ensures.error; calm = tt }
+    (connection_turns c.args.scripts.now c.args.turn p q u l m c.in_ok-moved.moved c.mark.result other c.in_ok-moved.ensures.polled c.mark.ensures.same c.mark.ensures.moved c.mark.ensures.trace))
