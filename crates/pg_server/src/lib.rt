@@ -1,11 +1,21 @@
 //! The server half of the protocol: the frames of a client, read, and a server that a handler answers for. It does no IO.
 #![tactic(auto)]
 
+mod answer;
 mod binding;
+mod fault;
 mod frame;
+mod handler;
 mod items;
 mod layout;
+mod opening;
 mod parsing;
 mod reading;
+mod server;
+mod session;
+mod startup;
 
+pub use fault::ServerFault;
 pub use frame::Frame;
+pub use handler::{Effect, Handler};
+pub use server::Server;

@@ -1,0 +1,92 @@
+//! A server that a handler answers for, fed with the bytes of a client.
+
+ghost use Rattle.std.specs.Prelude.{◌≡◌, length};
+ghost use Rattle.pg_server.specs.Servers.{heard_of, Makes, Hears, Takes, Feeds};
+ghost use Rattle.pg_server.specs.Standings.{standing_of};
+
+use crate::fault::ServerFault;
+use crate::handler::Handler;
+use crate::session::Session;
+use crate::startup::is_startup;
+use bytes::BytesMut;
+use pg_types::Blob;
+use std::alloc::Global;
+
+/// A server that a handler answers for. It refuses each SSLRequest by `N`, says its startup to the startup frame, and
+/// answers the frames behind that by the rules of the protocol. Terminate is the last frame.
+#[derive(Debug, Drop)]
+pub struct Server<H> {
+    session: Session<H>,
+    /// What was fed and isn't a whole frame yet.
+    left: BytesMut,
+}
+
+impl<H: Handler> Session<H> {
+    /// Answers all that stands there. How many bytes are left behind it.
+    fn hear(&mut self, bytes: &[u8], out: &mut BytesMut) -> Result<usize, ServerFault>
+        ensures { Hears H.step (standing_of H.state self.old) (standing_of H.state self.new) bytes.now out.old.items out.new.items result }
+    {
+        let mut rest = bytes;
+        loop {
+            match self.go_on(rest, out) {
+                Ok(Some(behind)) => rest = behind,
+                Ok(None) => return Ok(rest.len()),
+                Err(fault) => return Err(fault),
+            }
+        }
+    }
+}
+
+impl<H: Handler + Drop> Server<H> {
+    /// A server that hasn't been fed. `startup` is what it says to the startup frame. BadStartup comes exactly where that
+    /// isn't AuthenticationOk, then BackendKeyData, ParameterStatus and NoticeResponse in any number, then ReadyForQuery.
+    /// It takes no memory.
+    pub fn new(alloc: Global, handler: H, startup: Blob) -> Result<Server<H>, ServerFault>
+        ensures { Makes H.state handler startup result }
+    {
+        if !is_startup(startup.as_slice()) {
+            return Err(ServerFault::BadStartup);
+        }
+        Ok(Server {
+            session: Session::new(alloc, handler, startup),
+            left: BytesMut::new(alloc),
+        })
+    }
+}
+
+impl<H: Handler> Server<H> {
+    /// Takes the bytes and answers all that is whole by them.
+    fn take_in(&mut self, bytes: &[u8], out: &mut BytesMut) -> Result<(), ServerFault>
+        ensures { Takes H.step (heard_of H.state self.old) (heard_of H.state self.new) bytes.now out.old.items out.new.items result }
+    {
+        if self.left.extend_from_slice(bytes).is_err() {
+            return Err(ServerFault::OutOfMemory);
+        }
+        match self.session.hear(self.left.as_slice(), out) {
+            Ok(left) => {
+                let cut = self.left.len() - left;
+                self.left.advance(cut);
+                Ok(())
+            }
+            Err(fault) => Err(fault),
+        }
+    }
+
+    /// Takes these bytes of the client, and appends what is said to all frames that are whole by them. The session is over
+    /// behind a fault: what was said to the frames before stays in `out`, and each later call is Ended. So is one behind
+    /// Terminate. Want of memory comes as a fault too; what stands in `out` then is a front of what is said.
+    pub fn feed(&mut self, bytes: &[u8], out: &mut BytesMut) -> Result<(), ServerFault>
+        ensures { Feeds H.step (heard_of H.state self.old) (heard_of H.state self.new) bytes.now out.old.items out.new.items result }
+    {
+        if self.session.is_over() {
+            return Err(ServerFault::Ended);
+        }
+        match self.take_in(bytes, out) {
+            Ok(()) => Ok(()),
+            Err(fault) => {
+                self.session.end();
+                Err(fault)
+            }
+        }
+    }
+}
