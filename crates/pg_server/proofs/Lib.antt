@@ -5,3 +5,7 @@ pub mod OpeningLaws
 pub mod StartupLaws
 pub mod AnswerLaws
 pub mod ServeLaws
+pub mod CutLaws
+pub mod HearingLaws
+pub mod FeedingLaws
+pub mod ServedLaws

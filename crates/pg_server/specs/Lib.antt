@@ -1,6 +1,7 @@
 pub mod Answers
 pub mod Frames
 pub mod Handlers
+pub mod Hearing
 pub mod Openings
 pub mod Readings
 pub mod Servers

@@ -1,8 +1,6 @@
 //! A server that a handler answers for, fed with the bytes of a client.
 
-ghost use Rattle.std.specs.Prelude.{◌≡◌, length};
-ghost use Rattle.pg_server.specs.Servers.{heard_of, Makes, Hears, Takes, Feeds};
-ghost use Rattle.pg_server.specs.Standings.{standing_of};
+ghost use Rattle.pg_server.specs.Servers.{heard_of, Makes, Takes, Feeds};
 
 use crate::fault::ServerFault;
 use crate::handler::Handler;
@@ -19,22 +17,6 @@ pub struct Server<H> {
     session: Session<H>,
     /// What was fed and isn't a whole frame yet.
     left: BytesMut,
-}
-
-impl<H: Handler> Session<H> {
-    /// Answers all that stands there. How many bytes are left behind it.
-    fn hear(&mut self, bytes: &[u8], out: &mut BytesMut) -> Result<usize, ServerFault>
-        ensures { Hears H.step (standing_of H.state self.old) (standing_of H.state self.new) bytes.now out.old.items out.new.items result }
-    {
-        let mut rest = bytes;
-        loop {
-            match self.go_on(rest, out) {
-                Ok(Some(behind)) => rest = behind,
-                Ok(None) => return Ok(rest.len()),
-                Err(fault) => return Err(fault),
-            }
-        }
-    }
 }
 
 impl<H: Handler + Drop> Server<H> {

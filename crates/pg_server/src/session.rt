@@ -7,6 +7,7 @@ ghost use Rattle.pg_serving.specs.declared.serving.Mode.TheVariants as modes;
 ghost use Rattle.pg_server.specs.declared.session.Stage.TheVariants as stage;
 ghost use Rattle.pg_server.specs.Frames.{frame_view, frame_or_fault};
 ghost use Rattle.pg_server.specs.Openings.{opening_in_front};
+ghost use Rattle.pg_server.specs.Hearing.{Hears};
 ghost use Rattle.pg_server.specs.Standings.{standing_of, serving_of, unfed, behind_frame, Answers, Asks, Serves, Does, front, opened};
 
 use crate::answer::{Answer, asks, is_sound, put};
@@ -200,6 +201,23 @@ impl<H: Handler> Session<H> {
             },
             Stage::Over if bytes.is_empty() => Ok(None),
             Stage::Over => Err(ServerFault::Ended),
+        }
+    }
+
+    /// Answers all that stands there. How many bytes are left behind it.
+    pub fn hear(&mut self, bytes: &[u8], out: &mut BytesMut) -> Result<usize, ServerFault>
+        ensures { Hears H.step (standing_of H.state self.old) (standing_of H.state self.new) bytes.now out.old.items out.new.items result }
+    {
+        let mut rest = bytes;
+        loop {
+            let step = match self.go_on(rest, out) {
+                Ok(step) => step,
+                Err(fault) => return Err(fault),
+            };
+            match step {
+                Some(behind) => rest = behind,
+                None => return Ok(rest.len()),
+            }
         }
     }
 }

@@ -1,0 +1,35 @@
+//! What a server of these rules says, as laws. Each body does nothing.
+
+ghost use Rattle.std.specs.Prelude.{◌≡◌, ℕ, List, ◌++◌, ◌∷◌, [], Some, None};
+ghost use Rattle.std.specs.Str.{byte};
+ghost use Rattle.pg_spec.specs.RawMessages.{messages};
+ghost use Rattle.pg_serving.specs.Serving.{served};
+ghost use Rattle.pg_serving.specs.Sessions.{begun, spoken};
+ghost use Rattle.pg_server.specs.declared.fault.ServerFault.{ServerFault};
+ghost use Rattle.pg_server.specs.Handlers.{Step, service_of};
+ghost use Rattle.pg_server.specs.Hearing.{before, said_to};
+ghost use Rattle.pg_server.specs.Openings.{Short, Ssl, Starts, opening_in_front};
+ghost use Rattle.pg_server.specs.Servers.{Heard, fed_with};
+ghost use Rattle.pg_server.specs.Standings.{unfed};
+
+/// Where the bytes of a client are cut makes no difference: what is said to more bytes is said behind what was said to the
+/// first of them, and a fault in the first stays what it is.
+pub fn cuttings_of_what_is_fed<S>()
+    ensures whole { (step : Step S) (at : Heard S) (a b : List ℕ) → (fed_with step at a).fault ≡ None →
+        fed_with step at (a ++ b)
+        ≡ before (fed_with step at a).said (fed_with step (record { standing = (fed_with step at a).next; left = (fed_with step at a).left }) b) }
+    ensures fault { (step : Step S) (at : Heard S) (a b : List ℕ) (fault : ServerFault) → (fed_with step at a).fault ≡ Some fault →
+        ((fed_with step at (a ++ b)).fault ≡ Some fault) × ((fed_with step at (a ++ b)).said ≡ (fed_with step at a).said) }
+{}
+
+/// What is said to the bytes of a client where no fault comes: `N` to each SSLRequest, the startup to the startup frame, and
+/// what the rules of a server say to the whole frames behind it; before the startup frame came nothing else.
+pub fn a_server_says_what_the_rules_say<S>()
+    ensures asks_for_tls { (step : Step S) (state : S) (startup bytes rest : List ℕ) → opening_in_front bytes ≡ Ssl rest →
+        said_to step (unfed state startup) bytes ≡ before (byte "N" ∷ []) (said_to step (unfed state startup) rest) }
+    ensures starts { (step : Step S) (state : S) (startup bytes rest : List ℕ) → opening_in_front bytes ≡ Starts rest →
+        (said_to step (unfed state startup) bytes).fault ≡ None →
+        (said_to step (unfed state startup) bytes).said ≡ startup ++ spoken (served (service_of step) (begun state) (messages rest)).reply }
+    ensures waits { (step : Step S) (state : S) (startup bytes : List ℕ) → opening_in_front bytes ≡ Short →
+        (said_to step (unfed state startup) bytes).said ≡ [] }
+{}
