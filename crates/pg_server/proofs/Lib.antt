@@ -9,3 +9,4 @@ pub mod CutLaws
 pub mod HearingLaws
 pub mod FeedingLaws
 pub mod ServedLaws
+pub mod EchoLaws

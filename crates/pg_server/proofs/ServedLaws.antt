@@ -71,48 +71,61 @@ over-nothing {S = S} step at [] over none = ap (λ (s : Said S). s.said) (said_t
 over-nothing {S = S} step at (b ∷ bytes) over none =
     absurd (none-some faults.Ended (sym (sym (ap (λ (s : Said S). s.fault) (said_to-stops step at (b ∷ bytes) faults.Ended (ap (at_stage step at (b ∷ bytes)) over))) ∙ none)))
 
+no_fault : {S : Type 0} (s : Said S) (fault : ServerFault) → s.fault ≡ Some fault → s.fault ≡ None → ⊥
+no_fault s fault some none = none-some fault (sym none ∙ some)
+
+-- no whole frame stands there
+by_header : {S : Type 0} (step : Step S) (at : Standing S) (bytes : List ℕ) (bad : Bool) → message_at bytes ≡ None → front step at bytes ≡ serving step at None bad →
+    IsByRules step at bytes (said_to step at bytes)
+by_header {S = S} step at bytes true e f none =
+    absurd (no_fault (said_to step at bytes) (faults.BadFrame BadLength) (ap (λ (s : Said S). s.fault) (said_to-stops step at bytes (faults.BadFrame BadLength) f)) none)
+by_header {S = S} step at bytes false e f none = ap (λ (s : Said S). s.said) (said_to-waits step at bytes f) ∙ ap (by_rules step at) (sym (messages_of_none bytes e))
+
+-- a frame was answered, and this holds of those behind it
+said_all : {S : Type 0} (step : Step S) (at : Standing S) (bytes : List ℕ) (m : RawMessage) (rest : List ℕ) → message_at bytes ≡ Some (m, rest) →
+    front step at bytes ≡ Says (spoken (replied step at m).reply) (behind_frame at m (replied step at m).next) rest →
+    IsByRules step (behind_frame at m (replied step at m).next) rest (said_to step (behind_frame at m (replied step at m).next) rest) →
+    IsByRules step at bytes (said_to step at bytes)
+said_all {S = S} step at bytes m rest e f later none =
+    let r : Replied S = replied step at m in
+    let next : Standing S = behind_frame at m r.next in
+    let all : said_to step at bytes ≡ before (spoken r.reply) (said_to step next rest) = said_to-says step at bytes (spoken r.reply) next rest f in
+    ap (λ (s : Said S). s.said) all
+    ∙ ap (λ (x : List ℕ). spoken r.reply ++ x) (later (sym (ap (λ (s : Said S). s.fault) all) ∙ none))
+    ∙ sym (flat_map-append message_bytes r.reply (served (service_of step) r.next (messages rest)).reply)
+    ∙ ap (by_rules step at) (sym (messages_of_one bytes m rest e))
+
+-- a whole frame stands there
+by_frame : {S : Type 0} (step : Step S) (at : Standing S) (bytes : List ℕ) (m : RawMessage) (rest : List ℕ) (r : Result ClientFrame WireFault) → message_at bytes ≡ Some (m, rest) →
+    front step at bytes ≡ reading step at m rest r →
+    (length rest < length bytes → IsByRules step (behind_frame at m (replied step at m).next) rest (said_to step (behind_frame at m (replied step at m).next) rest)) →
+    IsByRules step at bytes (said_to step at bytes)
+by_frame {S = S} step at bytes m rest (Err fault) e f later none =
+    absurd (no_fault (said_to step at bytes) (faults.BadFrame fault) (ap (λ (s : Said S). s.fault) (said_to-stops step at bytes (faults.BadFrame fault) f)) none)
+by_frame {S = S} step at bytes m rest (Ok frame) e f later none = by_test (is_broken step at m frame) f
+  where
+    by_test : (broken : Bool) → front step at bytes ≡ cond broken (Stops (faults.BadEffect at.answered)) (Says (spoken (replied step at m).reply) (behind_frame at m (replied step at m).next) rest) →
+        (said_to step at bytes).said ≡ by_rules step at (messages bytes)
+    by_test true f = absurd (no_fault (said_to step at bytes) (faults.BadEffect at.answered) (ap (λ (s : Said S). s.fault) (said_to-stops step at bytes (faults.BadEffect at.answered) f)) none)
+    by_test false f =
+        said_all step at bytes m rest e f
+        (later (shorter bytes rest (front-behind step at bytes (spoken (replied step at m).reply) (behind_frame at m (replied step at m).next) rest f))) none
+
+-- behind Terminate, or behind any other frame
+behind : {S : Type 0} (step : Step S) (next : Standing S) (rest : List ℕ) (t : Bool) → next.stage ≡ cond t Over Serves →
+    (next.stage ≡ Serves → IsByRules step next rest (said_to step next rest)) → IsByRules step next rest (said_to step next rest)
+behind step next rest true stage later = over-nothing step next rest stage
+behind step next rest false stage later = later stage
+
 by_rules-within : {S : Type 0} (step : Step S) (n : ℕ) (at : Standing S) (bytes : List ℕ) → length bytes < n → at.stage ≡ Serves → IsByRules step at bytes (said_to step at bytes)
 by_rules-within step zero at bytes fits serves = absurd (omega arith)
 by_rules-within {S = S} step (suc n) at bytes fits serves =
     elim (message_at bytes) as (λ o. message_at bytes ≡ o → front step at bytes ≡ serving step at o (has_bad_header bytes) → IsByRules step at bytes (said_to step at bytes)) [
-      | None ↦ λ e f. by_header (has_bad_header bytes) e f
-      | Some m ↦ λ e f. by_frame m.0 m.1 (frame_or_fault m.0) e f
+      | None ↦ λ e f. by_header step at bytes (has_bad_header bytes) e f
+      | Some m ↦ λ e f. by_frame step at bytes m.0 m.1 (frame_or_fault m.0) e f
+          (λ less. behind step (behind_frame at m.0 (replied step at m.0).next) m.1 (is_terminate m.0) refl
+          (by_rules-within step n (behind_frame at m.0 (replied step at m.0).next) m.1 (omega (arith, fits, less))))
     ] refl (ap (at_stage step at bytes) serves)
-  where
-    no_fault : (s : Said S) (fault : ServerFault) → s.fault ≡ Some fault → s.fault ≡ None → ⊥
-    no_fault s fault some none = none-some fault (sym none ∙ some)
-
-    by_header : (bad : Bool) → message_at bytes ≡ None → front step at bytes ≡ serving step at None bad → IsByRules step at bytes (said_to step at bytes)
-    by_header true e f none = absurd (no_fault (said_to step at bytes) (faults.BadFrame BadLength) (ap (λ (s : Said S). s.fault) (said_to-stops step at bytes (faults.BadFrame BadLength) f)) none)
-    by_header false e f none = ap (λ (s : Said S). s.said) (said_to-waits step at bytes f) ∙ ap (by_rules step at) (sym (messages_of_none bytes e))
-
-    behind : (m : RawMessage) (rest : List ℕ) (next : Standing S) → length rest < n → serving_of next ≡ (replied step at m).next → (t : Bool) → next.stage ≡ cond t Over Serves →
-        IsByRules step next rest (said_to step next rest)
-    behind m rest next short is true stage = over-nothing step next rest stage
-    behind m rest next short is false stage = by_rules-within step n next rest short stage
-
-    said_all : (m : RawMessage) (rest : List ℕ) → message_at bytes ≡ Some (m, rest) →
-        front step at bytes ≡ Says (spoken (replied step at m).reply) (behind_frame at m (replied step at m).next) rest → IsByRules step at bytes (said_to step at bytes)
-    said_all m rest e f none =
-        let r : Replied S = replied step at m in
-        let next : Standing S = behind_frame at m r.next in
-        let all : said_to step at bytes ≡ before (spoken r.reply) (said_to step next rest) = said_to-says step at bytes (spoken r.reply) next rest f in
-        let short : length rest < n = omega (arith, fits, shorter bytes rest (front-behind step at bytes (spoken r.reply) next rest f)) in
-        ap (λ (s : Said S). s.said) all
-        ∙ ap (λ (x : List ℕ). spoken r.reply ++ x) (behind m rest next short refl (is_terminate m) refl (sym (ap (λ (s : Said S). s.fault) all) ∙ none))
-        ∙ sym (flat_map-append message_bytes r.reply (served (service_of step) r.next (messages rest)).reply)
-        ∙ ap (by_rules step at) (sym (messages_of_one bytes m rest e))
-
-    by_test : (m : RawMessage) (rest : List ℕ) (broken : Bool) → message_at bytes ≡ Some (m, rest) →
-        front step at bytes ≡ cond broken (Stops (faults.BadEffect at.answered)) (Says (spoken (replied step at m).reply) (behind_frame at m (replied step at m).next) rest) →
-        IsByRules step at bytes (said_to step at bytes)
-    by_test m rest true e f none = absurd (no_fault (said_to step at bytes) (faults.BadEffect at.answered) (ap (λ (s : Said S). s.fault) (said_to-stops step at bytes (faults.BadEffect at.answered) f)) none)
-    by_test m rest false e f none = said_all m rest e f none
-
-    by_frame : (m : RawMessage) (rest : List ℕ) (r : Result ClientFrame WireFault) → message_at bytes ≡ Some (m, rest) → front step at bytes ≡ reading step at m rest r →
-        IsByRules step at bytes (said_to step at bytes)
-    by_frame m rest (Err fault) e f none = absurd (no_fault (said_to step at bytes) (faults.BadFrame fault) (ap (λ (s : Said S). s.fault) (said_to-stops step at bytes (faults.BadFrame fault) f)) none)
-    by_frame m rest (Ok frame) e f none = by_test m rest (is_broken step at m frame) e f none
 
 pub served-said : {S : Type 0} (step : Step S) (at : Standing S) (bytes : List ℕ) → at.stage ≡ Serves → (said_to step at bytes).fault ≡ None →
     (said_to step at bytes).said ≡ spoken (served (service_of step) (serving_of at) (messages bytes)).reply

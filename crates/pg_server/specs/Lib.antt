@@ -1,4 +1,5 @@
 pub mod Answers
+pub mod Echoes
 pub mod Frames
 pub mod Handlers
 pub mod Hearing

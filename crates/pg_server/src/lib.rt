@@ -3,6 +3,7 @@
 
 mod answer;
 mod binding;
+mod echo;
 mod fault;
 mod frame;
 mod handler;
@@ -16,6 +17,7 @@ mod server;
 mod session;
 mod startup;
 
+pub use echo::Echo;
 pub use fault::ServerFault;
 pub use frame::Frame;
 pub use handler::{Effect, Handler};
