@@ -1,8 +1,7 @@
 -- What a frame is answered is what the rules of a server say.
 use Rattle.std.proofs.Common.{◌≡◌, ℕ, Bool, true, false, not, ◌&&◌, List, [], ◌∷◌, ◌++◌, Option, Some, None, Result, Ok, Err, refl, sym, ap, subst, ◌∙◌, cond}
-use Rattle.std.specs.Prelude.{if◌then◌else◌, option_map, ◌==◌}
+use Rattle.std.specs.Prelude.{if◌then◌else◌, option_map}
 use Rattle.std.specs.List.{list_any}
-use Rattle.std.specs.Str.{byte}
 use Rattle.pg_faults.specs.declared.fault.WireFault.{WireFault}
 use Rattle.pg_faults.specs.declared.fault.WireFault.TheVariants as wire
 use Rattle.pg_spec.specs.Batches.{is_nothing}
@@ -17,11 +16,9 @@ use Rattle.pg_serving.specs.Serving as serving
 use Rattle.pg_serving.specs.Serving.{turn, kind_of, is_error, Replied}
 use Rattle.pg_serving.specs.Requests.{asked, is_sound, is_copy_in}
 use Rattle.pg_serving.specs.Tags.{has_two, AreBytes}
-use Rattle.pg_serving.specs.Tags as tags
 use Rattle.pg_serving.specs.Steps.{says_ready, answered_mode, ready_bytes}
 use Rattle.pg_serving.proofs.StepLaws as steps
 use Rattle.pg_serving.proofs.ReplyLaws.{AreTagsOf, reply-sounds}
-use Rattle.pg_server.specs.declared.answer.Answer.{Answer}
 use Rattle.pg_server.specs.declared.handler.Effect.{Effect}
 use Rattle.pg_server.specs.Answers.{asks, sounds}
 use Rattle.pg_server.specs.Frames.{frame_or_fault, with_texts, is_known, is_text}

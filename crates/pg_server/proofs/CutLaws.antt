@@ -1,6 +1,6 @@
 -- What stands in front, and the bytes behind it: how it is found doesn't depend on what follows.
-use Rattle.std.proofs.Common.{◌≡◌, ℕ, ◌+◌, ◌-◌, ◌<◌, ◌≤◌, Bool, true, false, not, List, [], ◌∷◌, ◌++◌, Option, Some, None, Result, Ok, Err, refl, sym, ap, subst, ◌∙◌, cond, arith, length, take, drop, append_assoc}
-use Rattle.std.specs.Prelude.{nat_le, nat_lt, ◌&&◌, ◌==◌, if◌then◌else◌}
+use Rattle.std.proofs.Common.{◌≡◌, ℕ, ◌-◌, ◌≤◌, Bool, true, false, not, List, [], ◌∷◌, ◌++◌, Option, Some, None, Result, Ok, Err, refl, sym, ap, subst, ◌∙◌, cond, arith, length, take, drop, append_assoc}
+use Rattle.std.specs.Prelude.{nat_le, ◌==◌, if◌then◌else◌}
 use Rattle.std.specs.Int.{w32, from_be_bytes}
 use Rattle.std.specs.Option.{option_and_then}
 use Rattle.std.proofs.lemmas.Bool.{leb-true}
@@ -8,14 +8,12 @@ use Rattle.std.proofs.lemmas.List.{take-append-drop, length-take-le, length-appe
 use Rattle.std.proofs.lemmas.Option.{option_and_then_some, some_pair_parts, cond_some}
 use Rattle.pg_faults.specs.declared.fault.WireFault.{WireFault}
 use Rattle.pg_faults.specs.declared.fault.WireFault.TheVariants.{BadLength, Layout}
-use Rattle.pg_spec.specs.Batches.{is_nothing}
 use Rattle.pg_spec.specs.Bytes.{◌>>=◌, bytes_at, number_at}
 use Rattle.pg_spec.specs.ClientFrames.{ClientFrame}
 use Rattle.pg_spec.specs.RawMessages as raw
 use Rattle.pg_spec.specs.RawMessages.{RawMessage, message_at, has_bad_header}
 use Rattle.pg_spec.proofs.Readers.{bytes_at-Reader, number_at-Reader}
 use Rattle.pg_spec.proofs.MessageLaws.{message_at-Reader}
-use Rattle.pg_server.specs.declared.fault.ServerFault.{ServerFault}
 use Rattle.pg_server.specs.declared.fault.ServerFault.TheVariants as faults
 use Rattle.pg_server.specs.declared.session.Stage.{Stage}
 use Rattle.pg_server.specs.declared.session.Stage.TheVariants.{Opening, Serves, Over}
@@ -24,7 +22,7 @@ use Rattle.pg_server.specs.Handlers.{Step}
 use Rattle.pg_server.specs.Openings as opening
 use Rattle.pg_server.specs.Openings.{InFront, is_length, is_parameters, starting, cancelling, opening_by, opening_behind, opening_in_front}
 use Rattle.pg_serving.specs.Sessions.{spoken}
-use Rattle.pg_server.specs.Standings.{Standing, Front, Waits, Says, Stops, is_broken, replied, behind_frame, answering, reading, serving, opened, at_stage, front}
+use Rattle.pg_server.specs.Standings.{Standing, Front, Waits, Says, Stops, is_broken, replied, behind_frame, reading, serving, opened, at_stage, front}
 
 -- ---- what is left is behind what was taken
 

@@ -1,10 +1,9 @@
 -- The rows of a text, byte by byte.
-use Rattle.std.proofs.Common.{◌≡◌, ℕ, suc, ◌+◌, List, [], ◌∷◌, ◌++◌, refl, sym, ap, ◌∙◌, length, append_assoc, arith}
-use Rattle.std.proofs.lemmas.List.{length-append}
+use Rattle.std.proofs.Common.{◌≡◌, ℕ, suc, ◌+◌, List, [], ◌∷◌, ◌++◌, ap, ◌∙◌, length, append_assoc, arith}
 use Rattle.std.specs.Int.{w16, w32, to_be_bytes}
 use Rattle.std.specs.Str.{byte}
 use Rattle.pg_spec.specs.RawMessages.{message_bytes}
-use Rattle.pg_server.specs.Echoes.{description, data_row, complete, rows_of}
+use Rattle.pg_server.specs.Echoes.{description, complete, rows_of}
 
 -- seven pieces, one behind another
 pub seven : (a b c d e f g : List ℕ) → ((((((a ++ b) ++ c) ++ d) ++ e) ++ f) ++ g) ≡ a ++ (b ++ c ++ d ++ e ++ f) ++ g

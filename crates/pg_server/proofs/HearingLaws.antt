@@ -1,12 +1,11 @@
 -- What is said to some bytes, one frame behind another, and how the loop comes there.
-use Rattle.std.proofs.Common.{◌≡◌, ℕ, zero, suc, ◌+◌, ◌-◌, ◌<◌, ◌≤◌, List, [], ◌∷◌, ◌++◌, Option, Some, None, Result, Ok, Err, refl, sym, ap, subst, ◌∙◌, arith, length, take, drop, append_assoc, append-nil}
-use Rattle.std.specs.Borrow.{Bor}
+use Rattle.std.proofs.Common.{◌≡◌, ℕ, zero, suc, ◌+◌, ◌-◌, ◌<◌, List, [], ◌++◌, Some, None, Ok, Err, refl, sym, ap, ◌∙◌, arith, length, drop, append_assoc, append-nil}
 use Rattle.std.proofs.lemmas.List.{length-append, drop_at}
 use Rattle.pg_server.specs.declared.fault.ServerFault.{ServerFault}
 use Rattle.pg_server.specs.declared.fault.ServerFault.TheVariants as faults
 use Rattle.pg_server.specs.Handlers.{Step}
-use Rattle.pg_server.specs.Hearing.{Said, waiting, stopped, before, going_on, said_within, said_to, IsFront, Hears}
-use Rattle.pg_server.specs.Standings.{Standing, Front, Waits, Says, Stops, front, Does}
+use Rattle.pg_server.specs.Hearing.{Said, waiting, stopped, before, going_on, said_within, said_to, Hears}
+use Rattle.pg_server.specs.Standings.{Standing, Waits, Says, Stops, front, Does}
 use Rattle.pg_server.proofs.CutLaws.{IsBehind, front-behind}
 
 -- there are no more frames than bytes

@@ -1,6 +1,6 @@
 -- Items that are read one after another.
 use Rattle.std.specs.Result.{is_ok, is_err}
-use Rattle.std.proofs.Common.{◌≡◌, ℕ, zero, suc, Result, Ok, Err, cond, false, ◌+◌, ◌-◌, ◌<◌, ◌≤◌, List, [], ◌∷◌, ◌++◌, Option, Some, None, refl, sym, ap, ◌∙◌, subst, append_assoc, append-nil, arith}
+use Rattle.std.proofs.Common.{◌≡◌, ℕ, suc, Result, Ok, Err, cond, false, ◌+◌, ◌-◌, ◌<◌, ◌≤◌, List, [], ◌∷◌, ◌++◌, Option, Some, None, refl, sym, ap, ◌∙◌, append_assoc, append-nil, arith}
 use Rattle.pg_spec.specs.Bytes.{◌>>=◌}
 use Rattle.pg_spec.specs.ClientFrames.{items_at}
 use Rattle.pg_server.specs.Readings.{onto}

@@ -1,7 +1,6 @@
 -- The parameters of a startup frame, read one after another.
-use Rattle.std.proofs.Common.{◌≡◌, ℕ, ◌<◌, List, Option, Some, None, refl, sym, ap, subst, ◌∙◌, arith, length}
+use Rattle.std.proofs.Common.{◌≡◌, ℕ, ◌<◌, List, Some, None, refl, sym, ap, subst, arith, length}
 use Rattle.std.specs.Prelude.{option_map}
-use Rattle.std.specs.Option.{option_and_then}
 use Rattle.std.proofs.lemmas.Option.{option_and_then_some, some_pair_parts, same_Some, none-some}
 use Rattle.pg_spec.specs.Bytes.{◌>>=◌, text0_at, items_of}
 use Rattle.pg_spec.specs.Bodies.{name_at}

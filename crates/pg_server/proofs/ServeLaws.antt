@@ -1,7 +1,5 @@
 -- A whole frame, read and answered.
-use Rattle.std.proofs.Common.{◌≡◌, ℕ, Bool, true, false, List, ◌++◌, Result, Ok, Err, refl, sym, ap, subst, ◌∙◌, cond}
-use Rattle.pg_faults.specs.declared.fault.WireFault.{WireFault}
-use Rattle.pg_faults.specs.declared.fault.WireFault.TheVariants as wire
+use Rattle.std.proofs.Common.{◌≡◌, ℕ, Bool, List, ◌++◌, Result, Ok, Err, refl, sym, ap, ◌∙◌, cond}
 use Rattle.pg_spec.specs.ClientFrames.{ClientFrame}
 use Rattle.pg_spec.specs.RawMessages.{RawMessage}
 use Rattle.pg_serving.specs.Serving as serving
@@ -9,9 +7,8 @@ use Rattle.pg_serving.specs.Sessions.{spoken}
 use Rattle.pg_server.specs.declared.answer.Answer.{Answer}
 use Rattle.pg_server.specs.declared.fault.ServerFault.{ServerFault}
 use Rattle.pg_server.specs.declared.fault.ServerFault.TheVariants as faults
-use Rattle.pg_server.specs.declared.frame.Frame.{Frame}
 use Rattle.pg_server.specs.Answers.{answer_bytes}
-use Rattle.pg_server.specs.Frames.{frame_or_fault, IsFrame}
+use Rattle.pg_server.specs.Frames.{frame_or_fault}
 use Rattle.pg_server.specs.Handlers.{Step}
 use Rattle.pg_server.specs.Standings.{Standing, Front, Says, Stops, Answers, Asks, Serves, replied, reading, serving_of, behind_frame}
 

@@ -1,5 +1,5 @@
 -- Where a server is cut from its bytes makes no difference, and behind the startup frame it says what the rules of a server say.
-use Rattle.std.proofs.Common.{◌≡◌, ℕ, zero, suc, ◌<◌, Bool, true, false, not, ◌&&◌, List, [], ◌∷◌, ◌++◌, Option, Some, None, Result, Ok, Err, refl, sym, ap, subst, ◌∙◌, cond, arith, length, append_assoc, append-nil}
+use Rattle.std.proofs.Common.{◌≡◌, ℕ, zero, suc, ◌<◌, Bool, true, false, List, [], ◌∷◌, ◌++◌, Some, None, Result, Ok, Err, refl, sym, ap, subst, ◌∙◌, cond, arith, length, append_assoc}
 use Rattle.std.proofs.lemmas.Grind.{flat_map-append}
 use Rattle.std.proofs.lemmas.Option.{none-some}
 use Rattle.pg_faults.specs.declared.fault.WireFault.{WireFault}
@@ -8,17 +8,16 @@ use Rattle.pg_spec.specs.ClientFrames.{ClientFrame}
 use Rattle.pg_spec.specs.RawMessages.{RawMessage, message_at, message_bytes, messages, has_bad_header}
 use Rattle.pg_spec.specs.Sent.{is_terminate}
 use Rattle.pg_wire.proofs.Cuts.{messages_of_one, messages_of_none}
-use Rattle.pg_serving.specs.Serving.{Service, Serving, Replied, serve, served}
+use Rattle.pg_serving.specs.Serving.{Replied, served}
 use Rattle.pg_serving.specs.Sessions.{spoken}
 use Rattle.pg_server.specs.declared.fault.ServerFault.{ServerFault}
 use Rattle.pg_server.specs.declared.fault.ServerFault.TheVariants as faults
-use Rattle.pg_server.specs.declared.session.Stage.{Stage}
-use Rattle.pg_server.specs.declared.session.Stage.TheVariants.{Opening, Serves, Over}
+use Rattle.pg_server.specs.declared.session.Stage.TheVariants.{Serves, Over}
 use Rattle.pg_server.specs.Frames.{frame_or_fault}
 use Rattle.pg_server.specs.Handlers.{Step, service_of}
-use Rattle.pg_server.specs.Hearing.{Said, waiting, stopped, before, said_to}
-use Rattle.pg_server.specs.Standings.{Standing, Front, Waits, Says, Stops, front, at_stage, serving, reading, serving_of, is_broken, replied, behind_frame}
-use Rattle.pg_server.proofs.CutLaws.{IsBehind, Knows, front-known, front-behind}
+use Rattle.pg_server.specs.Hearing.{Said, stopped, before, said_to}
+use Rattle.pg_server.specs.Standings.{Standing, Waits, Says, Stops, front, at_stage, serving, reading, serving_of, is_broken, replied, behind_frame}
+use Rattle.pg_server.proofs.CutLaws.{Knows, front-known, front-behind}
 use Rattle.pg_server.proofs.HearingLaws.{shorter, said_to-says, said_to-waits, said_to-stops}
 
 -- ---- more bytes

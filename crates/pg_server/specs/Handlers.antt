@@ -1,5 +1,5 @@
 -- A handler's answers, and the server that they make.
-use Rattle.std.specs.Prelude.{ℕ, Bool, false, not, ◌&&◌, List, [], Option, Some, None, option_map}
+use Rattle.std.specs.Prelude.{Bool, false, not, ◌&&◌, [], Some, None, option_map}
 use Rattle.pg_spec.specs.Batches.{is_nothing}
 use Rattle.pg_spec.specs.ClientFrames.{ClientFrame, client_frame_of}
 use Rattle.pg_spec.specs.RawMessages.{RawMessage, messages, bytes_left}

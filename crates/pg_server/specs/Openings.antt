@@ -1,6 +1,6 @@
 -- The frames of a client before the tagged ones (PostgreSQL documentation, "Message Formats": SSLRequest, CancelRequest,
 -- StartupMessage).
-use Rattle.std.specs.Prelude.{◌≡◌, ℕ, ◌-◌, ◌^◌, Bool, ◌&&◌, ◌==◌, List, [], ◌∷◌, Option, Some, None, nat_le, nat_lt, if◌then◌else◌}
+use Rattle.std.specs.Prelude.{◌≡◌, ℕ, ◌-◌, ◌^◌, Bool, ◌&&◌, ◌==◌, List, [], ◌∷◌, Some, None, nat_le, nat_lt, if◌then◌else◌}
 use Rattle.std.specs.Int.{w32}
 use Rattle.std.specs.Str.{bytes_eq}
 use Rattle.pg_spec.specs.Bytes.{number_at, bytes_at, items_of}

@@ -1,7 +1,6 @@
-use Rattle.std.proofs.Common.{◌≡◌, ℤ, List, ℕ, Option, sym, subst, ap, ◌∙◌}
+use Rattle.std.proofs.Common.{List, ℕ, Option, sym, ap, ◌∙◌}
 use Rattle.std.specs.Prelude.{option_map}
 use Rattle.pg_spec.specs.ClientFrames as spec
-use Rattle.pg_server.specs.Readings.{giving}
 use Rattle.pg_server.specs.declared.binding.Given.{Given}
 use Rattle.pg_server.proofs.BindLaws.{bound}
 use Rattle.pg_server.proofs.binding.bind_parts.Goals as goal

@@ -1,4 +1,4 @@
-use Rattle.std.proofs.Common.{ℤ, to_z, of_z, ◌≡◌, sym, ap, ◌∙◌, List, ℕ, [], ◌∷◌, ◌++◌, ◌+◌, ◌-◌}
+use Rattle.std.proofs.Common.{ℤ, to_z, of_z, ◌≡◌, sym, ap, ◌∙◌, List, [], ◌∷◌, ◌++◌, ◌+◌, ◌-◌}
 use Rattle.std.specs.Int.{w16}
 use Rattle.std.proofs.lemmas.Int.{to_z-of_z}
 use Rattle.pg_spec.specs.Bytes.{signed_at}

@@ -1,4 +1,4 @@
-use Rattle.std.proofs.Common.{◌≡◌, sym, ap, ◌∙◌, subst, List, ℕ, [], ◌∷◌, ◌++◌, ◌+◌, ◌-◌, Result, Ok, Err, cond, false}
+use Rattle.std.proofs.Common.{◌≡◌, sym, ap, ◌∙◌, List, ℕ, [], ◌∷◌, ◌++◌, ◌+◌, ◌-◌, Result, Ok, Err, cond, false}
 use Rattle.std.specs.Result.{is_ok, is_err}
 use Rattle.std.specs.Int.{w32}
 use Rattle.pg_spec.specs.Bytes.{number_at}

@@ -1,5 +1,5 @@
 use Rattle.std.proofs.Common.{◌∙◌}
-use Rattle.pg_server.proofs.OpeningLaws.{takes_pair, no_pair}
+use Rattle.pg_server.proofs.OpeningLaws.{takes_pair}
 use Rattle.pg_server.proofs.opening.is_parameters.Goals as goal
 
 pub loop-behind-preserved : goal.loop-behind-preserved

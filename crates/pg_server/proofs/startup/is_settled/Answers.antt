@@ -1,4 +1,4 @@
-use Rattle.std.proofs.Common.{◌≡◌, sym, ap, ◌∙◌, List, ℕ, drop, length, eq-eqb}
+use Rattle.std.proofs.Common.{sym, ap, ◌∙◌, List, ℕ, drop, length, eq-eqb}
 use Rattle.std.specs.Prelude.{◌==◌}
 use Rattle.std.proofs.lemmas.Bool.{ne_eqb}
 use Rattle.pg_server.specs.Startups.{is_settled}

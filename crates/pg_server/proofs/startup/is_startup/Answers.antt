@@ -1,4 +1,4 @@
-use Rattle.std.proofs.Common.{◌≡◌, sym, ap, ◌∙◌, ◌&&◌, drop}
+use Rattle.std.proofs.Common.{sym, ap, ◌∙◌, ◌&&◌, drop}
 use Rattle.pg_server.specs.Startups.{is_settled}
 use Rattle.pg_serving.proofs.FeedLaws.{rest_is}
 use Rattle.pg_server.proofs.StartupLaws.{started}

@@ -1,4 +1,4 @@
-use Rattle.std.proofs.Common.{◌≡◌, ℕ, refl, sym, ap, ◌∙◌}
+use Rattle.std.proofs.Common.{ℕ, refl, sym, ap, ◌∙◌}
 use Rattle.pg_serving.specs.declared.serving.Kind.{Kind}
 use Rattle.pg_serving.specs.Serving.{turn, kind_by_tag}
 use Rattle.pg_server.specs.Answers.{sounds}
