@@ -1,0 +1,4 @@
+pub mod Transfers
+pub mod Frames
+pub mod Startups
+pub mod StartupPolls
