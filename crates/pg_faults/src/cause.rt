@@ -80,8 +80,6 @@ pub enum Cause {
     Hosts,
     /// The scripts of a session are out of their rules.
     Scripts,
-    /// This version can't do it yet.
-    NotBuilt,
     /// TLS without an SSLRequest is asked for where it is only preferred.
     PreferDirect,
     /// The server has no TLS, and it is required.

@@ -11,7 +11,7 @@ use Rattle.pg_config.specs.Views.{settings_of}
 use Rattle.pg_config.proofs.Meanings.{written}
 use Rattle.pg_spec.specs.Faults.{Syntax, UnknownOption, InvalidValue}
 use Rattle.pg_spec.specs.Settings.{Settings, only_user}
-use Rattle.pg_promises.specs.ConnectionStrings.{IsUserAlone, Means}
+use Rattle.pg_promises.specs.ConnectionStrings.{Means}
 use Rattle.pg_promises.proofs.Strings.{means_one}
 
 -- ---- a user alone
@@ -57,7 +57,7 @@ means_url = (
   refl,
 )
 
--- ---- no user, and more than a user
+-- ---- no user, and a database
 
 means_host : Means (codes "host=localhost") (settings_of defaults)
 unfolding is_utf8 chars encode
@@ -78,9 +78,8 @@ means_database : Means (codes "postgres://postgres@/x") (settings_of named)
 unfolding is_utf8 chars encode percent_decode
 means_database = (named, written (codes "postgres://postgres@/x") (Ok named) ([], inl (refl, refl)), refl)
 
-pub not_alone : (s : Settings) → Means (codes "postgres://postgres@/x") s → IsUserAlone s → ⊥
-not_alone s means alone =
-    let none : Some (codes "x") ≡ None = ap (λ (x : Settings). x.database) (means_one (codes "postgres://postgres@/x") (settings_of named) s means_database means ∙ alone.1) in cc
+pub database : (s : Settings) → Means (codes "postgres://postgres@/x") s → s.database ≡ Some (codes "x")
+database s means = ap (λ (x : Settings). x.database) (means_one (codes "postgres://postgres@/x") s (settings_of named) means means_database)
 
 -- ---- faults
 

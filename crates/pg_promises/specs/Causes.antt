@@ -3,10 +3,9 @@ use Rattle.std.specs.Prelude.{◌≡◌, ◌≢◌, ℕ, ◌+◌, ◌-◌, ◌^�
 use Rattle.std.specs.List.{concat}
 use Rattle.std.specs.Str.{byte}
 use Rattle.pg_config.specs.ConnectionStrings.{ConnectionStringMeans}
-use Rattle.pg_promises.specs.ConnectionStrings.{IsUserAlone, Means}
+use Rattle.pg_promises.specs.ConnectionStrings.{Means}
 use Rattle.pg_spec.specs.Asides.{AsideBreaks, AsideUnreadable, out_of_turn}
-use Rattle.pg_spec.specs.Built.{is_built}
-use Rattle.pg_spec.specs.Faults.{WireFault, BadLength, Cause, Link, Ended, Wire, Fields, NotText, Frame, NoUser, Nonce, NoPassword, NotBuilt, Handshake, Method, Mechanism, BindingRequired, NotAscii, Scram, Failure, Io, UnexpectedMessage, Tls, Closed, Db, Parse, Encode, Authentication, ConfigParse, Config, Stalled, LimitReached, OutOfMemory}
+use Rattle.pg_spec.specs.Faults.{WireFault, BadLength, Cause, Link, Ended, Wire, Fields, NotText, Frame, NoUser, Nonce, NoPassword, Handshake, Method, Mechanism, BindingRequired, NotAscii, Scram, Failure, Io, UnexpectedMessage, Tls, Closed, Db, Parse, Encode, Authentication, ConfigParse, Config, Stalled, LimitReached, OutOfMemory}
 use Rattle.pg_spec.specs.Faults as faults
 use Rattle.pg_faults.specs.declared.fault.WireFault.TheVariants as wire
 use Rattle.pg_faults.specs.declared.fault.FrameFault.TheVariants as frame
@@ -134,24 +133,9 @@ IsOfLogin (Scram scram.OutOfMemory) = ⊥
 IsOfLogin (Scram fault) = ⊤
 IsOfLogin other = ⊥
 
--- The string names a user and says more that a startup reads, and the nonce is in form. This version starts up
--- with a user alone.
-pub record IsNotBuilt (call : Call) : Type 0 where
-  pub settings : WithSettings call (λ s. IsSome s.user × (IsUserAlone s → ⊥))
-  pub nonce : IsTrue (is_nonce call.nonce)
-
--- the startup's next message is another
-pub record AsksMore (call : Call) (s : Settings) (g : List ℕ) : Type 0 where
-  pub place : ℕ
-  pub message : RawMessage
-  pub stands : slice_get (messages g) place ≡ Some message
-  pub awaited : (startup s call.nonce (take place (messages g))).outcome ≡ More
-  pub other : IsFalse (is_built message)
-
 -- the cause of each failure; no other comes
 abbrev pub HasCause : Call → Failure → Type 0
 HasCause call (ConfigParse cause) = ConnectionStringMeans call.config (Err cause)
-HasCause call (Config NotBuilt) = IsNotBuilt call ⊎ OfDialogue call (λ s g t. NeedsNoTls s × AsksMore call s g)
 HasCause call (Config NoUser) = WithSettings call (λ s. s.user ≡ None)
 HasCause call (Config Nonce) = WithSettings call (λ s. IsSome s.user) × IsFalse (is_nonce call.nonce)
 HasCause call (Config NoPassword) = OfDialogue call (λ s g t. InStartup (Config NoPassword) call s g)
@@ -187,10 +171,8 @@ pub record RefusedFor {R : Type 0} (failure : Failure) (call : Call) (result : R
   pub answer : (result ≡ Err failure) ⊎ (result ≡ Err OutOfMemory)
   pub untouched : call.after ≡ call.before
 
--- What is refused before any byte, in this order: the string's first fault, no user, a nonce out of form; and so
--- far settings that say more than a user.
+-- What is refused before any byte, in this order: the string's first fault, no user, a nonce out of form.
 pub record MustRefuse {R : Type 0} (call : Call) (result : Result R Failure) : Type 0 where
   pub text : (cause : Cause) → ConnectionStringMeans call.config (Err cause) → RefusedFor (ConfigParse cause) call result
   pub user : WithSettings call (λ s. s.user ≡ None) → RefusedFor (Config NoUser) call result
   pub nonce : WithSettings call (λ s. IsSome s.user) → IsFalse (is_nonce call.nonce) → RefusedFor (Config Nonce) call result
-  pub not_built : IsNotBuilt call → RefusedFor (Config NotBuilt) call result

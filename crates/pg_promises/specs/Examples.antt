@@ -6,7 +6,7 @@ use Rattle.pg_spec.specs.Faults.{ZeroByte, Frame, Db, Encode}
 use Rattle.pg_spec.specs.Links.{LinkView, Plan, course_of}
 use Rattle.pg_spec.specs.Report.{Command, Simple, Items, Failed}
 use Rattle.pg_spec.specs.Settings.{Settings, only_user}
-use Rattle.pg_spec.specs.SessionText.{SessionText}
+use Rattle.pg_spec.specs.SessionText.{SessionText, default_nonce}
 use Rattle.pg_spec.specs.SimpleQuery.{Complete}
 use Rattle.pg_spec.specs.Stamps.{marked, stamped}
 use Rattle.pg_promises.specs.Causes.{Call}
@@ -109,6 +109,10 @@ good_plan = plan_of (accepted ∷ one_row ∷ [])
 -- a parameter report without a body before the reply
 abbrev pub broken_plan : Plan
 broken_plan = plan_of (accepted ∷ (hex (codes "53 00000004") ++ one_row) ∷ [])
+
+-- a server that asks for a password, and waits for it
+abbrev pub login_plan : Plan
+login_plan = plan_of (hex (codes "52 00000008 00000003") ∷ accepted ∷ one_row ∷ [])
 
 -- a server that asks for a password and doesn't wait for it, and then replies before it is asked
 abbrev pub hasty_plan : Plan
@@ -214,9 +218,11 @@ asked_so plan taken = record (asked plan) { after = record (unused plan) { taken
 abbrev pub good_text : SessionText
 good_text = record {
   config = codes "user=a";
+  nonce = default_nonce;
   scripts = (Simple (codes "SELECT 1") None ∷ []) ∷ [];
   turns = [];
   limit = 16777216;
   plan = good_plan.entries;
   cut = 8192;
+  ends = false;
 }

@@ -5,8 +5,7 @@ use Rattle.std.specs.List.{concat, list_all}
 use Rattle.pg_promises.specs.Causes.{Call, OfDialogue, MustAskForTls, NeedsNoTls, startup_after}
 use Rattle.pg_spec.specs.Passwords.{is_nonce}
 use Rattle.pg_spec.specs.Asides.{is_readable}
-use Rattle.pg_spec.specs.Built.{is_built}
-use Rattle.pg_promises.specs.ConnectionStrings.{IsUserAlone, Means}
+use Rattle.pg_promises.specs.ConnectionStrings.{Means}
 use Rattle.pg_spec.specs.Faults.{Failure, OutOfMemory, Stalled}
 use Rattle.pg_spec.specs.Frames.{startup_frame, query_frame, ssl_request, terminate_frame}
 use Rattle.pg_spec.specs.Links.{Plan}
@@ -22,8 +21,6 @@ use Rattle.pg_spec.specs.Startup.{Startup, Done, startup}
 -- what the caller owes
 pub record IsValid (call : Call) (s : Settings) (plan : Plan) : Type 0 where
   pub user : IsSome s.user
-  -- this version starts up with a user alone
-  pub alone : IsUserAlone s
   pub nonce : IsTrue (is_nonce call.nonce)
   pub frame : IsOk (startup_frame (startup_parameters s))
   pub no_tls : s.ssl_mode ≢ Require
@@ -38,11 +35,9 @@ dialogue_over call s plan entries = startup s call.nonce (messages (concat (take
 abbrev pub IsOneReply : List ℕ → Type 0
 IsOneReply entry = (length (groups (messages entry)) ≡ 1) × IsTrue (list_all is_whole_group (groups (messages entry)))
 
--- what the server owes: the frames of the startup, `frames` of them, are answered by a startup, and
--- each later frame that gives it the turn by one reply
-pub record Conforms (call : Call) (s : Settings) (plan : Plan) (taken : List ℕ) : Type 0 where
+-- what the server owes to a startup: its frames, `frames` of them, are answered by a startup
+pub record AnswersStartup (call : Call) (s : Settings) (plan : Plan) : Type 0 where
   pub untroubled : IsFalse (plan.is_troubled || plan.ends)
-  pub entries : turns_given taken ≤ length plan.entries
   pub whole : All (λ entry. bytes_left entry ≡ []) plan.entries
   pub frames : ℕ
   pub started : (used : ℕ) × ((dialogue_over call s plan frames).outcome ≡ Done used)
@@ -50,11 +45,17 @@ pub record Conforms (call : Call) (s : Settings) (plan : Plan) (taken : List ℕ
   -- each entry but the last ends in the message that the next frame answers, and each frame has its entry
   pub each_frame : (i : ℕ) → i < frames → length (dialogue_over call s plan i).frames ≡ i + 1
   pub all_frames : length (dialogue_over call s plan frames).frames ≡ frames
-  -- this version knows the startup's messages
-  pub plain : IsTrue (list_all is_built (take started.0 (messages (concat (take frames plan.entries)))))
-  -- so far as frames were sent, one reply to each
-  pub replies : All IsOneReply (drop frames (take (turns_given taken) plan.entries))
   pub readable : IsTrue (list_all is_readable (messages (concat plan.entries)))
+
+-- and to each later frame that gives it the turn one reply, so far as frames were sent
+pub record AnswersRequests (plan : Plan) (frames : ℕ) (taken : List ℕ) : Type 0 where
+  pub entries : turns_given taken ≤ length plan.entries
+  pub replies : All IsOneReply (drop frames (take (turns_given taken) plan.entries))
+
+-- both
+pub record Conforms (call : Call) (s : Settings) (plan : Plan) (taken : List ℕ) : Type 0 where
+  pub opens : AnswersStartup call s plan
+  pub later : AnswersRequests plan opens.frames taken
 
 -- the answer is Ok, or want of memory
 abbrev pub EndsWell : Result Report Failure → Type 0

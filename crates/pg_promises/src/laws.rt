@@ -11,9 +11,9 @@ ghost use Rattle.pg_spec.specs.Sent.{units, turns_given};
 ghost use Rattle.pg_spec.specs.Settings.{only_user, Direct, Require, Settings};
 ghost use Rattle.pg_spec.specs.Startup.{Done};
 ghost use Rattle.pg_promises.specs.Causes.{Behind, Call, InStartup, IsStalled, OutOfTurn};
-ghost use Rattle.pg_promises.specs.ConnectionStrings.{IsUserAlone, Means};
+ghost use Rattle.pg_promises.specs.ConnectionStrings.{Means};
 ghost use Rattle.pg_promises.specs.EndedWell.{EndedWell, startup_of, replies};
-ghost use Rattle.pg_promises.specs.Examples.{select_one, select_one_sent, select_one_text, two_clients, two_clients_sent, exchanged, asked, good_plan, broken_plan, hasty_plan, with_password, with_password_sent, three_commands, three_sent, early_reply, booked_later, one_for_two, synced_first, notice_left_out, first_value, bad_header, report_skipped, asked_so};
+ghost use Rattle.pg_promises.specs.Examples.{select_one, select_one_sent, select_one_text, two_clients, two_clients_sent, exchanged, asked, good_plan, broken_plan, hasty_plan, login_plan, with_password, with_password_sent, three_commands, three_sent, early_reply, booked_later, one_for_two, synced_first, notice_left_out, first_value, bad_header, report_skipped, asked_so};
 ghost use Rattle.pg_promises.specs.Promises.{IsFront, IsValid, Conforms, MustEndWell, SentInOrder};
 
 /// Where a session stalled over a steady link, its two counts are one call that wasn't ready apart, and one more such call
@@ -24,13 +24,13 @@ pub fn counts_of_a_stall()
 {}
 
 /// What these connection strings say: a user alone, in both forms and whatever they say of a host and its port; no
-/// user; more than a user; and the first fault.
+/// user; a user and a database; and the first fault.
 pub fn worked_strings()
     ensures user { Means (codes "user=postgres") (only_user (codes "postgres")) }
     ensures keys { Means (codes "host=localhost port=5432 user=postgres") (only_user (codes "postgres")) }
     ensures url { Means (codes "postgres://postgres@localhost:5432") (only_user (codes "postgres")) }
     ensures no_user { (s : Settings) → Means (codes "host=localhost") s → s.user ≡ None }
-    ensures not_alone { (s : Settings) → Means (codes "postgres://postgres@/x") s → IsUserAlone s → ⊥ }
+    ensures database { (s : Settings) → Means (codes "postgres://postgres@/x") s → s.database ≡ Some (codes "x") }
     ensures no_value { ConnectionStringMeans (codes "user") (Err Syntax) }
     ensures unknown_key { ConnectionStringMeans (codes "a=b") (Err (UnknownOption (codes "a"))) }
     ensures no_port { ConnectionStringMeans (codes "postgres://postgres@localhost:x") (Err (InvalidValue (codes "port"))) }
@@ -73,12 +73,13 @@ pub fn worked_refused()
 {}
 
 /// A plan of one startup and one reply is a conforming server's, whatever the client sends that gives it
-/// two turns at most; over it no fixed answer keeps the promise that valid input ends well, but want of
+/// two turns at most, and so is one of a password, a startup and a reply, with three turns at most; over the first no fixed answer keeps the promise that valid input ends well, but want of
 /// memory. A plan isn't one with a parameter report that breaks its layout, nor where the reply to a
 /// password comes before the password.
 pub fn worked_plans()
     ensures valid { IsValid (asked good_plan) (only_user (codes "a")) good_plan }
     ensures conforms { (taken : List ℕ) → turns_given taken ≤ 2 → Conforms (asked good_plan) (only_user (codes "a")) good_plan taken }
+    ensures logs_in { (taken : List ℕ) → turns_given taken ≤ 3 → Conforms (asked login_plan) with_password login_plan taken }
     ensures only_memory { (failure : Failure) (taken : List ℕ) → turns_given taken ≤ 2 →
         MustEndWell (asked_so good_plan taken) (Err failure) → failure ≡ OutOfMemory }
     ensures not_broken { Conforms (asked broken_plan) (only_user (codes "a")) broken_plan select_one_sent → ⊥ }

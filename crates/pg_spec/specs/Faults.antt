@@ -8,7 +8,7 @@ pub use Rattle.pg_faults.specs.declared.fault.FrameFault.TheVariants.{ZeroByte, 
 pub use Rattle.pg_faults.specs.declared.cause.ScramFault.{ScramFault}
 pub use Rattle.pg_faults.specs.declared.cause.ScramFault.TheVariants.{BadMessage, BadNonce, BadSalt, BadIterations, BadSignature, ServerError}
 pub use Rattle.pg_faults.specs.declared.cause.Cause.{Cause}
-pub use Rattle.pg_faults.specs.declared.cause.Cause.TheVariants.{Link, Ended, Wire, Fields, FieldCount, BinaryCopy, NotUtf8 as NotText, Frame, Counter, Value, NoUser, Nonce, NoPassword, Hosts, Scripts, NotBuilt, PreferDirect, Refused, NoHostname, Handshake, Method, Mechanism, BindingRequired, NotAscii, Scram, Syntax, UnknownOption, InvalidValue, ReadOnly, NotReadOnly}
+pub use Rattle.pg_faults.specs.declared.cause.Cause.TheVariants.{Link, Ended, Wire, Fields, FieldCount, BinaryCopy, NotUtf8 as NotText, Frame, Counter, Value, NoUser, Nonce, NoPassword, Hosts, Scripts, PreferDirect, Refused, NoHostname, Handshake, Method, Mechanism, BindingRequired, NotAscii, Scram, Syntax, UnknownOption, InvalidValue, ReadOnly, NotReadOnly}
 pub use Rattle.pg_faults.specs.declared.error.Error.{Error as Failure}
 pub use Rattle.pg_faults.specs.declared.error.Error.TheVariants.{Io, UnexpectedMessage, Tls, ToSql, FromSql, Column, ColumnCount, Parameters, Closed, Db, Parse, Encode, Authentication, ConfigParse, Config, RowCount, Connect, Stalled, LimitReached, Missing, OutOfMemory}
 

@@ -16,7 +16,6 @@ pub mod Passwords
 pub mod Bindings
 pub mod Settings
 pub mod Startup
-pub mod Built
 pub mod Stamps
 pub mod Book
 pub mod Report

@@ -1,4 +1,4 @@
-use Rattle.pg_promises.proofs.WorkedStrings.{means_keys, means_url, means_user, no_port, no_user, no_value, not_alone, unknown_key}
+use Rattle.pg_promises.proofs.WorkedStrings.{database, means_keys, means_url, means_user, no_port, no_user, no_value, unknown_key}
 use Rattle.pg_promises.proofs.laws.worked_strings.Goals as goal
 
 pub returns-clause-user : goal.returns-clause-user
@@ -13,8 +13,8 @@ returns-clause-url c = means_url
 pub returns-clause-no_user : goal.returns-clause-no_user
 returns-clause-no_user c = no_user
 
-pub returns-clause-not_alone : goal.returns-clause-not_alone
-returns-clause-not_alone c = not_alone
+pub returns-clause-database : goal.returns-clause-database
+returns-clause-database c = database
 
 pub returns-clause-no_value : goal.returns-clause-no_value
 returns-clause-no_value c = no_value
