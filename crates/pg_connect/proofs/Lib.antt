@@ -8,11 +8,7 @@ pub mod Pacing
 pub mod Parts
 pub mod Clearing
 pub mod Closing
-pub mod Starting
 pub mod Sizes
-pub mod Hearing
-pub mod Offering
-pub mod Opening
 pub mod Sorting
 pub mod Arriving
 pub mod Tags

@@ -10,15 +10,10 @@ use Rattle.pg_connect.specs.declared.streams.Streams.{Streams}
 use Rattle.pg_connect.specs.Answers.{IsWithinPoll}
 use Rattle.pg_connect.specs.Faults.{error_of}
 use Rattle.pg_connect.specs.Reads.{IsWithin}
-use Rattle.pg_connect.specs.Startups.{IsWithinStart}
 
 pub within-any : {A : Type 0} (s : Streams) (r : Result A ConnectionFault) → s.given ≤ s.max_bytes → IsWithin s r
 within-any s (Err (fault.LimitReached given limit)) is = tt
 within-any s _ is = is
-
-pub start-within : (e : Error) (given limit : ℕ) → given ≤ limit → IsWithinStart e given limit
-start-within (error.LimitReached counted most) given limit is = tt
-start-within _ given limit is = is
 
 within-error : (s : Streams) (e : Error) → s.given ≤ s.max_bytes → IsWithinPoll s (Ready (Some (Err e)))
 within-error s (error.LimitReached counted most) is = tt

@@ -3,8 +3,6 @@ pub mod Kept
 pub mod Passed
 pub mod Passes
 pub mod Ends
-pub mod Startups
-pub mod StartupPolls
 pub mod Reads
 pub mod Polls
 pub mod Answers

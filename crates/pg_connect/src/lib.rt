@@ -1,4 +1,4 @@
-//! The startup and the connection: each poll reads, writes and flushes, over any link and any hub.
+//! The connection: each poll reads, writes and flushes, over any link and any hub.
 #![tactic(auto)]
 
 mod asides;
@@ -11,7 +11,6 @@ mod parameters;
 mod polling;
 mod reading;
 mod sending;
-mod startup;
 mod streams;
 mod turning;
 
@@ -20,5 +19,4 @@ pub use ends::{FlushEnd, Off, PartsEnd, ReadEnd, SendEnd, Step, TurnEnd, WriteEn
 pub use fault::ConnectionFault;
 pub use laws::{history_of_a_connection, settings_of_a_connection, settled_poll};
 pub use parameters::Parameters;
-pub use startup::{Heard, Phase, Startup};
 pub use streams::{Held, Streams};
