@@ -1,3 +1,4 @@
+pub mod Batches
 pub mod Sending
 pub mod Getting
 pub mod Lowering
@@ -7,3 +8,4 @@ pub mod Telling
 pub mod Walking
 pub mod Opening
 pub mod Nearing
+pub mod Asking

@@ -19,7 +19,7 @@ use Rattle.pg_wire.specs.Decode.{Decodes}
 use Rattle.pg_wire.specs.Faults.{wire_fault}
 use Rattle.pg_wire.specs.Messages.{message_view}
 use Rattle.pg_wire.specs.declared.message.Message.{Message}
-use Rattle.pg_connect.proofs.Hearing.{IsRest}
+use Rattle.pg_startup.proofs.Batches.{IsRest}
 use Rattle.pg_startup.specs.declared.startup.Heard.{Heard}
 use Rattle.pg_startup.specs.declared.startup.Heard.TheVariants as heard
 use Rattle.pg_startup.specs.declared.startup.Startup.{Startup}

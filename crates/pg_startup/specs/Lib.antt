@@ -2,3 +2,4 @@ pub mod Transfers
 pub mod Frames
 pub mod Startups
 pub mod StartupPolls
+pub mod SslRequests

@@ -4,8 +4,10 @@
 mod hearing;
 mod keeping;
 mod polling;
+mod ssl_request;
 mod startup;
 mod transfer;
 
+pub use ssl_request::SslRequest;
 pub use startup::{Heard, Startup};
 pub use transfer::Transfer;

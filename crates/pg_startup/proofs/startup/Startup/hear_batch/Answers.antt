@@ -1,6 +1,6 @@
 use Rattle.std.proofs.Common.{◌∷◌, [], ◌++◌, refl, inl, sym, subst, Ok, Err, ap, ◌∙◌, arith}
 use Rattle.pg_faults.specs.declared.error.Error.{Error}
-use Rattle.pg_connect.proofs.Hearing.{IsRest, last-of-batch, rest-of-batch}
+use Rattle.pg_startup.proofs.Batches.{IsRest, last-of-batch, rest-of-batch}
 use Rattle.pg_connect.proofs.Tags.{is_ready_message}
 use Rattle.pg_startup.specs.Startups.{Hears}
 use Rattle.pg_startup.proofs.Walking.{calm-first, hears-then, malformed-later, queues-none, queues-then, stops-later, walked-all, walked-ends, walked-none, walked-on}

@@ -2,7 +2,7 @@ use Rattle.std.proofs.Common.{◌≡◌, ◌≤◌, ℕ, List, Bool, true, false
 use Rattle.pg_spec.specs.Batches.{is_batch}
 use Rattle.pg_spec.specs.RawMessages.{RawMessage}
 use Rattle.pg_spec.specs.Startup.{Login}
-use Rattle.pg_connect.proofs.Hearing.{IsRest}
+use Rattle.pg_startup.proofs.Batches.{IsRest}
 use Rattle.pg_startup.specs.Startups.{HearsOnly, Queues, StandsAt, sends_left}
 use Rattle.pg_startup.proofs.Walking.{Walked}
 use Rattle.pg_startup.proofs.startup.Startup.hear_batch.Given as goal
