@@ -1,5 +1,6 @@
 -- Each failure of a session that was opened has its cause.
 pub mod StartSent
+pub mod Refusals
 pub mod Start
 pub mod Lists
 pub mod Turns
@@ -10,7 +11,7 @@ pub mod Bytes
 use Rattle.std.proofs.Common.{◌≡◌, inl, inr, ◌⊎◌, ℕ, ◌+◌, List, [], ◌∷◌, ◌++◌, length, Bool, true, false, Option, Some, None, Result, Ok, Err, refl, arith, sym, ap, subst, ◌∙◌, append-nil}
 use Rattle.std.specs.Prelude.{is_some, ◌||◌}
 use Rattle.pg_promises.specs.Causes.{Call, HasCause, OfDialogue}
-use Rattle.pg_spec.specs.Settings.{only_user}
+use Rattle.pg_spec.specs.Settings.{Settings}
 use Rattle.pg_promises.specs.ConnectionStrings.{Means}
 use Rattle.pg_spec.specs.Links.{LinkView, Grew}
 use Rattle.pg_spec.specs.Faults as faults
@@ -38,6 +39,7 @@ use Rattle.pg_session.specs.States.{SessionState}
 use Rattle.pg_session.specs.Turns.{Makes}
 use Rattle.pg_session.proofs.Crossing.{moves-by}
 use Rattle.pg_session.proofs.Crossing.Start.{stood-start}
+use Rattle.pg_session.proofs.Opening.{IsDone, done-of}
 use Rattle.pg_session.proofs.Crossing.Chain.{StoodIn, stood-all, stood-turn}
 use Rattle.pg_session.proofs.Caused.Turns.{IsOpen, open-all, takes-on, broke-off}
 use Rattle.pg_session.proofs.Caused.Asks.{AsksQueries, asks-all, asks-new, tame-in}
@@ -57,23 +59,26 @@ first_false : (a b : Bool) → (a || b) ≡ false → a ≡ false
 first_false true b e = absurd cc
 first_false false b e = refl
 
-module _ (call : Call) (user : List ℕ) (scripts : List (List Command)) (e : Error) (means : Means call.config (only_user user))
-    (b : HasBroken user call.nonce scripts call.before call.after e) (limit : b.startup.max_bytes ≡ call.limit) where
+module _ (call : Call) (settings : Settings) (scripts : List (List Command)) (e : Error) (means : Means call.config settings)
+    (b : HasBroken settings call.nonce scripts call.before call.after e) (limit : b.startup.bytes.max_bytes ≡ call.limit) where
   -- behind the startup the connection is open
   open-start : IsOpen call.limit b.opening call.before b.new.streams b.link
   open-start = record {
     keeps = b.opened.link;
     more = [];
-    took = subst (λ (x : List ℕ). Grew call.before.taken b.link.taken x) (sym b.fresh.frame ∙ sym (append-nil b.opening)) b.opened.taken;
+    took = subst (λ (x : List ℕ). Grew call.before.taken b.link.taken x) (sym b.fresh.frames ∙ sym (append-nil b.opening)) b.opened.taken;
     goes_on = ap (λ (x : Bool). (x || b.new.streams.at_end) || is_some b.new.streams.unread) b.fresh.goes_on
         ∙ ap (λ (x : Bool). x || is_some b.new.streams.unread) b.fresh.more ∙ ap (λ (o : Option Message). is_some o) b.fresh.unread;
     limit = b.fresh.limit ∙ limit;
   }
 
+  done-last : IsDone settings call.nonce b.opening b.opened.read
+  done-last = done-of settings call.nonce b.opening call.before b.link b.startup b.new.streams b.opened b.fresh
+
   stood-last : (turns : List ℕ) (state : SessionState) (link : LinkView) → MakesAll scripts turns b.new b.link state link → StoodIn b.opening b.opened.read call.before state link
   stood-last turns state link made =
       stood-all b.opening b.opened.read call.before scripts turns b.new b.link state link
-      (stood-start user call.nonce scripts call.before b.link b.startup b.opening b.new b.opened b.fresh b.is_new) made
+      (stood-start settings call.nonce scripts call.before b.link b.startup b.opening b.new b.opened b.fresh b.is_new) made
 
   open-last : (turns : List ℕ) (state : SessionState) (link : LinkView) → MakesAll scripts turns b.new b.link state link → IsOpen call.limit b.opening call.before state.streams link
   open-last turns state link made = open-all call.limit b.opening call.before scripts turns b.new b.link state link open-start made
@@ -97,8 +102,8 @@ module _ (call : Call) (user : List ℕ) (scripts : List (List Command)) (e : Er
         (open-last (out.turns ++ numbers (length scripts + 1)) out.last out.passed all-made).keeps.counts.faults fails
     pause-cause (error.Stalled before after) fails =
         let turns = out.turns ++ numbers (length scripts + 1) in
-        stalled-round call user b.opening b.opened.read scripts out.state out.link out.last out.passed out.waited before after means
-        (b.opened.frame ∙ ap (λ (l : List ℕ). Ok l) (sym b.fresh.frame)) b.opened.done
+        stalled-round call settings b.opening b.opened.read scripts out.state out.link out.last out.passed out.waited before after means
+        b.no_tls done-last
         (open-last out.turns out.state out.link out.before).keeps (open-last turns out.last out.passed all-made).keeps
         (calm_then call.before b.link out.passed b.calm out.calm).no_lull (stood-last turns out.last out.passed all-made) (asks-last turns out.last out.passed all-made)
         (quiet-round scripts out.turns b.new b.link out.state out.link out.last out.passed b.is_new b.fresh.active b.fresh.delivered out.before out.round) out.promised fails
@@ -112,12 +117,12 @@ module _ (call : Call) (user : List ℕ) (scripts : List (List Command)) (e : Er
       let was = open-last turns state link made in
       let goes = h.turns.goes in
       let stood = stood-last turns state link made in
-      let fails : Fails user call stood.events goes.events streams link = record {
+      let fails : Fails settings call stood.events goes.events streams link = record {
         means = means;
         opening = b.opening;
         first = b.opened.read;
-        frame = b.opened.frame ∙ ap (λ (l : List ℕ). Ok l) (sym b.fresh.frame);
-        done = b.opened.done;
+        no_tls = b.no_tls;
+        done = done-last;
         broke = broke-off b.opening b.opened.read call.before link call.after state.hub h.between state.streams streams state.asynchronous goes.events h.turns.handed
             stood (moves-by state.hub h.between goes.events goes.became) goes.passes;
         keeps = was.keeps;
@@ -128,7 +133,7 @@ module _ (call : Call) (user : List ℕ) (scripts : List (List Command)) (e : Er
         took = takes-on b.opening was.more goes.passes.sent call.before.taken link.taken call.after.taken was.took goes.passes.taken;
       } in
       subst (λ (x : Error). HasCause call x) (sym h.means)
-      (cause-of user call stood.events goes.events state.streams streams link fails h.fault goes.ended.1)
+      (cause-of settings call stood.events goes.events state.streams streams link fails h.fault goes.ended.1)
 
   poll-cause : (turns : List ℕ) (state : SessionState) (link : LinkView) (hub : Standing) (streams : Streams) → MakesAll scripts turns b.new b.link state link →
       (h : StaysClosed state.hub hub state.streams streams link call.after e ⊎ Failed HubBecomes state.hub hub state.streams streams link call.after e) →
@@ -195,7 +200,7 @@ module _ (call : Call) (user : List ℕ) (scripts : List (List Command)) (e : Er
           let stood = stood-last off.turns off.state off.link off.before in
           let broke = broke-off b.opening b.opened.read call.before off.link call.after off.state.hub h.between off.state.streams off.fails.streams off.state.asynchronous goes.events h.turns.handed
           stood (moves-by off.state.hub h.between goes.events goes.became) goes.passes in
-          sent-polled call user b.opening b.opened.read scripts off.state off.fails.streams stood.events goes.events means asked (b.opened.frame ∙ ap (λ (l : List ℕ). Ok l) (sym b.fresh.frame)) b.opened.done
+          sent-polled call settings b.opening b.opened.read scripts off.state off.fails.streams stood.events goes.events means asked b.no_tls done-last
           (stands-last off.turns off.state off.link off.before) broke stood.fits.book goes.calls
           (spent-polled off.state.streams off.fails.streams stood.events goes.events broke.legal_now stood.spent goes.ended.0)
 
@@ -203,14 +208,14 @@ module _ (call : Call) (user : List ℕ) (scripts : List (List Command)) (e : Er
   pause-sent asked out =
       let turns = out.turns ++ numbers (length scripts + 1) in
       let made = all-made out in
-      sent-paused call user b.opening b.opened.read scripts out.last out.passed means asked (b.opened.frame ∙ ap (λ (l : List ℕ). Ok l) (sym b.fresh.frame)) b.opened.done
+      sent-paused call settings b.opening b.opened.read scripts out.last out.passed means asked b.no_tls done-last
       (stands-last turns out.last out.passed made) (stood-last turns out.last out.passed made) out.bytes.given out.bytes.taken
 
   -- and where memory lacked for what a turn did
   turn-sent : call.scripts ≡ scripts_of scripts → (turns : List ℕ) (state : SessionState) (link : LinkView) → MakesAll scripts turns b.new b.link state link → (t : SessionState) (over : Bool) →
       Makes scripts (length scripts) state t link call.after over → OfDialogue call (λ s g t. SentInOrder call s g t)
   turn-sent asked turns state link before t over made =
-      sent-paused call user b.opening b.opened.read scripts t call.after means asked (b.opened.frame ∙ ap (λ (l : List ℕ). Ok l) (sym b.fresh.frame)) b.opened.done
+      sent-paused call settings b.opening b.opened.read scripts t call.after means asked b.no_tls done-last
       (any-turn scripts (length scripts) state t link call.after over made (calls-turn scripts (length scripts) state t link call.after over made) (stands-last turns state link before)).stands
       (stood-turn b.opening b.opened.read call.before link call.after scripts (length scripts) state t over (stood-last turns state link before) made) refl refl
 
@@ -244,7 +249,7 @@ module _ (call : Call) (user : List ℕ) (scripts : List (List Command)) (e : Er
     where
       by : (call.after ≡ short.link) ⊎ WasPolled short.state short.link call.after → OfDialogue call (λ s g t. SentInOrder call s g t)
       by (inl same) =
-          sent-paused call user b.opening b.opened.read scripts short.state short.link means asked (b.opened.frame ∙ ap (λ (l : List ℕ). Ok l) (sym b.fresh.frame)) b.opened.done
+          sent-paused call settings b.opening b.opened.read scripts short.state short.link means asked b.no_tls done-last
           (stands-last short.turns short.state short.link short.before) (stood-last short.turns short.state short.link short.before)
           (ap (λ (l : LinkView). l.given) same) (ap (λ (l : LinkView). l.taken) same)
       by (inr p) = polled-sent asked short.turns short.state short.link short.before p.hub p.streams p.answer p.polled p.misses p.fine
@@ -262,7 +267,7 @@ module _ (call : Call) (user : List ℕ) (scripts : List (List Command)) (e : Er
   kept-paused : (before after : ℕ) → call.scripts ≡ scripts_of scripts → (out : GivesOut scripts b.new b.link call.after e) → NoneKeptBack call (Err (faults.Stalled before after))
   kept-paused before after asked out =
       let turns = out.turns ++ numbers (length scripts + 1) in
-      none-kept call user b.opening b.opened.read scripts out.state out.link out.last out.passed before after means asked (b.opened.frame ∙ ap (λ (l : List ℕ). Ok l) (sym b.fresh.frame)) b.opened.done
+      none-kept call settings b.opening b.opened.read scripts out.state out.link out.last out.passed before after means asked done-last
       (open-last out.turns out.state out.link out.before).keeps (stood-last turns out.last out.passed (all-made out)) (asks-last turns out.last out.passed (all-made out))
       (quiet-round scripts out.turns b.new b.link out.state out.link out.last out.passed b.is_new b.fresh.active b.fresh.delivered out.before out.round) out.bytes.given out.bytes.taken
 

@@ -8,6 +8,7 @@ use Rattle.pg_spec.specs.Book as book
 use Rattle.pg_spec.specs.Frames.{terminate_frame}
 use Rattle.pg_spec.specs.Links.{LinkView}
 use Rattle.pg_spec.specs.RawMessages.{RawMessage}
+use Rattle.pg_spec.specs.Settings.{Settings}
 use Rattle.pg_errors.specs.declared.async_message.AsyncMessage.{AsyncMessage}
 use Rattle.pg_hub.specs.Fits.{HubBecomes}
 use Rattle.pg_hub.specs.Standing.{Standing}
@@ -80,20 +81,20 @@ was-closed opening first base l m scripts turn s t stood same made =
     }
 
 -- a session that was played to its end leaves the link flushed and shut down
-pub is-closed : (user nonce : List ℕ) (scripts : List (List Command)) (given : List ℕ) (before after : LinkView) (report : Report) →
-    HasPlayed user nonce scripts given before after report → IsClosed before after
-is-closed user nonce scripts given before after report p =
+pub is-closed : (settings : Settings) (nonce : List ℕ) (scripts : List (List Command)) (given : List ℕ) (before after : LinkView) (report : Report) →
+    HasPlayed settings nonce scripts given before after report → IsClosed before after
+is-closed settings nonce scripts given before after report p =
     let ends = p.plays.ends in
     closed-since before ends.link after (unshut-all scripts p.plays.turns p.new p.link ends.state ends.link ends.before ∙ p.opened.shut)
     (closed-turn scripts p.plays.last ends.state p.last ends.link after ends.over)
 
 -- also where memory lacked for its report
-pub over-closed : (user nonce : List ℕ) (scripts : List (List Command)) (before after : LinkView) → WasOver user nonce scripts before after → WasClosed before after
-over-closed user nonce scripts before after w =
+pub over-closed : (settings : Settings) (nonce : List ℕ) (scripts : List (List Command)) (before after : LinkView) → WasOver settings nonce scripts before after → WasClosed before after
+over-closed settings nonce scripts before after w =
     let ends = w.plays.ends in
     was-closed w.opening w.opened.read before ends.link after scripts w.plays.last ends.state w.last
     (stood-all w.opening w.opened.read before scripts w.plays.turns w.new w.link ends.state ends.link
-    (stood-start user nonce scripts before w.link w.startup w.opening w.new w.opened w.fresh w.is_new) ends.before)
+    (stood-start settings nonce scripts before w.link w.startup w.opening w.new w.opened w.fresh w.is_new) ends.before)
     (unshut-all scripts w.plays.turns w.new w.link ends.state ends.link ends.before ∙ w.opened.shut) ends.over
 
 -- ---- a session that failed behind its startup
@@ -109,14 +110,14 @@ noted turn state hub streams = record {
   asynchronous = state.asynchronous;
 }
 
-module _ (user nonce : List ℕ) (scripts : List (List Command)) (before after : LinkView) (e : Error) (b : HasBroken user nonce scripts before after e) where
+module _ (settings : Settings) (nonce : List ℕ) (scripts : List (List Command)) (before after : LinkView) (e : Error) (b : HasBroken settings nonce scripts before after e) where
   so-far : (turns : List ℕ) (state : SessionState) (link : LinkView) → MakesAll scripts turns b.new b.link state link → link.shut ≡ before.shut
   so-far turns state link made = unshut-all scripts turns b.new b.link state link made ∙ b.opened.shut
 
   stood-so : (turns : List ℕ) (state : SessionState) (link : LinkView) → MakesAll scripts turns b.new b.link state link → StoodIn b.opening b.opened.read before state link
   stood-so turns state link made =
       stood-all b.opening b.opened.read before scripts turns b.new b.link state link
-      (stood-start user nonce scripts before b.link b.startup b.opening b.new b.opened b.fresh b.is_new) made
+      (stood-start settings nonce scripts before b.link b.startup b.opening b.new b.opened b.fresh b.is_new) made
 
   -- memory lacked behind a poll
   polled-open : (turns : List ℕ) (state : SessionState) (link : LinkView) → MakesAll scripts turns b.new b.link state link → (hub : Standing) (streams : Streams)

@@ -4,17 +4,16 @@ pub mod Groups
 pub mod Start
 pub mod Course
 use Rattle.std.proofs.Common.{◌≡◌, ◌⊎◌, ◌<◌, ◌≤◌, ◌+◌, ◌-◌, ℕ, zero, suc, List, [], ◌∷◌, ◌++◌, length, take, drop, Bool, true, false, not, ◌||◌, Option, Some, None, Result, Ok, Err, inl, inr, refl, sym, ap, subst, ◌∙◌, append_assoc, append-nil, arith}
-use Rattle.std.specs.Prelude.{IfSome, IsTrue, IsOk, count_by, is_none, slice_get, if◌then◌else◌}
+use Rattle.std.specs.Prelude.{IfSome, IsSome, IsTrue, IsOk, count_by, is_none, slice_get}
 use Rattle.std.specs.List.{concat, list_all, AllByRecursion}
-use Rattle.std.proofs.lemmas.List.{length-append, length-drop, length-take, take-append-le, drop-append-le}
+use Rattle.std.proofs.lemmas.List.{length-append, length-drop, length-take, drop-append-le}
 use Rattle.std.proofs.lemmas.List.Elements.{recursion_from_All}
 use Rattle.std.proofs.lemmas.Bool.{true≢false}
 use Rattle.std.proofs.lemmas.Option.{same_Some}
 use Rattle.std.proofs.Math.Seq.{drop-append_seam}
-use Rattle.pg_promises.specs.Causes.{Call, HasCause, OfDialogue, InStartup, AsksMore, Behind, NeedsNoTls, OutOfTurn, IsAwaited, IsPastLimit, whole_groups}
+use Rattle.pg_promises.specs.Causes.{Call, HasCause, OfDialogue, InStartup, Behind, NeedsNoTls, OutOfTurn, IsAwaited, IsPastLimit, whole_groups}
 use Rattle.pg_spec.specs.Asides.{AsideUnreadable, AsideBreaks, aside_fault, is_readable}
-use Rattle.pg_spec.specs.Built.{is_built}
-use Rattle.pg_spec.specs.Settings.{only_user, Settings}
+use Rattle.pg_spec.specs.Settings.{Settings}
 use Rattle.pg_promises.specs.ConnectionStrings.{Means}
 use Rattle.pg_spec.specs.Faults.{FrameFault, WireFault, Failure}
 use Rattle.pg_spec.specs.Faults as faults
@@ -23,87 +22,96 @@ use Rattle.pg_spec.specs.Messages.{Message}
 use Rattle.pg_promises.specs.Promises.{IsValid, Conforms, EndsWell, IsOneReply}
 use Rattle.pg_promises.proofs.Strings.{means_one, no_fault}
 use Rattle.pg_spec.specs.RawMessages.{RawMessage, messages, bytes_left, has_bad_header, groups, is_async, is_parameter, is_whole_group}
-use Rattle.pg_spec.specs.Sent.{after_startup_frame, asked_for_tls, gives_turn, turns_given}
+use Rattle.pg_spec.specs.Sent.{turns_given}
 use Rattle.pg_spec.specs.Startup.{Startup, Done, More, First, used_of, begun_by, dialogue, startup, session_part, plain_login}
 use Rattle.pg_spec.proofs.GroupLaws.{groups-AreFronts}
-use Rattle.pg_connect.specs.Startups.{frame_of}
+use Rattle.pg_login.specs.Steps.{frame_of}
 use Rattle.pg_session.specs.Course.{HoldsCourse}
-use Rattle.pg_session.proofs.Caused.Frames.{sent-behind}
-use Rattle.pg_session.proofs.Complete.Bytes.{IsWhole, IsFrontOf, all-behind, all-drop, all-front, all-holds, all-take, first-of-front, front-of, holds-within, messages-behind, never-bad, none-front, place-low, split-concat, stands-at, whole-concat}
-use Rattle.pg_session.proofs.Complete.Groups.{AreReplies, IsAside, are-replies, few-units-whole, groups-behind}
-use Rattle.pg_session.proofs.Complete.Start.{done-later, front-startup, never-refused, used-within, waits-within}
-use Rattle.pg_session.proofs.Crossing.Start.{no-frames}
+use Rattle.pg_session.proofs.Complete.Bytes.{IsWhole, IsFrontOf, all-behind, all-drop, all-front, all-holds, all-take, first-of-front, front-of, messages-behind, never-bad, place-low, split-concat, whole-concat}
+use Rattle.pg_session.proofs.Complete.Groups.{AreReplies, IsAside, are-replies, groups-behind}
+use Rattle.pg_session.proofs.Complete.Start.{done-later, front-startup, never-refused, same-later, used-within}
+use Rattle.pg_session.proofs.Opening.Passwords.{dialogue-passwords}
+use Rattle.pg_session.proofs.Opening.Turns.{opening-turns}
+use Rattle.pg_session.proofs.SentSoFar.TurnsCounted.{front-all}
+
+-- one of two numbers is no less
+le_or_lt : (m n : ℕ) → (m ≤ n) ⊎ (n < m)
+le_or_lt zero n = inl (omega arith)
+le_or_lt (suc m) zero = inr (omega arith)
+le_or_lt (suc m) (suc n) = elim (le_or_lt m n) [ inl low ↦ inl (omega (arith, low)) | inr less ↦ inr (omega (arith, less)) ]
+
+none-long : {X : Type 0} (xs : List X) → length xs ≡ 0 → xs ≡ []
+none-long [] e = refl
+none-long (x ∷ xs) e = absurd (omega (arith, e))
 
 ok-of : (r : Result (List ℕ) FrameFault) → IsOk r → (frame : List ℕ) × (r ≡ Ok frame)
 ok-of (Ok frame) is = (frame, refl)
 ok-of (Err fault) is = absurd cc
 
-module _ (call : Call) (user : List ℕ) (plan : Plan) (g t : List ℕ) (means : Means call.config (only_user user))
-    (v : IsValid call (only_user user) plan) (c : Conforms call (only_user user) plan t) (k : HoldsCourse call plan g t) where
-  abbrev s : Settings
-  s = only_user user
+-- what is set isn't missing
+none-user : (o : Option (List ℕ)) → o ≡ None → IsSome o → ⊥
+none-user None none some = absurd cc
+none-user (Some user) none some = cc
 
+module _ (call : Call) (settings : Settings) (plan : Plan) (g t : List ℕ) (means : Means call.config settings)
+    (v : IsValid call settings plan) (c : Conforms call settings plan t) (k : HoldsCourse call settings plan g t) where
   abbrev entries : List (List ℕ)
   entries = plan.entries
 
+  -- how many frames the startup has
+  abbrev many : ℕ
+  many = c.opens.frames
+
   abbrev used : ℕ
-  used = c.started.0
+  used = c.opens.started.0
 
   -- what may come, that of the startup, and behind it
   abbrev come : List ℕ
   come = concat (take (turns_given t) entries)
 
   abbrev first : List ℕ
-  first = concat (take 1 entries)
+  first = concat (take many entries)
 
   abbrev replies : List (List ℕ)
-  replies = drop 1 (take (turns_given t) entries)
+  replies = drop many (take (turns_given t) entries)
 
   abbrev dialogue_of : List RawMessage → Startup
-  dialogue_of ms = startup s call.nonce ms
+  dialogue_of ms = startup settings call.nonce ms
 
   whole : AllByRecursion IsWhole entries
-  whole = recursion_from_All IsWhole entries c.whole
+  whole = recursion_from_All IsWhole entries c.opens.whole
 
-  opening : (frame : List ℕ) × (frame_of user ≡ Ok frame)
-  opening = ok-of (frame_of user) v.frame
-
-  one-frame : (ms : List RawMessage) → (dialogue_of ms).frames ≡ opening.0 ∷ []
-  one-frame ms =
-      ap (λ (r : Result (List ℕ) FrameFault). (begun_by r (dialogue (plain_login s call.nonce) First ms)).frames) opening.1
-      ∙ ap (λ (l : List (List ℕ)). opening.0 ∷ l) (no-frames user call.nonce First ms tt)
-
-  is-one : c.frames ≡ 1
-  is-one = sym c.all_frames ∙ ap length (one-frame (messages (concat (take c.frames entries))))
+  opening : (frame : List ℕ) × (frame_of settings ≡ Ok frame)
+  opening = ok-of (frame_of settings) v.frame
 
   done-first : (dialogue_of (messages first)).outcome ≡ Done used
-  done-first = subst (λ (n : ℕ). (dialogue_of (messages (concat (take n entries)))).outcome ≡ Done used) is-one c.started.1
+  done-first = c.opens.started.1
 
   asides : AllByRecursion IsAside (drop used (messages first))
-  asides = subst (λ (n : ℕ). AllByRecursion IsAside (drop used (messages (concat (take n entries))))) is-one
-      (recursion_from_All IsAside (drop used (messages (concat (take c.frames entries)))) c.started.2)
-
-  built-first : list_all is_built (take used (messages first)) ≡ true
-  built-first = subst (λ (n : ℕ). list_all is_built (take used (messages (concat (take n entries)))) ≡ true) is-one c.plain
+  asides = recursion_from_All IsAside (drop used (messages first)) c.opens.started.2
 
   enough : used ≤ length (messages first)
-  enough = used-within s call.nonce (messages first) used done-first
+  enough = used-within settings call.nonce (messages first) used done-first
 
   whole-first : bytes_left first ≡ []
-  whole-first = whole-concat (take 1 entries) (all-take IsWhole 1 entries whole)
+  whole-first = whole-concat (take many entries) (all-take IsWhole many entries whole)
+
+  whole-come : bytes_left come ≡ []
+  whole-come = whole-concat (take (turns_given t) entries) (all-take IsWhole (turns_given t) entries whole)
 
   -- the messages of the whole plan begin with those of the startup
-  all-split : messages (concat entries) ≡ messages first ++ messages (concat (drop 1 entries))
-  all-split = ap messages (sym (split-concat 1 entries)) ∙ messages-behind first (concat (drop 1 entries)) whole-first
+  all-split : messages (concat entries) ≡ messages first ++ messages (concat (drop many entries))
+  all-split = ap messages (sym (split-concat many entries)) ∙ messages-behind first (concat (drop many entries)) whole-first
 
   done-all : (dialogue_of (messages (concat entries))).outcome ≡ Done used
   done-all = subst (λ (l : List RawMessage). (dialogue_of l).outcome ≡ Done used) (sym all-split)
-      (done-later s call.nonce (messages first) (messages (concat (drop 1 entries))) used done-first)
+      (done-later settings call.nonce (messages first) (messages (concat (drop many entries))) used done-first)
 
-  built-all : list_all is_built (take used (messages (concat entries))) ≡ true
-  built-all =
-      ap (λ (l : List RawMessage). list_all is_built (take used l)) all-split
-      ∙ ap (list_all is_built) (take-append-le used (messages first) (messages (concat (drop 1 entries))) enough) ∙ built-first
+  frames-all : length (dialogue_of (messages (concat entries))).frames ≡ many
+  frames-all =
+      ap (λ (l : List RawMessage). length (dialogue_of l).frames) all-split
+      ∙ ap (λ (d : Startup). length d.frames) (same-later settings call.nonce (messages first) (messages (concat (drop many entries))) used done-first)
+      ∙ c.opens.all_frames
 
   -- and with those given
   front-bytes : g ++ (k.rest ++ concat (drop (turns_given t) entries)) ≡ concat entries
@@ -118,38 +126,35 @@ module _ (call : Call) (user : List ℕ) (plan : Plan) (g t : List ℕ) (means :
 
   -- ---- the startup
 
-  refused : (f : Failure) → InStartup f call s g → ⊥
-  refused f h = never-refused s call.nonce (messages g) front.more used f done-front h.1
+  refused : (f : Failure) → InStartup f call settings g → ⊥
+  refused f h = never-refused settings call.nonce (messages g) front.more used f done-front h.1
 
-  asks : AsksMore call s g → ⊥
-  asks a =
-      let p = stands-at (messages g) a.place a.message a.stands in
-      let is : messages (concat entries) ≡ p.front ++ a.message ∷ (p.rest ++ front.more) =
-      front.is ∙ ap (λ (l : List RawMessage). l ++ front.more) p.is ∙ append_assoc p.front (a.message ∷ p.rest) front.more in
-      let more : (dialogue_of p.front).outcome ≡ More = ap (λ (l : List RawMessage). (dialogue_of l).outcome) (sym p.taken) ∙ a.awaited in
-      let low : length p.front < used = waits-within s call.nonce p.front (a.message ∷ (p.rest ++ front.more)) used
-      (subst (λ (l : List RawMessage). (dialogue_of l).outcome ≡ Done used) is done-all) more in
-      let known : is_built a.message ≡ true = holds-within is_built used p.front a.message (p.rest ++ front.more) low
-      (subst (λ (l : List RawMessage). list_all is_built (take used l) ≡ true) is built-all) in
-      true≢false (sym known ∙ a.other)
+  done-same : (u : ℕ) → (dialogue_of (messages g)).outcome ≡ Done u → u ≡ used
+  done-same u done = elim (front-startup settings call.nonce (messages g) front.more used done-front) [
+    | inl open_ ↦ absurd (let no : More ≡ Done u = sym open_ ∙ done in cc)
+    | inr same ↦ ap used_of (sym done ∙ same)
+  ]
 
-  -- nothing comes before a turn was given
-  nothing-done : (u : ℕ) → g ≡ [] → (dialogue_of (messages g)).outcome ≡ Done u → ⊥
-  nothing-done u none done =
-      let more : (dialogue_of []).outcome ≡ More = ap (λ (r : Result (List ℕ) FrameFault). (begun_by r (dialogue (plain_login s call.nonce) First [])).outcome) opening.1 in
-      let no : More ≡ Done u = sym more ∙ sym (ap (λ (l : List ℕ). (dialogue_of (messages l)).outcome) none) ∙ done in cc
+  -- once it is done, all its frames are written
+  frames-done : (u : ℕ) → (dialogue_of (messages g)).outcome ≡ Done u → length (dialogue_of (messages g)).frames ≡ many
+  frames-done u done =
+      ap (λ (d : Startup). length d.frames) (sym (same-later settings call.nonce (messages g) front.more u done))
+      ∙ ap (λ (l : List RawMessage). length (dialogue_of l).frames) (sym front.is) ∙ frames-all
 
-  some-turn : (u : ℕ) → (dialogue_of (messages g)).outcome ≡ Done u → 1 ≤ turns_given t
-  some-turn u done = by (turns_given t) refl
-    where
-      by : (n : ℕ) → turns_given t ≡ n → 1 ≤ turns_given t
-      by zero e = absurd (nothing-done u (none-front g k.rest (k.front ∙ ap (λ (n : ℕ). concat (take n entries)) e)) done)
-      by (suc n) e = omega (arith, e)
+  -- what was taken of its frames gave as many turns
+  frames-turns : (ms : List RawMessage) → t ≡ concat (dialogue_of ms).frames → turns_given t ≡ length (dialogue_of ms).frames
+  frames-turns ms is =
+      let ps = (dialogue (plain_login settings call.nonce) First ms).frames in
+      let all : (dialogue_of ms).frames ≡ opening.0 ∷ ps =
+      ap (λ (r : Result (List ℕ) FrameFault). (begun_by r (dialogue (plain_login settings call.nonce) First ms)).frames) opening.1 in
+      let turns = opening-turns settings opening.0 opening.1 ps (dialogue-passwords (plain_login settings call.nonce) First ms) t []
+      (is ∙ ap concat all ∙ sym (append-nil (opening.0 ++ concat ps))) in
+      omega (arith, turns, ap length all)
 
   -- ---- what stands behind it
 
   readable : list_all is_readable (messages g) ≡ true
-  readable = all-front is_readable (messages g) front.more (subst (λ (l : List RawMessage). list_all is_readable l ≡ true) front.is c.readable)
+  readable = all-front is_readable (messages g) front.more (subst (λ (l : List RawMessage). list_all is_readable l ≡ true) front.is c.opens.readable)
 
   abbrev tells : RawMessage → Result Message WireFault → Bool
   tells m r = elim r [ Ok message ↦ is_none (aside_fault message) | Err fault ↦ not (is_async m || is_parameter m) ]
@@ -160,9 +165,9 @@ module _ (call : Call) (user : List ℕ) (plan : Plan) (g t : List ℕ) (means :
       let not-read : is_readable h.0 ≡ false = ap (tells h.0) h.3 ∙ ap (λ (o : Option faults.Cause). is_none o) h.4 in
       true≢false (sym read ∙ not-read)
 
-  breaks : (fault : WireFault) → Behind call s g (AsideBreaks fault) → ⊥
+  breaks : (fault : WireFault) → Behind call settings g (AsideBreaks fault) → ⊥
   breaks fault (plain, (u, done, h)) =
-      let read : is_readable h.0 ≡ true = all-holds is_readable (session_part s call.nonce (messages g)) h.0
+      let read : is_readable h.0 ≡ true = all-holds is_readable (session_part settings call.nonce (messages g)) h.0
       (all-behind is_readable (used_of (dialogue_of (messages g)).outcome) (messages g) readable) h.1 in
       let not-read : is_readable h.0 ≡ false = ap (tells h.0) h.3 ∙ ap (λ (b : Bool). not b) h.2 in
       true≢false (sym read ∙ not-read)
@@ -171,55 +176,66 @@ module _ (call : Call) (user : List ℕ) (plan : Plan) (g t : List ℕ) (means :
   bad-header h = never-bad g (k.rest ++ concat (drop (turns_given t) entries)) (ap bytes_left front-bytes ∙ whole-concat entries whole) h
 
   -- the messages that came behind the startup
-  done-same : (u : ℕ) → (dialogue_of (messages g)).outcome ≡ Done u → u ≡ used
-  done-same u done = elim (front-startup s call.nonce (messages g) front.more used done-front) [
-    | inl open_ ↦ absurd (let no : More ≡ Done u = sym open_ ∙ done in cc)
-    | inr same ↦ ap used_of (sym done ∙ same)
-  ]
-
-  session-is : (u : ℕ) → (dialogue_of (messages g)).outcome ≡ Done u → session_part s call.nonce (messages g) ≡ drop used (messages g)
+  session-is : (u : ℕ) → (dialogue_of (messages g)).outcome ≡ Done u → session_part settings call.nonce (messages g) ≡ drop used (messages g)
   session-is u done = ap (λ o. drop (used_of o) (messages g)) done ∙ ap (λ (n : ℕ). drop n (messages g)) (done-same u done)
 
-  -- what may come is the startup's entry, and then the replies
-  come-split : 1 ≤ turns_given t → messages come ≡ messages first ++ messages (concat replies)
+  -- what may come is the startup's entries, and then the replies
+  come-split : many ≤ turns_given t → messages come ≡ messages first ++ messages (concat replies)
   come-split low =
-      ap messages (sym (split-concat 1 (take (turns_given t) entries)) ∙ ap (λ (l : List (List ℕ)). concat l ++ concat replies) (first-of-front (turns_given t) entries low))
+      ap messages (sym (split-concat many (take (turns_given t) entries)) ∙ ap (λ (l : List (List ℕ)). concat l ++ concat replies) (first-of-front many (turns_given t) entries low))
       ∙ messages-behind first (concat replies) whole-first
 
-  count-replies : length replies ≡ turns_given t - 1
+  count-replies : length replies ≡ turns_given t - many
   count-replies =
-      let a = length-drop 1 (take (turns_given t) entries) in
+      let a = length-drop many (take (turns_given t) entries) in
       let b = length-take (turns_given t) entries in
-      let few = c.entries in
+      let few = c.later.entries in
       omega (arith, a, b, few)
 
   are-all : AreReplies (length replies) (messages (concat replies))
-  are-all = are-replies replies (all-drop IsWhole 1 (take (turns_given t) entries) (all-take IsWhole (turns_given t) entries whole))
-      (subst (λ (n : ℕ). AllByRecursion IsOneReply (drop n (take (turns_given t) entries))) is-one
-      (recursion_from_All IsOneReply (drop c.frames (take (turns_given t) entries)) c.replies))
+  are-all = are-replies replies (all-drop IsWhole many (take (turns_given t) entries) (all-take IsWhole (turns_given t) entries whole))
+      (recursion_from_All IsOneReply replies c.later.replies)
 
-  later-groups : 1 ≤ turns_given t → groups (drop used (messages come)) ≡ groups (messages (concat replies))
-  later-groups low =
-      ap (λ (l : List RawMessage). groups (drop used l)) (come-split low)
-      ∙ ap groups (drop-append-le used (messages first) (messages (concat replies)) enough)
-      ∙ groups-behind (drop used (messages first)) (messages (concat replies)) asides
+  -- where not all turns of the startup were given, its entries begin with what may come
+  first-split : turns_given t ≤ many → messages first ≡ messages come ++ messages (concat (drop (turns_given t) (take many entries)))
+  first-split low =
+      let rest = concat (drop (turns_given t) (take many entries)) in
+      ap messages (sym (split-concat (turns_given t) (take many entries)) ∙ ap (λ (l : List (List ℕ)). concat l ++ rest) (first-of-front (turns_given t) many entries low))
+      ∙ messages-behind come rest whole-come
+
+  -- as many groups as replies, where the startup is done with what may come
+  later-groups : used ≤ length (messages come) → groups (drop used (messages come)) ≡ groups (messages (concat replies))
+  later-groups fits = elim (le_or_lt many (turns_given t)) [
+    | inl low ↦
+        ap (λ (l : List RawMessage). groups (drop used l)) (come-split low)
+        ∙ ap groups (drop-append-le used (messages first) (messages (concat replies)) enough)
+        ∙ groups-behind (drop used (messages first)) (messages (concat replies)) asides
+    | inr less ↦
+        let rest = messages (concat (drop (turns_given t) (take many entries))) in
+        let behind : drop used (messages first) ≡ drop used (messages come) ++ rest =
+        ap (drop used) (first-split (omega (arith, less))) ∙ drop-append-le used (messages come) rest fits in
+        let none : groups (drop used (messages come)) ≡ [] =
+        ap groups (sym (append-nil (drop used (messages come))))
+        ∙ groups-behind (drop used (messages come)) [] (front-all IsAside (drop used (messages come)) rest (subst (AllByRecursion IsAside) behind asides)) in
+        let no-reply : replies ≡ [] = none-long replies (omega (arith, count-replies, less)) in
+        none ∙ sym (ap (λ (l : List (List ℕ)). groups (messages (concat l))) no-reply)
+  ]
 
   -- no message comes out of turn
-  in-turn : (f : Failure) → Behind call s g (OutOfTurn f t) → ⊥
+  in-turn : (f : Failure) → Behind call settings g (OutOfTurn f t) → ⊥
   in-turn f (plain, (u, done, o)) =
-      let low = some-turn u done in
       let given = front-of g k.rest come k.front in
-      let fits : used ≤ length (messages g) = used-within s call.nonce (messages g) used (done ∙ ap Done (done-same u done)) in
+      let fits : used ≤ length (messages g) = used-within settings call.nonce (messages g) used (done ∙ ap Done (done-same u done)) in
+      let long : length (messages come) ≡ length (messages g) + length given.more = ap length given.is ∙ length-append (messages g) given.more in
       let all : groups (drop used (messages g) ++ given.more) ≡ groups (messages (concat replies)) =
-      ap groups (sym (drop-append-le used (messages g) given.more fits)) ∙ ap (λ (l : List RawMessage). groups (drop used l)) (sym given.is) ∙ later-groups low in
+      ap groups (sym (drop-append-le used (messages g) given.more fits)) ∙ ap (λ (l : List RawMessage). groups (drop used l)) (sym given.is) ∙ later-groups (omega (arith, fits, long)) in
       let there = groups-AreFronts (drop used (messages g)) given.more o.before (o.first ∷ o.group)
       (subst (λ (l : List RawMessage). slice_get (groups l) o.before ≡ Some (o.first ∷ o.group)) (session-is u done) o.stands) in
       let place = place-low (groups (drop used (messages g) ++ given.more)) o.before ((o.first ∷ o.group) ++ there.0) there.1 in
       let count : length (groups (drop used (messages g) ++ given.more)) ≡ length replies = ap length all ∙ are-all.count in
       let unasked = o.unasked in
       let asked = k.asked in
-      let many = count-replies in
-      omega (arith, place, count, unasked, asked, many)
+      omega (arith, place, count, unasked, asked, count-replies, frames-done u done)
 
   -- ---- nothing more may come
 
@@ -230,47 +246,47 @@ module _ (call : Call) (user : List ℕ) (plan : Plan) (g t : List ℕ) (means :
         let rest : k.rest ≡ [] = sym (drop-append_seam g k.rest) ∙ ap (drop (length g)) k.front ∙ none in
         sym (append-nil g) ∙ ap (λ (l : List ℕ). g ++ l) (sym rest) ∙ k.front
 
-    -- then the startup is done, once the first turn was given
-    goes-on : 1 ≤ turns_given t → (dialogue_of (messages g)).outcome ≡ More → ⊥
+    -- where all turns of the startup were given, it is done
+    goes-on : many ≤ turns_given t → (dialogue_of (messages g)).outcome ≡ More → ⊥
     goes-on low more =
         let done : (dialogue_of (messages come)).outcome ≡ Done used =
-        subst (λ (l : List RawMessage). (dialogue_of l).outcome ≡ Done used) (sym (come-split low)) (done-later s call.nonce (messages first) (messages (concat replies)) used done-first) in
+        subst (λ (l : List RawMessage). (dialogue_of l).outcome ≡ Done used) (sym (come-split low)) (done-later settings call.nonce (messages first) (messages (concat replies)) used done-first) in
         let no : More ≡ Done used = sym more ∙ ap (λ (l : List ℕ). (dialogue_of (messages l)).outcome) all-given ∙ done in cc
 
-    startup-turn : t ≡ concat (dialogue_of (messages g)).frames → 1 ≤ turns_given t
-    startup-turn is =
-        let sent : t ≡ opening.0 ++ [] = is ∙ ap concat (one-frame (messages g)) in
-        let turns : turns_given t ≡ (if asked_for_tls t then 1 else 0) + (1 + count_by gives_turn (messages [])) =
-        ap (λ (o : Option (List ℕ)). (if asked_for_tls t then 1 else 0) + elim o [ None ↦ 0 | Some rest ↦ 1 + count_by gives_turn (messages rest) ])
-        (ap after_startup_frame sent ∙ sent-behind user opening.0 [] opening.1) in
-        omega (arith, turns)
+    -- and where not, it has written one frame more than turns were given
+    writes-on : turns_given t < many → t ≡ concat (dialogue_of (messages g)).frames → ⊥
+    writes-on less is =
+        let one-more : length (dialogue_of (messages come)).frames ≡ turns_given t + 1 = c.opens.each_frame (turns_given t) less in
+        omega (arith, one-more, frames-turns (messages g) is, ap (λ (l : List ℕ). length (dialogue_of (messages l)).frames) all-given)
 
-    not-awaited : IsAwaited call s g t → ⊥
-    not-awaited (inl (plain, more, is)) = goes-on (startup-turn is) more
+    not-awaited : IsAwaited call settings g t → ⊥
+    not-awaited (inl (plain, more, is)) = elim (le_or_lt many (turns_given t)) [ inl low ↦ goes-on low more | inr less ↦ writes-on less is ]
     not-awaited (inr (inl asked)) = v.no_tls asked.0.0
     not-awaited (inr (inr (plain, (u, done, less)))) =
-        let low = some-turn u done in
-        let count : whole_groups (session_part s call.nonce (messages g)) ≡ length replies =
+        let fits : used ≤ length (messages come) =
+        subst (λ (l : List ℕ). used ≤ length (messages l)) all-given (used-within settings call.nonce (messages g) used (done ∙ ap Done (done-same u done))) in
+        let count : whole_groups (session_part settings call.nonce (messages g)) ≡ length replies =
         ap whole_groups (session-is u done) ∙ ap (λ (l : List ℕ). whole_groups (drop used (messages l))) all-given
-        ∙ ap (λ (l : List (List RawMessage)). count_by is_whole_group l) (later-groups low) ∙ are-all.whole in
-        let many = count-replies in
-        let few = few-units-whole t in
-        omega (arith, less, count, many, few)
+        ∙ ap (λ (l : List (List RawMessage)). count_by is_whole_group l) (later-groups fits) ∙ are-all.whole in
+        elim k.whole [
+          | inl none ↦ omega (arith, less, none)
+          | inr some ↦ omega (arith, less, count, count-replies, some, frames-done u done)
+        ]
 
   -- ---- each failure
 
   -- P of the settings and the bytes
-  dialogue-says : (P : Settings → List ℕ → List ℕ → Type 0) → OfDialogue call P → P s g t
+  dialogue-says : (P : Settings → List ℕ → List ℕ → Type 0) → OfDialogue call P → P settings g t
   dialogue-says P (s', is, told) =
       let given : added call.before.given call.after.given ≡ Some g = ap (λ o. added o call.after.given) k.none_given ∙ ap (λ o. added (Some []) o) k.tells_given in
       let taken : added call.before.taken call.after.taken ≡ Some t = ap (λ o. added o call.after.taken) k.none_taken ∙ ap (λ o. added (Some []) o) k.tells_taken in
-      subst (λ (x : Settings). P x g t) (means_one call.config s' s is means)
+      subst (λ (x : Settings). P x g t) (means_one call.config s' settings is means)
       (subst (λ o. IfSome o (λ t. P s' g t)) taken
       (subst (λ o. IfSome o (λ g. IfSome (added call.before.taken call.after.taken) (λ t. P s' g t))) given told))
 
   within : (given limit : ℕ) → IsPastLimit call given limit → ⊥
   within given limit h =
-      let count : length g ≡ given = dialogue-says (λ s g t. length g ≡ given) (s, means, h.counted) in
+      let count : length g ≡ given = dialogue-says (λ s g t. length g ≡ given) (settings, means, h.counted) in
       let more : length g ≤ length (concat entries) = subst (λ (l : List ℕ). length g ≤ length l) front-bytes
       (omega (arith, length-append g (k.rest ++ concat (drop (turns_given t) entries)))) in
       let most = v.limit in
@@ -293,12 +309,9 @@ module _ (call : Call) (user : List ℕ) (plan : Plan) (g t : List ℕ) (means :
 
   -- a session that fails fails for want of memory
   pub ends-well : (f : Failure) → HasCause call f → EndsWell (Err f)
-  ends-well (faults.ConfigParse cause) h = no_fault call.config s cause means h
-  ends-well (faults.Config faults.NotBuilt) (inl more) =
-      let said = more.settings in said.2.1 (user, means_one call.config said.0 s said.1 means)
-  ends-well (faults.Config faults.NotBuilt) (inr h) = asks (dialogue-says (λ s g t. NeedsNoTls s × AsksMore call s g) h).1
+  ends-well (faults.ConfigParse cause) h = no_fault call.config settings cause means h
   ends-well (faults.Config faults.NoUser) h =
-      let none : Some user ≡ None = subst (λ (x : Settings). x.user ≡ None) (means_one call.config h.0 s h.1 means) h.2 in cc
+      none-user settings.user (ap (λ (x : Settings). x.user) (sym (means_one call.config h.0 settings h.1 means)) ∙ h.2) v.user
   ends-well (faults.Config faults.Nonce) h = true≢false (sym v.nonce ∙ h.1)
   ends-well (faults.Config faults.NoPassword) h = refused (faults.Config faults.NoPassword) (dialogue-says _ h)
   ends-well (faults.Config _) h = absurd h

@@ -81,9 +81,9 @@ pub record Stood (opening : List ℕ) (startup : List RawMessage) (base : LinkVi
   pub unread : IsUnread s.unread lost
   pub out : (opening ++ bytes_out_by events) ++ goodbye false s.closing ≡ taken ++ s.unsent
   pub delivered : sync_of read ≡ delivered_by events ++ waiting s.held
-  pub handed_out : async_of read ≡ handed ++ delayed_in s
+  pub handed_out : async_of (startup ++ read) ≡ handed ++ delayed_in s
   pub readable : list_all is_readable read ≡ true
-  pub kept : s.parameters ≡ keep_all [] (parameter_reports read)
+  pub kept : s.parameters ≡ keep_all [] (parameter_reports (startup ++ read))
   pub count : s.given ≡ length given
   pub counted : s.delivered ≡ risen 0 (length (delivered_by events))
   pub shows : shown asides ≡ map said.async_of_raw handed
@@ -240,12 +240,13 @@ stood-passing opening startup base l m a b s t old new h turn =
       delivered = filter-append _ h.read p.read
           ∙ relay [] (sync_of h.read) (delivered_by h.events) (waiting s.held) (sync_of p.read) (delivered_by es) (waiting t.held) h.delivered p.delivered
           ∙ ap (λ x. x ++ waiting t.held) (sym (delivered_by-append h.events es));
-      handed_out = filter-append _ h.read p.read
-          ∙ relay [] (async_of h.read) h.handed (delayed_in s) (async_of p.read) hs (delayed_in t) h.handed_out p.handed_out;
+      handed_out = ap async_of (sym (append_assoc startup h.read p.read)) ∙ filter-append _ (startup ++ h.read) p.read
+          ∙ relay [] (async_of (startup ++ h.read)) h.handed (delayed_in s) (async_of p.read) hs (delayed_in t) h.handed_out p.handed_out;
       readable = list_all-append is_readable h.read p.read ∙ ap (λ (b : Bool). b && list_all is_readable p.read) h.readable ∙ p.readable;
       kept = p.kept ∙ ap (λ x. keep_all x (parameter_reports p.read)) h.kept
-          ∙ sym (fold-append keep [] (parameter_reports h.read) (parameter_reports p.read))
-          ∙ ap (keep_all []) (sym (filter_map-append _ h.read p.read));
+          ∙ sym (fold-append keep [] (parameter_reports (startup ++ h.read)) (parameter_reports p.read))
+          ∙ ap (keep_all []) (sym (filter_map-append _ (startup ++ h.read) p.read))
+          ∙ ap (λ (x : List RawMessage). keep_all [] (parameter_reports x)) (append_assoc startup h.read p.read);
       count = omega (arith, p.count, h.count, length-append h.given p.got);
       counted = risen_then 0 s.delivered t.delivered (length (delivered_by h.events)) (length (delivered_by es)) _ h.counted p.delivered_count
           (ap length (delivered_by-append h.events es) ∙ length-append (delivered_by h.events) (delivered_by es));

@@ -9,6 +9,7 @@ use Rattle.pg_spec.specs.RawMessages.{RawMessage, is_aside, is_whole_group, mess
 use Rattle.pg_spec.specs.Report as told
 use Rattle.pg_spec.specs.Turns.{IsTrace, Times, delivered_before}
 use Rattle.pg_spec.specs.declared.stamps.TurnMark.{TurnMark}
+use Rattle.pg_spec.specs.Settings.{Settings}
 use Rattle.pg_connect.specs.Passed.{delivered_by}
 use Rattle.pg_desk.specs.History.{IsFrontOf}
 use Rattle.pg_text.specs.Views.{command_of, report_of, scripts_of}
@@ -16,7 +17,7 @@ use Rattle.pg_text.specs.declared.command.Command.{Command}
 use Rattle.pg_text.specs.declared.report.Report.{Report}
 use Rattle.pg_session.proofs.Crossing.All.{all-crossed, filter-short, fewer-messages}
 use Rattle.pg_session.proofs.Crossing.End.{added-is, of-bytes}
-use Rattle.pg_session.proofs.Crossing.Start.{is-started}
+use Rattle.pg_session.proofs.Opening.{done-of, is-started}
 use Rattle.pg_session.proofs.Crossing.Groups.{both-true}
 use Rattle.pg_session.proofs.LivesAtOnce.{answers-at-once}
 use Rattle.pg_session.proofs.LivesCalls.{calls-alone}
@@ -61,15 +62,16 @@ pub record CameSo (s : Session) (all : List RawMessage) : Type 0 where
   pub front : IsFrontOf all (sync_of (later_messages s))
   pub small : length (sync_of (later_messages s)) < 2 ^ 64
 
-pub came-so : (user nonce : List ℕ) (scripts : List (List Command)) (given : List ℕ) (before after : LinkView) (report : Report) →
-    (p : HasPlayed user nonce scripts given before after report) → (g : List ℕ) → added before.given after.given ≡ Some g →
-    CameSo (session_of user nonce scripts given report g) (delivered_by (calls_of scripts given p.new p.link p.last after p.plays))
-came-so user nonce scripts given before after report p g e =
-    let s = session_of user nonce scripts given report g in
-    let cb = came-behind user nonce scripts given before after report p in
+pub came-so : (settings : Settings) (nonce : List ℕ) (scripts : List (List Command)) (given : List ℕ) (before after : LinkView) (report : Report) →
+    (p : HasPlayed settings nonce scripts given before after report) → (g : List ℕ) → added before.given after.given ≡ Some g →
+    CameSo (session_of settings nonce scripts given report g) (delivered_by (calls_of scripts given p.new p.link p.last after p.plays))
+came-so settings nonce scripts given before after report p g e =
+    let s = session_of settings nonce scripts given report g in
+    let cb = came-behind settings nonce scripts given before after report p in
     let all = delivered_by (calls_of scripts given p.new p.link p.last after p.plays) in
     let g-is : g ≡ cb.got = added-is before.given after.given cb.got g cb.given e in
-    let started = is-started user nonce p.startup.opening.items p.opened.read cb.more (messages g) p.opened.frame p.opened.done (ap messages g-is ∙ cb.behind) in
+    let started = is-started settings nonce p.opening p.opened.read cb.more (messages g)
+    (done-of settings nonce p.opening before p.link p.startup p.new.streams p.opened p.fresh) (ap messages g-is ∙ cb.behind) in
     let later : later_messages s ≡ cb.more = started.rest in
     record {
       front = subst (λ (ms : List RawMessage). IsFrontOf all (sync_of ms)) (sym later) cb.front;
@@ -87,14 +89,14 @@ came-so user nonce scripts given before after report p g e =
 
 -- ---- all of it
 
-ended : (user nonce : List ℕ) (scripts : List (List Command)) (given : List ℕ) (before after : LinkView) (report : Report) →
-    (p : HasPlayed user nonce scripts given before after report) → (g t : List ℕ) →
-    added before.given after.given ≡ Some g → added before.taken after.taken ≡ Some t → EndedWell (session_of user nonce scripts given report g) t
-ended user nonce scripts given before after report p g t e d =
-    let s = session_of user nonce scripts given report g in
-    let c = all-crossed user nonce scripts given before after report p g t e d in
-    let came = came-so user nonce scripts given before after report p g e in
-    let ran = ran-and-answered user nonce scripts given before after report p (calls-alone scripts given p.new p.link p.last after p.plays) s refl refl came.front c.delivered_all came.small in
+ended : (settings : Settings) (nonce : List ℕ) (scripts : List (List Command)) (given : List ℕ) (before after : LinkView) (report : Report) →
+    (p : HasPlayed settings nonce scripts given before after report) → (g t : List ℕ) →
+    added before.given after.given ≡ Some g → added before.taken after.taken ≡ Some t → EndedWell (session_of settings nonce scripts given report g) t
+ended settings nonce scripts given before after report p g t e d =
+    let s = session_of settings nonce scripts given report g in
+    let c = all-crossed settings nonce scripts given before after report p g t e d in
+    let came = came-so settings nonce scripts given before after report p g e in
+    let ran = ran-and-answered settings nonce scripts given before after report p (calls-alone scripts given p.new p.link p.last after p.plays) s refl refl came.front c.delivered_all came.small in
     let order = turns_are_in_order scripts given p.new p.last p.link after p.is_new p.fresh.delivered p.plays in
     let trace : p.last.trace ≡ report.trace = sym p.reports.trace in
     let made : IsTrace given (length (scripts_of scripts)) s.report.trace =
@@ -121,27 +123,27 @@ ended user nonce scripts given before after report p g t e d =
       key = c.key;
     }
 
-pub ends-well : (user nonce : List ℕ) (scripts : List (List Command)) (given : List ℕ) (before after : LinkView) (report : Report) →
-    (p : HasPlayed user nonce scripts given before after report) → EndsWell user nonce scripts given before after report
-ends-well user nonce scripts given before after report p =
-    of-bytes before after (λ g t. EndedWell (session_of user nonce scripts given report g) t)
-    (λ g t e d. ended user nonce scripts given before after report p g t e d)
+pub ends-well : (settings : Settings) (nonce : List ℕ) (scripts : List (List Command)) (given : List ℕ) (before after : LinkView) (report : Report) →
+    (p : HasPlayed settings nonce scripts given before after report) → EndsWell settings nonce scripts given before after report
+ends-well settings nonce scripts given before after report p =
+    of-bytes before after (λ g t. EndedWell (session_of settings nonce scripts given report g) t)
+    (λ g t e d. ended settings nonce scripts given before after report p g t e d)
 
-trace-made : (user nonce : List ℕ) (scripts : List (List Command)) (given : List ℕ) (before after : LinkView) (report : Report) →
-    (p : HasPlayed user nonce scripts given before after report) → IsTrace given (length (scripts_of scripts)) report.trace
-trace-made user nonce scripts given before after report p =
+trace-made : (settings : Settings) (nonce : List ℕ) (scripts : List (List Command)) (given : List ℕ) (before after : LinkView) (report : Report) →
+    (p : HasPlayed settings nonce scripts given before after report) → IsTrace given (length (scripts_of scripts)) report.trace
+trace-made settings nonce scripts given before after report p =
     subst (λ (n : ℕ). IsTrace given n report.trace) (sym (length-map scripts (map command_of)))
     (subst (λ (ts : List TurnMark). IsTrace given (length scripts) ts) (sym p.reports.trace)
     (turns_are_in_order scripts given p.new p.last p.link after p.is_new p.fresh.delivered p.plays))
 
 -- also where the link tells nothing
-pub has-ended : (user nonce : List ℕ) (scripts : List (List Command)) (given : List ℕ) (before after : LinkView) (report : Report) →
-    HasPlayed user nonce scripts given before after report → (schedule : List (List Times)) × HasRun (scripts_of scripts) given (report_of report) schedule
-has-ended user nonce scripts given before after report p =
-    let said = said-so user nonce scripts given before after report p (calls-alone scripts given p.new p.link p.last after p.plays) in
+pub has-ended : (settings : Settings) (nonce : List ℕ) (scripts : List (List Command)) (given : List ℕ) (before after : LinkView) (report : Report) →
+    HasPlayed settings nonce scripts given before after report → (schedule : List (List Times)) × HasRun (scripts_of scripts) given (report_of report) schedule
+has-ended settings nonce scripts given before after report p =
+    let said = said-so settings nonce scripts given before after report p (calls-alone scripts given p.new p.link p.last after p.plays) in
     let told = report_of report in (
       said.schedule,
-      has-run (scripts_of scripts) given told said.schedule (trace-made user nonce scripts given before after report p) said.ran
+      has-run (scripts_of scripts) given told said.schedule (trace-made settings nonce scripts given before after report p) said.ran
           (answers-at-once (scripts_of scripts) told.answers told.book told.trace said.schedule
           (delivered_by (calls_of scripts given p.new p.link p.last after p.plays)) said.ran said.follow),
     )

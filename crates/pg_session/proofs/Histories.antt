@@ -15,6 +15,7 @@ use Rattle.pg_desk.specs.declared.event.Event.{Event}
 use Rattle.pg_text.specs.declared.command.Command.{Command}
 use Rattle.pg_text.specs.declared.report.Report.{Report}
 use Rattle.pg_spec.specs.declared.stamps.TurnMark.{TurnMark}
+use Rattle.pg_spec.specs.Settings.{Settings}
 use Rattle.pg_session.proofs.Crossing.All.{all-crossed}
 use Rattle.pg_session.proofs.Crossing.Hub.{received-all}
 use Rattle.pg_session.proofs.Crossing.{Moves}
@@ -67,8 +68,8 @@ delivered-front before events n = (
 
 -- ---- a session that was played
 
-module _ (user nonce : List ℕ) (scripts : List (List Command)) (given : List ℕ) (before after : LinkView) (report : Report)
-    (p : HasPlayed user nonce scripts given before after report) where
+module _ (settings : Settings) (nonce : List ℕ) (scripts : List (List Command)) (given : List ℕ) (before after : LinkView) (report : Report)
+    (p : HasPlayed settings nonce scripts given before after report) where
   abbrev pub first : List Event
   first = events_in_close (commands_in scripts)
 
@@ -134,21 +135,21 @@ module _ (user nonce : List ℕ) (scripts : List (List Command)) (given : List �
   -- by the bytes that the link gave
   module _ (g t : List ℕ) (gave : added before.given after.given ≡ Some g) (took : added before.taken after.taken ≡ Some t) where
     abbrev pub s : Session
-    s = session_of user nonce scripts given report g
+    s = session_of settings nonce scripts given report g
 
     abbrev pub all : List RawMessage
     all = delivered_by (calls_of scripts given p.new p.link p.last after p.plays)
 
     came-less : length all < 2 ^ 64
     came-less =
-        let came = came-so user nonce scripts given before after report p g gave in
+        let came = came-so settings nonce scripts given before after report p g gave in
         omega (arith, front-short all (sync_of (later_messages s)) came.front, came.small)
 
     sync : sync_of (later_messages s) ≡ all
     sync =
-        let came = came-so user nonce scripts given before after report p g gave in
-        let said = said-so user nonce scripts given before after report p (calls-alone scripts given p.new p.link p.last after p.plays) in
-        let crossed = all-crossed user nonce scripts given before after report p g t gave took in
+        let came = came-so settings nonce scripts given before after report p g gave in
+        let said = said-so settings nonce scripts given before after report p (calls-alone scripts given p.new p.link p.last after p.plays) in
+        let crossed = all-crossed settings nonce scripts given before after report p g t gave took in
         front-whole all (sync_of (later_messages s)) came.front
         (sym (risen-small (length all) came-less) ∙ sym said.follow.counted_all ∙ crossed.delivered_all)
 

@@ -21,6 +21,7 @@ pub mod LivesLink
 pub mod LivesWhole
 pub mod LivesCalls
 pub mod Order
+pub mod Opening
 pub mod Crossing
 pub mod EndsWell
 pub mod Closing

@@ -1,17 +1,19 @@
 -- No more bytes than the limit were given, unless the session failed for that, or memory lacked.
-use Rattle.std.proofs.Common.{◌≡◌, ℕ, ◌≤◌, List, [], length, Some, Err, ap, subst, ◌∙◌, arith}
+use Rattle.std.proofs.Common.{◌≡◌, ℕ, ◌+◌, ◌≤◌, List, [], length, Some, Err, ap, subst, ◌∙◌, arith}
 use Rattle.futures.specs.declared.task.Poll.TheVariants.{Ready}
 use Rattle.pg_promises.specs.Causes.{Call}
 use Rattle.pg_spec.specs.Links.{LinkView, Grew, OfBytes}
 use Rattle.pg_spec.specs.RawMessages.{RawMessage}
+use Rattle.pg_spec.specs.Settings.{Settings}
+use Rattle.pg_spec.specs.Startup.{plain_login}
 use Rattle.pg_faults.specs.declared.error.Error.{Error}
 use Rattle.pg_faults.specs.declared.error.Error.TheVariants as error
 use Rattle.pg_connect.specs.Answers.{IsWithinPoll}
-use Rattle.pg_connect.specs.Startups.{Failed, IsWithinStart}
-use Rattle.pg_connect.specs.declared.startup.Startup.{Startup}
+use Rattle.pg_startup.specs.Startups.{Failed}
+use Rattle.pg_startup.specs.Transfers.{IsWithinLimit}
+use Rattle.pg_startup.specs.declared.startup.Startup.{Startup}
 use Rattle.pg_connect.specs.declared.streams.Streams.{Streams}
 use Rattle.pg_connect.proofs.Joining.{grew_same}
-use Rattle.pg_connect.proofs.Within.{start-within}
 use Rattle.pg_text.specs.declared.command.Command.{Command}
 use Rattle.pg_text.specs.declared.report.Report.{Report}
 use Rattle.pg_session.specs.Failures.{StopsOpening}
@@ -34,7 +36,11 @@ HoldsLimit call (error.LimitReached given limit) = Unit {0}
 HoldsLimit call error.OutOfMemory = Unit {0}
 HoldsLimit call _ = OfBytes call.before call.after (λ g t. length g ≤ call.limit)
 
-holds-by : (call : Call) (e : Error) (n : ℕ) → IsWithinStart e n call.limit → (n ≤ call.limit → OfBytes call.before call.after (λ g t. length g ≤ call.limit)) → HoldsLimit call e
+within-any : (e : Error) (given limit : ℕ) → given ≤ limit → IsWithinLimit e given limit
+within-any (error.LimitReached counted most) given limit low = tt
+within-any _ given limit low = low
+
+holds-by : (call : Call) (e : Error) (n : ℕ) → IsWithinLimit e n call.limit → (n ≤ call.limit → OfBytes call.before call.after (λ g t. length g ≤ call.limit)) → HoldsLimit call e
 holds-by call (error.LimitReached given limit) n within f = tt
 holds-by call error.OutOfMemory n within f = tt
 holds-by call _ n within f = f within
@@ -42,26 +48,27 @@ holds-by call _ n within f = f within
 -- where no byte crossed
 pub holds-untouched : (call : Call) (e : Error) → call.after ≡ call.before → HoldsLimit call e
 holds-untouched call e same =
-    holds-by call e 0 (start-within e 0 call.limit (omega arith))
+    holds-by call e 0 (within-any e 0 call.limit (omega arith))
     (λ within. of_grown call.before call.after [] [] (λ g t. length g ≤ call.limit) (grew_same call.before.given call.after.given (ap (λ (l : LinkView). l.given) same))
     (grew_same call.before.taken call.after.taken (ap (λ (l : LinkView). l.taken) same)) (omega arith))
 
 -- where the startup failed
-pub holds-failed : (call : Call) (user : List ℕ) (s : Startup) (e : Error) → s.max_bytes ≡ call.limit → Failed user call.nonce call.before call.after s e → HoldsLimit call e
-holds-failed call user s e limit f =
-    holds-by call e (length f.got) (subst (λ (n : ℕ). IsWithinStart e (length f.got) n) limit f.within)
+pub holds-failed : (call : Call) (settings : Settings) (s : Startup) (e : Error) → s.bytes.max_bytes ≡ call.limit → Failed (plain_login settings call.nonce) 0 call.before call.after s e → HoldsLimit call e
+holds-failed call settings s e limit f =
+    let same : 0 + length f.got ≡ length f.got = omega arith in
+    holds-by call e (length f.got) (subst (λ (n : ℕ). IsWithinLimit e n call.limit) same (subst (λ (n : ℕ). IsWithinLimit e (0 + length f.got) n) limit f.within))
     (λ within. of_grown call.before call.after f.got f.sent (λ g t. length g ≤ call.limit) f.given f.taken within)
 
 -- where it moved nothing any more
-pub holds-stopped : (call : Call) (user : List ℕ) (s : Startup) (before after : ℕ) → s.max_bytes ≡ call.limit →
-    StopsOpening user call.nonce call.before call.after s (error.Stalled before after) → HoldsLimit call (error.Stalled before after)
-holds-stopped call user s before after limit h =
+pub holds-stopped : (call : Call) (settings : Settings) (s : Startup) (before after : ℕ) → s.bytes.max_bytes ≡ call.limit →
+    StopsOpening settings call.nonce call.before call.after s (error.Stalled before after) → HoldsLimit call (error.Stalled before after)
+holds-stopped call settings s before after limit h =
     let rests = rests-so h.waited h.polled call.after h.fails.2 in
     of_grown call.before call.after h.opening.got h.opening.sent (λ g t. length g ≤ call.limit) (rests.bytes.given ∙ h.opening.given) (rests.bytes.taken ∙ h.opening.taken)
     (omega (arith, h.within, limit, h.opening.count))
 
 -- where a poll of the connection failed
-poll-within : (s : Streams) (e : Error) (limit : ℕ) → s.max_bytes ≡ limit → IsWithinPoll s (Ready (Some (Err e))) → IsWithinStart e s.given limit
+poll-within : (s : Streams) (e : Error) (limit : ℕ) → s.max_bytes ≡ limit → IsWithinPoll s (Ready (Some (Err e))) → IsWithinLimit e s.given limit
 poll-within s (error.LimitReached given most) limit is within = tt
 poll-within s _ limit is within = subst (λ (n : ℕ). s.given ≤ n) is within
 
@@ -75,12 +82,12 @@ holds-polled call s e given taken limit within count gave took =
 pub holds-paused : (call : Call) (s : Streams) (e : Error) (given taken : List ℕ) → s.max_bytes ≡ call.limit → s.given ≤ s.max_bytes → s.given ≡ length given →
     Grew call.before.given call.after.given given → Grew call.before.taken call.after.taken taken → HoldsLimit call e
 holds-paused call s e given taken limit within count gave took =
-    holds-by call e s.given (start-within e s.given call.limit (omega (arith, within, limit)))
+    holds-by call e s.given (within-any e s.given call.limit (omega (arith, within, limit)))
     (λ less. of_grown call.before call.after given taken (λ g t. length g ≤ call.limit) gave took (omega (arith, less, count)))
 
 -- where the session ended well
-pub holds-ended : (user nonce : List ℕ) (scripts : List (List Command)) (given : List ℕ) (before after : LinkView) (report : Report) (limit : ℕ)
-    (p : HasPlayed user nonce scripts given before after report) → p.startup.max_bytes ≡ limit → OfBytes before after (λ g t. length g ≤ limit)
-holds-ended user nonce scripts given before after report limit p is =
-    limit_kept p.opening p.opened.read before after p.last limit (finished user nonce scripts given before after report p).stood
+pub holds-ended : (settings : Settings) (nonce : List ℕ) (scripts : List (List Command)) (given : List ℕ) (before after : LinkView) (report : Report) (limit : ℕ)
+    (p : HasPlayed settings nonce scripts given before after report) → p.startup.bytes.max_bytes ≡ limit → OfBytes before after (λ g t. length g ≤ limit)
+holds-ended settings nonce scripts given before after report limit p is =
+    limit_kept p.opening p.opened.read before after p.last limit (finished settings nonce scripts given before after report p).stood
     (subst (λ (n : ℕ). p.last.streams.given ≤ n) is p.within)

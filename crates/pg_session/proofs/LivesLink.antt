@@ -6,13 +6,15 @@ use Rattle.futures.specs.declared.task.Poll.{Poll}
 use Rattle.futures.specs.declared.task.Poll.TheVariants.{Ready, Pending}
 use Rattle.pg_spec.specs.Links.{LinkView, Grew}
 use Rattle.pg_spec.specs.RawMessages.{RawMessage, messages, bytes_left, sync_of}
+use Rattle.pg_spec.specs.Settings.{Settings}
+use Rattle.pg_spec.specs.Startup.{plain_login}
 use Rattle.pg_connect.proofs.Joining.{grew_then, came_off_then, rest_then, none_lost, relay, delivered_by-append}
 use Rattle.pg_connect.specs.Answers.{PollAnswers, fresh, left_open}
 use Rattle.pg_connect.specs.Passed.{delivered_by}
 use Rattle.pg_connect.specs.Passes.{Passes, IsUnread, waiting}
-use Rattle.pg_connect.specs.StartupPolls.{IsFresh}
-use Rattle.pg_connect.specs.Startups.{Opened}
-use Rattle.pg_connect.specs.declared.startup.Startup.{Startup}
+use Rattle.pg_startup.specs.StartupPolls.{IsFresh}
+use Rattle.pg_startup.specs.Startups.{Opened}
+use Rattle.pg_startup.specs.declared.startup.Startup.{Startup}
 use Rattle.pg_connect.specs.declared.streams.Streams.{Streams}
 use Rattle.pg_desk.specs.declared.event.Event.{Event}
 use Rattle.pg_errors.specs.declared.async_message.AsyncMessage.{AsyncMessage}
@@ -108,13 +110,13 @@ came-turns first base all scripts (turn ∷ turns) s l t m (rested, mid, passed,
     (came-turns first base (all ++ delivered_by now) scripts turns mid passed t m more one)
 
 -- where the session begins
-came-first : (user nonce : List ℕ) (before link : LinkView) (startup : Startup) (opening : List ℕ) (s : Streams) →
-    (o : Opened user nonce before link startup) → IsFresh startup opening s →
+came-first : (settings : Settings) (nonce : List ℕ) (before link : LinkView) (startup : Startup) (opening : List ℕ) (s : Streams) →
+    (o : Opened (plain_login settings nonce) 0 before link startup) → IsFresh startup opening s →
     CameSo o.read before link s []
-came-first user nonce before link startup opening s o f = record {
+came-first settings nonce before link startup opening s o f = record {
   got = o.got;
   given = o.given;
-  count = f.given ∙ o.count;
+  count = omega (arith, f.given, o.count);
   passed = [];
   lost = [];
   came_off = o.came.messages ∙ ap (λ (l : List ℕ). o.read ++ messages l) (sym f.buffer) ∙ ap (λ (l : List RawMessage). l ++ messages s.buffer.items) (sym (append-nil o.read));
@@ -124,16 +126,16 @@ came-first user nonce before link startup opening s o f = record {
 }
 
 -- what came to the hub is a front of what the link gave
-pub came-behind : (user nonce : List ℕ) (scripts : List (List Command)) (given : List ℕ) (before after : LinkView) (report : Report) →
-    (p : HasPlayed user nonce scripts given before after report) →
+pub came-behind : (settings : Settings) (nonce : List ℕ) (scripts : List (List Command)) (given : List ℕ) (before after : LinkView) (report : Report) →
+    (p : HasPlayed settings nonce scripts given before after report) →
     CameBehind p.opened.read before after (delivered_by (calls_of scripts given p.new p.link p.last after p.plays)) p.last.streams.given
-came-behind user nonce scripts given before after report p =
+came-behind settings nonce scripts given before after report p =
     let ends = p.plays.ends in
     let first = p.opened.read in
     let es = calls_in scripts p.plays.turns p.new p.link ends.state ends.link ends.before in
     let fs = calls_in_turn scripts p.plays.last ends.state p.last ends.link after true ends.over in
     let begun = came-turns first before [] scripts p.plays.turns p.new p.link ends.state ends.link ends.before
-    (came-first user nonce before p.link p.startup p.opening p.new.streams p.opened p.fresh) in
+    (came-first settings nonce before p.link p.startup p.opening p.new.streams p.opened p.fresh) in
     let all = came-turn first before (delivered_by es) scripts p.plays.last ends.state p.last ends.link after true ends.over begun in
     record {
       got = all.got;

@@ -8,6 +8,7 @@ use Rattle.pg_spec.specs.RawMessages.{RawMessage, sync_of}
 use Rattle.pg_spec.specs.Report as told
 use Rattle.pg_spec.specs.Turns.{IsTrace, Times, delivered_before}
 use Rattle.pg_spec.specs.declared.stamps.TurnMark.{TurnMark}
+use Rattle.pg_spec.specs.Settings.{Settings}
 use Rattle.pg_connect.specs.Passed.{delivered_by}
 use Rattle.pg_desk.specs.History.{IsFrontOf}
 use Rattle.pg_text.specs.Views.{scripts_of, report_of, answer_of, booking_of}
@@ -33,11 +34,11 @@ pub record Said (scripts : List (List told.Command)) (report : told.Report) (all
   pub ran : HandlesRan scripts report.answers report.book report.trace schedule
   pub follow : AnswersFollow scripts report.answers report.book report.trace schedule all
 
-pub said-so : (user nonce : List ℕ) (scripts : List (List Command)) (given : List ℕ) (before after : LinkView) (report : Report) →
-    (p : HasPlayed user nonce scripts given before after report) →
+pub said-so : (settings : Settings) (nonce : List ℕ) (scripts : List (List Command)) (given : List ℕ) (before after : LinkView) (report : Report) →
+    (p : HasPlayed settings nonce scripts given before after report) →
     AllEngineCalls (calls_of scripts given p.new p.link p.last after p.plays) → Said (scripts_of scripts) (report_of report)
     (delivered_by (calls_of scripts given p.new p.link p.last after p.plays))
-said-so user nonce scripts given before after report p calls =
+said-so settings nonce scripts given before after report p calls =
     let did = handles-did scripts given p.new p.link p.last after p.is_new p.fresh.active p.fresh.delivered p.plays calls in
     let ms = delivered_by (calls_of scripts given p.new p.link p.last after p.plays) in
     let answers : map (map answer_of) (map (λ handle. handle.answers) p.last.handles) ≡ map (map answer_of) report.answers = ap (λ (as_ : List (List Answer)). map (map answer_of) as_) (sym p.reports.answers) in
@@ -68,18 +69,18 @@ answered s all h front whole small =
     }
 
 -- a session that was played ran and answered as the main theorem says
-pub ran-and-answered : (user nonce : List ℕ) (scripts : List (List Command)) (given : List ℕ) (before after : LinkView) (report : Report) →
-    (p : HasPlayed user nonce scripts given before after report) →
+pub ran-and-answered : (settings : Settings) (nonce : List ℕ) (scripts : List (List Command)) (given : List ℕ) (before after : LinkView) (report : Report) →
+    (p : HasPlayed settings nonce scripts given before after report) →
     AllEngineCalls (calls_of scripts given p.new p.link p.last after p.plays) → (s : Session) → s.scripts ≡ scripts_of scripts →
     s.report ≡ report_of report →
     IsFrontOf (delivered_by (calls_of scripts given p.new p.link p.last after p.plays)) (sync_of (later_messages s)) →
     delivered_before s.report.trace (length s.report.trace) ≡ length (sync_of (later_messages s)) → length (sync_of (later_messages s)) < 2 ^ 64 →
     RanAndAnswered s
-ran-and-answered user nonce scripts given before after report p calls s asked told-so front whole small =
+ran-and-answered settings nonce scripts given before after report p calls s asked told-so front whole small =
     let all = delivered_by (calls_of scripts given p.new p.link p.last after p.plays) in
     answered s all
     (subst (λ (r : told.Report). Said s.scripts r all) (sym told-so)
-    (subst (λ (x : List (List told.Command)). Said x (report_of report) all) (sym asked) (said-so user nonce scripts given before after report p calls)))
+    (subst (λ (x : List (List told.Command)). Said x (report_of report) all) (sym asked) (said-so settings nonce scripts given before after report p calls)))
     front whole small
 
 -- with its turns it is what can be said without the bytes

@@ -3,20 +3,21 @@ pub mod Order
 pub mod NoneKept
 pub mod TurnsCounted
 pub mod TurnsAsked
-use Rattle.std.proofs.Common.{◌≡◌, ℕ, zero, suc, ◌<◌, List, [], ◌∷◌, ◌++◌, length, map, Bool, true, false, Some, Ok, inl, inr, refl, sym, ap, subst, ◌∙◌, arith, append_assoc, append-nil, slice_get}
+use Rattle.std.proofs.Common.{◌≡◌, ℕ, zero, suc, ◌<◌, List, [], ◌∷◌, ◌++◌, length, map, Bool, true, false, Some, inl, inr, refl, sym, ap, subst, ◌∙◌, arith, append_assoc, append-nil, slice_get}
 use Rattle.std.specs.Prelude.{All, IsSome, take, drop}
+use Rattle.std.specs.List.{concat}
 use Rattle.std.proofs.lemmas.List.{take-append-drop}
 use Rattle.std.proofs.lemmas.List.Elements.{All-nil, All-weaker}
 use Rattle.pg_spec.specs.Book as said
-use Rattle.pg_promises.specs.Causes.{Call, OfDialogue}
+use Rattle.pg_promises.specs.Causes.{Call, NeedsNoTls, OfDialogue, startup_after}
 use Rattle.pg_promises.specs.ConnectionStrings.{Means}
-use Rattle.pg_spec.specs.Settings.{Settings, only_user}
+use Rattle.pg_spec.specs.Settings.{Settings}
 use Rattle.pg_spec.specs.Frames.{terminate_frame}
 use Rattle.pg_spec.specs.Links.{LinkView}
 use Rattle.pg_promises.specs.Promises.{IsFront, InScriptOrder, SentInOrder}
 use Rattle.pg_spec.specs.RawMessages.{RawMessage, messages}
 use Rattle.pg_spec.specs.Report as told
-use Rattle.pg_spec.specs.Startup.{Done}
+use Rattle.pg_spec.specs.Startup.{startup, plain_login}
 use Rattle.pg_spec.specs.Turns.{entry_at}
 use Rattle.pg_faults.specs.declared.error.Error.{Error}
 use Rattle.pg_faults.specs.declared.error.Error.TheVariants as error
@@ -30,8 +31,8 @@ use Rattle.pg_connect.specs.Answers.{fresh, left_open}
 use Rattle.pg_connect.specs.Passed.{AllEngineCalls, bytes_out_by}
 use Rattle.pg_connect.specs.Passes.{goodbye}
 use Rattle.pg_connect.specs.Polls.{ClosesBy}
-use Rattle.pg_connect.specs.Startups.{Ends, Failed, frame_of}
-use Rattle.pg_connect.specs.declared.startup.Startup.{Startup}
+use Rattle.pg_startup.specs.Startups.{Failed}
+use Rattle.pg_startup.specs.declared.startup.Startup.{Startup}
 use Rattle.pg_connect.specs.declared.streams.Streams.{Streams}
 use Rattle.pg_connect.proofs.Joining.{grew_same}
 use Rattle.pg_text.specs.Views.{command_of, scripts_of, booking_of}
@@ -42,15 +43,16 @@ use Rattle.pg_session.proofs.Caused.Turns.{Broke}
 use Rattle.pg_session.proofs.Crossing.Chain.{StoodIn, stood-all, stood-turn}
 use Rattle.pg_session.proofs.Crossing.End.{joined-append, wire-bytes, whole-front}
 use Rattle.pg_session.proofs.Crossing.Hub.{Spent, no-more-spent, out-all, spent-all}
-use Rattle.pg_session.proofs.Crossing.Start.{is-started, one-frame, stood-start}
+use Rattle.pg_session.proofs.Crossing.Start.{stood-start}
+use Rattle.pg_session.proofs.Opening.{IsDone, at-front, done-of, ends-frames, is-started}
 use Rattle.pg_session.proofs.LivesCalls.{calls-alone}
 use Rattle.pg_session.proofs.LivesHub.{engine-all}
 use Rattle.pg_session.proofs.LivesReached.{book_in}
 use Rattle.pg_session.proofs.LivesSession.{session-ends}
 use Rattle.pg_session.proofs.LivesTurns.{SessionStands}
 use Rattle.pg_session.proofs.SentSoFar.Order.{asked_by, asked-append, begun}
-use Rattle.pg_session.proofs.Stalled.Start.{rests-so}
-use Rattle.pg_session.proofs.Caused.Start.{needs-none, of_grown}
+use Rattle.pg_session.proofs.Stalled.Start.{rests-so, stands-at}
+use Rattle.pg_session.proofs.Caused.Start.{of_grown}
 
 -- ---- whose the requests are
 
@@ -128,17 +130,17 @@ front-taken opening taken unsent closing es bookings legal out spent same = by c
 -- ---- behind the startup
 
 -- the requests are in order, and what was taken is a front of what the startup writes, of them and of Terminate
-pub sent-behind : (call : Call) (user opening : List ℕ) (first later : List RawMessage) (scripts : List (List Command)) (s : SessionState) (given taken : List ℕ) →
-    call.scripts ≡ scripts_of scripts → frame_of user ≡ Ok opening → Ends user call.nonce first (Done (length first)) → messages given ≡ first ++ later → SessionStands scripts s →
-    IsFront taken (opening ++ said.wire (book_in s.hub) ++ terminate_frame) → SentInOrder call (only_user user) given taken
-sent-behind call user opening first later scripts s given taken asked frame done came stands front =
-    let started = is-started user call.nonce opening first later (messages given) frame done came in
+pub sent-behind : (call : Call) (settings : Settings) (opening : List ℕ) (first later : List RawMessage) (scripts : List (List Command)) (s : SessionState) (given taken : List ℕ) →
+    call.scripts ≡ scripts_of scripts → NeedsNoTls settings → IsDone settings call.nonce opening first → messages given ≡ first ++ later → SessionStands scripts s →
+    IsFront taken (opening ++ said.wire (book_in s.hub) ++ terminate_frame) → SentInOrder call settings given taken
+sent-behind call settings opening first later scripts s given taken asked plain done came stands front =
+    let started = is-started settings call.nonce opening first later (messages given) done came in
     record {
       book = book_in s.hub;
       owners = subst (λ (x : List (List told.Command)). All (λ b. b.stamp.owner < length x) (book_in s.hub)) (sym asked) (owners scripts s stands);
       order = subst (λ (x : List (List told.Command)). InScriptOrder x (book_in s.hub)) (sym asked) (in-order scripts s stands);
       front = inr (inr (
-        needs-none user,
+        plain,
         inr (
           (length first, started.outcome),
           subst (λ (x : List ℕ). IsFront taken (x ++ said.wire (book_in s.hub) ++ terminate_frame)) (sym started.frames) front,
@@ -155,67 +157,73 @@ spent-polled s t former now legal before closes is =
       | inr last ↦ no-more-spent (after_all (start 0 0) former) now last legal
     ])
 
-pub sent-polled : (call : Call) (user opening : List ℕ) (first : List RawMessage) (scripts : List (List Command)) (state : SessionState) (t : Streams) (former now : List Event) →
-    Means call.config (only_user user) → call.scripts ≡ scripts_of scripts → frame_of user ≡ Ok opening → Ends user call.nonce first (Done (length first)) → SessionStands scripts state →
+pub sent-polled : (call : Call) (settings : Settings) (opening : List ℕ) (first : List RawMessage) (scripts : List (List Command)) (state : SessionState) (t : Streams) (former now : List Event) →
+    Means call.config settings → call.scripts ≡ scripts_of scripts → NeedsNoTls settings → IsDone settings call.nonce opening first → SessionStands scripts state →
     (b : Broke opening first call.before former now t call.after) → state.hub.book ≡ (after_all (start 0 0) former).book → AllEngineCalls now →
     (t.closing ≡ true → Spent (after_all (start 0 0) (former ++ now))) → OfDialogue call (λ s g t. SentInOrder call s g t)
-sent-polled call user opening first scripts state t former now means asked frame done stands b book calls spent =
+sent-polled call settings opening first scripts state t former now means asked plain done stands b book calls spent =
     let st = after_all (start 0 0) former in
     let same : state.hub.book ≡ (after_all (start 0 0) (former ++ now)).book =
     book ∙ sym (engine-all st now calls).book ∙ ap (λ (x : State). x.book) (sym (after-joined (start 0 0) former now)) in (
-      only_user user,
+      settings,
       means,
-      of_grown call.before call.after b.given b.taken (λ g t. SentInOrder call (only_user user) g t) b.gave b.took
-          (sent-behind call user opening first (b.read ++ (b.lost ++ messages t.buffer.items)) scripts state b.given b.taken asked frame done
+      of_grown call.before call.after b.given b.taken (λ g t. SentInOrder call settings g t) b.gave b.took
+          (sent-behind call settings opening first (b.read ++ (b.lost ++ messages t.buffer.items)) scripts state b.given b.taken asked plain done
           (b.came_off ∙ append_assoc first b.read (b.lost ++ messages t.buffer.items)) stands
           (front-taken opening b.taken t.unsent t.closing (former ++ now) state.hub.book (legal-joined (start 0 0) former now b.legal b.legal_now) b.out spent same)),
     )
 
 -- where nothing moved
-pub sent-paused : (call : Call) (user opening : List ℕ) (first : List RawMessage) (scripts : List (List Command)) (state : SessionState) (l : LinkView) →
-    Means call.config (only_user user) → call.scripts ≡ scripts_of scripts → frame_of user ≡ Ok opening → Ends user call.nonce first (Done (length first)) → SessionStands scripts state →
+pub sent-paused : (call : Call) (settings : Settings) (opening : List ℕ) (first : List RawMessage) (scripts : List (List Command)) (state : SessionState) (l : LinkView) →
+    Means call.config settings → call.scripts ≡ scripts_of scripts → NeedsNoTls settings → IsDone settings call.nonce opening first → SessionStands scripts state →
     StoodIn opening first call.before state l → call.after.given ≡ l.given → call.after.taken ≡ l.taken → OfDialogue call (λ s g t. SentInOrder call s g t)
-sent-paused call user opening first scripts state l means asked frame done stands h given taken = (
-  only_user user,
+sent-paused call settings opening first scripts state l means asked plain done stands h given taken = (
+  settings,
   means,
-  of_grown call.before call.after h.given h.taken (λ g t. SentInOrder call (only_user user) g t) (given ∙ h.gave) (taken ∙ h.took)
-      (sent-behind call user opening first (h.read ++ (h.lost ++ messages state.streams.buffer.items)) scripts state h.given h.taken asked frame done
+  of_grown call.before call.after h.given h.taken (λ g t. SentInOrder call settings g t) (given ∙ h.gave) (taken ∙ h.took)
+      (sent-behind call settings opening first (h.read ++ (h.lost ++ messages state.streams.buffer.items)) scripts state h.given h.taken asked plain done
       (h.came_off ∙ append_assoc first h.read (h.lost ++ messages state.streams.buffer.items)) stands
       (front-taken opening h.taken state.streams.unsent state.streams.closing h.events state.hub.book h.legal h.out h.spent h.fits.book)),
 )
 
 -- ---- in the startup
 
-none-order : (scripts : List (List told.Command)) → InScriptOrder scripts []
+pub none-order : (scripts : List (List told.Command)) → InScriptOrder scripts []
 none-order scripts i script at = (asked_by script, refl)
 
--- a front of the startup's frame
-start-sent : (call : Call) (user opening given taken rest : List ℕ) → frame_of user ≡ Ok opening → taken ++ rest ≡ opening → SentInOrder call (only_user user) given taken
-start-sent call user opening given taken rest frame front = record {
+-- a front of the startup's frames
+start-sent : (call : Call) (settings : Settings) (given taken : List ℕ) → NeedsNoTls settings → IsFront taken (concat (startup_after call settings given).frames) → SentInOrder call settings given taken
+start-sent call settings given taken plain front = record {
   book = [];
   owners = All-nil (λ b. b.stamp.owner < length call.scripts);
   order = none-order call.scripts;
-  front = inr (inr (needs-none user, inl (rest, front ∙ sym (one-frame user call.nonce opening (messages given) frame))));
+  front = inr (inr (plain, inl front));
 }
 
-pub sent-failed : (call : Call) (user : List ℕ) (s : Startup) (e : Error) → Means call.config (only_user user) → Failed user call.nonce call.before call.after s e →
-    OfDialogue call (λ s g t. SentInOrder call s g t)
-sent-failed call user s e means f = (
-  only_user user,
+pub sent-failed : (call : Call) (settings : Settings) (s : Startup) (e : Error) → Means call.config settings → NeedsNoTls settings →
+    Failed (plain_login settings call.nonce) 0 call.before call.after s e → OfDialogue call (λ s g t. SentInOrder call s g t)
+sent-failed call settings s e means plain f = (
+  settings,
   means,
-  of_grown call.before call.after f.got f.sent (λ g t. SentInOrder call (only_user user) g t) f.given f.taken
-      (start-sent call user s.opening.items f.got f.sent f.front.0 f.frame f.front.1),
+  of_grown call.before call.after f.got f.sent (λ g t. SentInOrder call settings g t) f.given f.taken
+      (start-sent call settings f.got f.sent plain
+      (subst (λ (ms : List RawMessage). IsFront f.sent (concat (startup settings call.nonce ms).frames)) (sym f.came)
+      (at-front settings call.nonce f.first f.frame f.read f.wrote f.done f.at f.stands f.rest f.sent f.unsent f.out))),
 )
 
-pub sent-stopped : (call : Call) (user : List ℕ) (s : Startup) (before after : ℕ) → Means call.config (only_user user) →
-    StopsOpening user call.nonce call.before call.after s (error.Stalled before after) → OfDialogue call (λ s g t. SentInOrder call s g t)
-sent-stopped call user s before after means h =
+pub sent-stopped : (call : Call) (settings : Settings) (s : Startup) (before after : ℕ) → Means call.config settings →
+    StopsOpening settings call.nonce call.before call.after s (error.Stalled before after) → OfDialogue call (λ s g t. SentInOrder call s g t)
+sent-stopped call settings s before after means h =
     let rests = rests-so h.waited h.polled call.after h.fails.2 in
-    let o = h.opening in (
-      only_user user,
+    let o = h.opening in
+    let stands = stands-at settings call.nonce call.before h.polled s o in (
+      settings,
       means,
-      of_grown call.before call.after o.got o.sent (λ g t. SentInOrder call (only_user user) g t) (rests.bytes.given ∙ o.given) (rests.bytes.taken ∙ o.taken)
-          (start-sent call user s.opening.items o.got o.sent s.unsent o.frame o.out),
+      of_grown call.before call.after o.got o.sent (λ g t. SentInOrder call settings g t) (rests.bytes.given ∙ o.given) (rests.bytes.taken ∙ o.taken)
+          (start-sent call settings o.got o.sent h.no_tls
+          (subst (λ (ms : List RawMessage). IsFront o.sent (concat (startup settings call.nonce ms).frames)) (sym o.came.messages)
+          (at-front settings call.nonce o.first o.frame o.read o.stands.speaks.wrote s.done stands.0 stands.1 (messages s.bytes.buffer.items) o.sent s.bytes.unsent.items
+          (o.out ∙ o.stands.speaks.opening)))),
     )
 
 -- where no byte crossed, whatever the settings say
@@ -230,24 +238,28 @@ sent-untouched call s means same = (
 
 -- ---- around the turns
 
--- where it was opened alone, the startup's frame was sent
-pub sent-opened : (call : Call) (user : List ℕ) → Means call.config (only_user user) → WasOpened user call.nonce call.before call.after → OfDialogue call (λ s g t. SentInOrder call s g t)
-sent-opened call user means w =
+-- where it was opened alone, the startup's frames were sent
+pub sent-opened : (call : Call) (settings : Settings) → Means call.config settings → WasOpened settings call.nonce call.before call.after → OfDialogue call (λ s g t. SentInOrder call s g t)
+sent-opened call settings means w =
     let o = w.opened in
     let opening = w.startup.opening.items in (
-      only_user user,
+      settings,
       means,
-      of_grown call.before call.after o.got opening (λ g t. SentInOrder call (only_user user) g t) o.given o.taken (start-sent call user opening o.got opening [] o.frame (append-nil opening)),
+      of_grown call.before call.after o.got opening (λ g t. SentInOrder call settings g t) o.given o.taken
+          (start-sent call settings o.got opening w.no_tls
+          (subst (λ (ms : List RawMessage). IsFront opening (concat (startup settings call.nonce ms).frames)) (sym o.came.messages)
+          ([], append-nil opening ∙ o.opening ∙ sym (ends-frames settings call.nonce o.first o.frame o.read o.wrote o.done (messages w.startup.bytes.buffer.items))))),
     )
 
-pub sent-over : (call : Call) (user : List ℕ) (scripts : List (List Command)) → Means call.config (only_user user) → call.scripts ≡ scripts_of scripts →
-    WasOver user call.nonce scripts call.before call.after → OfDialogue call (λ s g t. SentInOrder call s g t)
-sent-over call user scripts means asked w =
+pub sent-over : (call : Call) (settings : Settings) (scripts : List (List Command)) → Means call.config settings → call.scripts ≡ scripts_of scripts →
+    WasOver settings call.nonce scripts call.before call.after → OfDialogue call (λ s g t. SentInOrder call s g t)
+sent-over call settings scripts means asked w =
     let ends = w.plays.ends in
-    sent-paused call user w.opening w.opened.read scripts w.last call.after means asked (w.opened.frame ∙ ap (λ (l : List ℕ). Ok l) (sym w.fresh.frame)) w.opened.done
+    sent-paused call settings w.opening w.opened.read scripts w.last call.after means asked w.no_tls
+    (done-of settings call.nonce w.opening call.before w.link w.startup w.new.streams w.opened w.fresh)
     (session-ends scripts w.given w.new w.link w.last call.after w.is_new w.fresh.active w.fresh.delivered w.plays
     (calls-alone scripts w.given w.new w.link w.last call.after w.plays)).stands
     (stood-turn w.opening w.opened.read call.before ends.link call.after scripts w.plays.last ends.state w.last true
     (stood-all w.opening w.opened.read call.before scripts w.plays.turns w.new w.link ends.state ends.link
-    (stood-start user call.nonce scripts call.before w.link w.startup w.opening w.new w.opened w.fresh w.is_new) ends.before) ends.over)
+    (stood-start settings call.nonce scripts call.before w.link w.startup w.opening w.new w.opened w.fresh w.is_new) ends.before) ends.over)
     refl refl

@@ -5,13 +5,12 @@ use Rattle.std.proofs.Common.{◌≡◌, ◌<◌, ◌≤◌, ◌⊎◌, ◌||◌
 use Rattle.std.specs.Prelude.{IsTrue, count_by}
 use Rattle.std.specs.List.{list_any}
 use Rattle.std.proofs.lemmas.Bool.Decides.{nat_tests}
-use Rattle.pg_promises.specs.Causes.{Call, IsStalled, whole_groups, IsAwaited as Awaited}
+use Rattle.pg_promises.specs.Causes.{Call, IsStalled, NeedsNoTls, whole_groups, IsAwaited as Awaited}
 use Rattle.pg_promises.specs.ConnectionStrings.{Means}
-use Rattle.pg_spec.specs.Settings.{only_user}
+use Rattle.pg_spec.specs.Settings.{Settings}
 use Rattle.pg_spec.specs.Links.{LinkView, Rose, next_count}
 use Rattle.pg_spec.specs.RawMessages.{RawMessage, messages, cut_after, is_ready, is_whole_group, sync_of}
 use Rattle.pg_spec.specs.Sent.{whole_units}
-use Rattle.pg_spec.specs.Startup.{Done}
 use Rattle.pg_wire.specs.LinkCalls.{Keeps, NoLull}
 use Rattle.pg_desk.specs.declared.event.Event.{Event}
 use Rattle.pg_desk.specs.declared.event.Event.TheVariants.{NextOut}
@@ -30,19 +29,17 @@ use Rattle.pg_connect.specs.Ends.{some_is}
 use Rattle.pg_connect.specs.Passes.{waiting}
 use Rattle.pg_connect.specs.Polls.{ReadDry, SomeGivesBack, StopsWriting, Waits}
 use Rattle.pg_connect.specs.Reads.{is_full}
-use Rattle.pg_connect.specs.Startups.{Ends, frame_of}
 use Rattle.pg_connect.specs.declared.streams.Streams.{Streams}
 use Rattle.pg_connect.proofs.Joining.{none_lost}
 use Rattle.pg_text.specs.declared.command.Command.{Command}
 use Rattle.pg_session.specs.Failures.{PauseFails}
 use Rattle.pg_session.specs.States.{SessionState}
 use Rattle.pg_session.proofs.Caused.Asks.{AsksQueries, tame-in, wire-asks}
-use Rattle.pg_session.proofs.Caused.Start.{needs-none}
 use Rattle.pg_session.proofs.Caused.Frames.{AreQueries, front-queries}
 use Rattle.pg_session.proofs.Crossing.Chain.{StoodIn}
 use Rattle.pg_session.proofs.Crossing.End.{of-bytes, added-is}
 use Rattle.pg_session.proofs.Crossing.Hub.{Ran, ran-all, ran-start, received-all, out-all}
-use Rattle.pg_session.proofs.Crossing.Start.{is-started}
+use Rattle.pg_session.proofs.Opening.{IsDone, done-opening, is-started}
 use Rattle.pg_session.proofs.LivesReached.{state_of}
 use Rattle.pg_session.proofs.Quiet.Polls.{IsAwaited, none-moved, still-all}
 use Rattle.pg_session.proofs.Quiet.{QuietRound}
@@ -170,8 +167,8 @@ open-request scripts s l t m q all = by q.awaits all.more
 
 -- ---- the bytes
 
-module _ (call : Call) (user opening : List ℕ) (first : List RawMessage) (t : SessionState) (l m : LinkView) (events : List Event)
-    (frame : frame_of user ≡ Ok opening) (done : Ends user call.nonce first (Done (length first)))
+module _ (call : Call) (settings : Settings) (opening : List ℕ) (first : List RawMessage) (t : SessionState) (l m : LinkView) (events : List Event)
+    (done : IsDone settings call.nonce opening first)
     (h : StoodIn opening first call.before t m) (asks : AsksQueries t) (settled : IsSettled (left_open t.streams) l m events) where
   abbrev st : State
   st = after_all (start 0 0) h.events
@@ -208,23 +205,23 @@ module _ (call : Call) (user opening : List ℕ) (first : List RawMessage) (t : 
       ∙ ap (λ (x : List ℕ). opening ++ x) (sym (out-all (start 0 0) h.events))
 
   pub units-are : whole_units h.taken ≡ length st.gone_out
-  units-are = ap whole_units taken-is ∙ units-sent user opening st.gone_out frame queries
+  units-are = ap whole_units taken-is ∙ units-sent settings opening st.gone_out (done-opening settings call.nonce opening first done) queries
 
   -- a request was taken whole whose reply isn't whole
-  pub request-awaited : t.hub.finished < t.hub.gone_out → Awaited call (only_user user) h.given h.taken
-  request-awaited less =
+  pub request-awaited : NeedsNoTls settings → t.hub.finished < t.hub.gone_out → Awaited call settings h.given h.taken
+  request-awaited plain less =
       let all : messages h.given ≡ first ++ later = h.came_off ∙ append_assoc first h.read (h.lost ++ messages t.streams.buffer.items) in
-      let started = is-started user call.nonce opening first later (messages h.given) frame done all in
+      let started = is-started settings call.nonce opening first later (messages h.given) done all in
       let fewer : whole_groups later < whole_units h.taken = omega (arith, groups-are, units-are, less, h.fits.finished, h.fits.gone_out) in
-      inr (inr (needs-none user, (length first, started.outcome, subst (λ (ms : List RawMessage). whole_groups ms < whole_units h.taken) (sym started.rest) fewer)))
+      inr (inr (plain, (length first, started.outcome, subst (λ (ms : List RawMessage). whole_groups ms < whole_units h.taken) (sym started.rest) fewer)))
 
 -- ---- the round
 
-pub stalled-round : (call : Call) (user opening : List ℕ) (first : List RawMessage) (scripts : List (List Command)) (s : SessionState) (l : LinkView) (t : SessionState) (m : LinkView)
-    (waited : Bool) (before after : ℕ) → Means call.config (only_user user) → frame_of user ≡ Ok opening → Ends user call.nonce first (Done (length first)) →
+pub stalled-round : (call : Call) (settings : Settings) (opening : List ℕ) (first : List RawMessage) (scripts : List (List Command)) (s : SessionState) (l : LinkView) (t : SessionState) (m : LinkView)
+    (waited : Bool) (before after : ℕ) → Means call.config settings → NeedsNoTls settings → IsDone settings call.nonce opening first →
     Keeps call.before l → Keeps call.before m → NoLull call.before m → (h : StoodIn opening first call.before t m) → AsksQueries t → QuietRound scripts s l t m →
     (waited ≡ true → IsTrue l.promised) → PauseFails l.quiet m.quiet waited m call.after (error.Stalled before after) → IsStalled call before after
-stalled-round call user opening first scripts s l t m waited before after means frame done keeps-l keeps-m calm h asks q promised fails =
+stalled-round call settings opening first scripts s l t m waited before after means plain done keeps-l keeps-m calm h asks q promised fails =
     let rests = rests-so waited m call.after fails.2 in
     let from : before ≡ l.quiet = fails.0 in
     let to : after ≡ m.quiet = fails.1 in
@@ -249,14 +246,14 @@ stalled-round call user opening first scripts s l t m waited before after means 
           let exact = (goes.became.stands st q.before).0 in
           let still = none-moved q.hub t.hub s.streams t.streams l m _ false q.polled q.unmoved in
           let less = open-request scripts s l t m q (quiet-out st goes.events goes.calls still exact settled.none_left settled.not_over) in
-          let awaits = request-awaited call user opening first t l m goes.events frame done h asks settled less in (
+          let awaits = request-awaited call settings opening first t l m goes.events done h asks settled plain less in (
             rests.bytes.due ∙ settled.dry.empty q.unmoved is_steady,
             (
-              only_user user,
+              settings,
               means,
-              of-bytes call.before call.after (Awaited call (only_user user)) (λ g tk e d.
-                  subst (λ (x : List ℕ). Awaited call (only_user user) x tk) (sym (added-is call.before.given call.after.given h.given g (rests.bytes.given ∙ h.gave) e))
-                  (subst (λ (x : List ℕ). Awaited call (only_user user) h.given x) (sym (added-is call.before.taken call.after.taken h.taken tk (rests.bytes.taken ∙ h.took) d)) awaits)),
+              of-bytes call.before call.after (Awaited call settings) (λ g tk e d.
+                  subst (λ (x : List ℕ). Awaited call settings x tk) (sym (added-is call.before.given call.after.given h.given g (rests.bytes.given ∙ h.gave) e))
+                  (subst (λ (x : List ℕ). Awaited call settings h.given x) (sym (added-is call.before.taken call.after.taken h.taken tk (rests.bytes.taken ∙ h.took) d)) awaits)),
             ),
           );
     }

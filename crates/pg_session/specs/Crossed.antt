@@ -3,7 +3,7 @@ use Rattle.std.specs.Prelude.{◌≡◌, ◌≢◌, ℕ, ◌≤◌, ◌++◌, Is
 use Rattle.std.specs.List.{concat, list_all}
 use Rattle.pg_spec.specs.Book.{wire}
 use Rattle.pg_spec.specs.Asides.{is_readable}
-use Rattle.pg_spec.specs.Settings.{only_user, Require}
+use Rattle.pg_spec.specs.Settings.{Settings, Require}
 use Rattle.pg_promises.specs.EndedWell.{Session, received, startup_of, startup_messages, later_messages, replies}
 use Rattle.pg_spec.specs.Frames.{terminate_frame}
 use Rattle.pg_spec.specs.Parameters.{AreLastValues, parameter_reports}
@@ -16,9 +16,9 @@ use Rattle.pg_text.specs.declared.command.Command.{Command}
 use Rattle.pg_text.specs.declared.report.Report.{Report}
 
 -- the session that was played, where the server gave these bytes
-abbrev pub session_of : (user nonce : List ℕ) (scripts : List (List Command)) (given : List ℕ) (report : Report) (g : List ℕ) → Session
-session_of user nonce scripts given report g = record {
-  settings = only_user user;
+abbrev pub session_of : (settings : Settings) (nonce : List ℕ) (scripts : List (List Command)) (given : List ℕ) (report : Report) (g : List ℕ) → Session
+session_of settings nonce scripts given report g = record {
+  settings = settings;
   nonce = nonce;
   scripts = scripts_of scripts;
   turns = given;

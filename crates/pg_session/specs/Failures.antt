@@ -2,13 +2,16 @@
 use Rattle.std.specs.Prelude.{◌≡◌, ◌⊎◌, ◌≤◌, ◌+◌, ℕ, Bool, true, false, IsTrue, List, length, Option, Some, Result, Err}
 use Rattle.futures.specs.declared.task.Poll.{Poll}
 use Rattle.futures.specs.declared.task.Poll.TheVariants.{Ready}
+use Rattle.pg_promises.specs.Causes.{NeedsNoTls}
 use Rattle.pg_spec.specs.Links.{LinkView, Rose, next_count}
+use Rattle.pg_spec.specs.Settings.{Settings}
+use Rattle.pg_spec.specs.Startup.{plain_login}
 use Rattle.pg_connect.specs.Answers.{IsWithinPoll, PollAnswers}
 use Rattle.pg_connect.specs.Calm.{MissesFew, MissesOne, StaysCalm}
 use Rattle.pg_wire.specs.LinkCalls.{Keeps, SameBytes, SameWriting}
-use Rattle.pg_connect.specs.Startups.{Opened, Opening}
-use Rattle.pg_connect.specs.StartupPolls.{IsFresh, GoesOn}
-use Rattle.pg_connect.specs.declared.startup.Startup.{Startup}
+use Rattle.pg_startup.specs.Startups.{Opened, Opening}
+use Rattle.pg_startup.specs.StartupPolls.{IsFresh, GoesOn}
+use Rattle.pg_startup.specs.declared.startup.Startup.{Startup}
 use Rattle.pg_connect.specs.declared.streams.Streams.{Streams}
 use Rattle.pg_errors.specs.declared.async_message.AsyncMessage.{AsyncMessage}
 use Rattle.pg_faults.specs.declared.cause.Cause.TheVariants as cause
@@ -69,16 +72,17 @@ PauseFails from to waited before after _ = ⊥
 
 -- A poll of the startup moved nothing, and the pause behind it failed. The poll came behind a wait, or not; up to its end
 -- no call was a lull on a steady link.
-pub record StopsOpening (user nonce : List ℕ) (begin now : LinkView) (s : Startup) (e : Error) : Type 0 where
+pub record StopsOpening (settings : Settings) (nonce : List ℕ) (begin now : LinkView) (s : Startup) (e : Error) : Type 0 where
+  pub no_tls : NeedsNoTls settings
   pub link : LinkView
   pub keeps : Keeps begin link
   pub polled : LinkView
-  pub opening : Opening user nonce begin polled s
-  pub within : s.given ≤ s.max_bytes
+  pub opening : Opening (plain_login settings nonce) 0 begin polled s
+  pub within : s.bytes.given ≤ s.bytes.max_bytes
   pub goes_on : GoesOn s link polled
   pub misses : MissesOne link polled
   pub calm : StaysCalm begin polled
-  pub unmoved : s.moved ≡ false
+  pub unmoved : s.bytes.moved ≡ false
   pub waited : Bool
   pub promised : waited ≡ true → IsTrue link.promised
   pub fails : PauseFails link.quiet polled.quiet waited polled now e
@@ -121,11 +125,12 @@ pub record GivesOut (scripts : List (List Command)) (s : SessionState) (l m : Li
 abbrev pub HasFailed : List (List Command) → SessionState → (before after : LinkView) → Error → Type 0
 HasFailed scripts s l m e = RunsShort scripts s l m e ⊎ (BreaksOff scripts s l m e ⊎ GivesOut scripts s l m e)
 
--- a whole session: it was opened as this user, and failed behind its startup
-pub record HasBroken (user nonce : List ℕ) (scripts : List (List Command)) (before after : LinkView) (e : Error) : Type 0 where
+-- a whole session: no TLS is required, it was opened by these settings, and failed behind its startup
+pub record HasBroken (settings : Settings) (nonce : List ℕ) (scripts : List (List Command)) (before after : LinkView) (e : Error) : Type 0 where
+  pub no_tls : NeedsNoTls settings
   pub startup : Startup
   pub link : LinkView
-  pub opened : Opened user nonce before link startup
+  pub opened : Opened (plain_login settings nonce) 0 before link startup
   pub calm : StaysCalm before link
   pub opening : List ℕ
   pub new : SessionState
@@ -134,15 +139,17 @@ pub record HasBroken (user nonce : List ℕ) (scripts : List (List Command)) (be
   pub fails : HasFailed scripts new link after e
 
 -- a session that was opened, and made no turn
-pub record WasOpened (user nonce : List ℕ) (before after : LinkView) : Type 0 where
+pub record WasOpened (settings : Settings) (nonce : List ℕ) (before after : LinkView) : Type 0 where
+  pub no_tls : NeedsNoTls settings
   pub startup : Startup
-  pub opened : Opened user nonce before after startup
+  pub opened : Opened (plain_login settings nonce) 0 before after startup
 
 -- a session that was opened and played to its end, and wasn't reported
-pub record WasOver (user nonce : List ℕ) (scripts : List (List Command)) (before after : LinkView) : Type 0 where
+pub record WasOver (settings : Settings) (nonce : List ℕ) (scripts : List (List Command)) (before after : LinkView) : Type 0 where
+  pub no_tls : NeedsNoTls settings
   pub startup : Startup
   pub link : LinkView
-  pub opened : Opened user nonce before link startup
+  pub opened : Opened (plain_login settings nonce) 0 before link startup
   pub opening : List ℕ
   pub new : SessionState
   pub fresh : IsFresh startup opening new.streams

@@ -1,5 +1,5 @@
 -- The report of a session that ended.
-use Rattle.std.specs.Prelude.{◌≡◌, ℕ, List, ◌++◌, map, pos}
+use Rattle.std.specs.Prelude.{◌≡◌, ℕ, List, ◌++◌, map, ℤ}
 use Rattle.pg_spec.specs.Book.{wire}
 use Rattle.pg_spec.specs.Frames.{terminate_frame}
 use Rattle.pg_text.specs.Views.{booking_of}
@@ -11,14 +11,13 @@ use Rattle.pg_session.specs.States.{SessionState}
 abbrev pub pair_view : Pair → List ℕ × List ℕ
 pair_view p = (p.name, p.value)
 
--- The report tells what stands at the end, where `opening` is what startup sent. The server's process and
--- its key aren't asked for yet.
-pub record Reports (opening : List ℕ) (s : SessionState) (r : Report) : Type 0 where
+-- The report tells what stands at the end, where `opening` is what startup sent, and `cancelled_by` the server's process
+-- and the secret key that startup kept.
+pub record Reports (opening : List ℕ) (cancelled_by : ℤ × ℤ) (s : SessionState) (r : Report) : Type 0 where
   pub answers : r.answers ≡ map (λ handle. handle.answers) s.handles
   pub asynchronous : r.asynchronous ≡ s.asynchronous
   pub parameters : map pair_view r.parameters ≡ s.streams.parameters
-  pub process_id : r.process_id ≡ pos 0
-  pub secret_key : r.secret_key ≡ pos 0
+  pub key : (r.process_id, r.secret_key) ≡ cancelled_by
   pub book : r.book ≡ s.hub.book
   pub trace : r.trace ≡ s.trace
   pub sent : r.sent ≡ opening ++ wire (map booking_of s.hub.book) ++ terminate_frame

@@ -1,15 +1,18 @@
 -- A whole session: the startup, the turns one after another, and the report.
 use Rattle.std.specs.Prelude.{◌≡◌, ◌<◌, ◌≤◌, ◌+◌, ◌^◌, ◌⊎◌, ℕ, zero, suc, true, false, List, [], ◌∷◌, ◌++◌, length, Some}
+use Rattle.pg_promises.specs.Causes.{NeedsNoTls}
 use Rattle.pg_spec.specs.Links.{LinkView}
+use Rattle.pg_spec.specs.Settings.{Settings}
+use Rattle.pg_spec.specs.Startup.{plain_login}
 use Rattle.pg_wire.specs.LinkCalls.{SameBytes, SameWriting, Keeps}
 use Rattle.pg_desk.specs.History.{start, IsFrontOf}
 use Rattle.pg_hub.specs.Fits.{Fits}
 use Rattle.pg_hub.specs.Standing.{Standing}
 use Rattle.pg_text.specs.declared.command.Command.{Command}
 use Rattle.pg_text.specs.declared.report.Report.{Report}
-use Rattle.pg_connect.specs.Startups.{Opened}
-use Rattle.pg_connect.specs.StartupPolls.{IsFresh}
-use Rattle.pg_connect.specs.declared.startup.Startup.{Startup}
+use Rattle.pg_startup.specs.Startups.{Opened}
+use Rattle.pg_startup.specs.StartupPolls.{IsFresh}
+use Rattle.pg_startup.specs.declared.startup.Startup.{Startup}
 use Rattle.pg_session.specs.Reports.{Reports}
 use Rattle.pg_session.specs.States.{SessionState, new_handles, commands_in}
 use Rattle.pg_session.specs.Turns.{Closes, Makes, Turns}
@@ -77,18 +80,19 @@ pub record IsNewSession (scripts : List (List Command)) (s : SessionState) : Typ
   pub trace : s.trace ≡ []
   pub asynchronous : s.asynchronous ≡ []
 
--- A whole session: it was opened as this user, and played from there to its end, and this is its report. The link
--- gave no more bytes in it than it may, and they are counted by 64 bits.
-pub record HasPlayed (user nonce : List ℕ) (scripts : List (List Command)) (given : List ℕ) (before after : LinkView) (report : Report) : Type 0 where
+-- A whole session: no TLS is required, it was opened by these settings, and played from there to its end, and this is its
+-- report. The link gave no more bytes in it than it may, and they are counted by 64 bits.
+pub record HasPlayed (settings : Settings) (nonce : List ℕ) (scripts : List (List Command)) (given : List ℕ) (before after : LinkView) (report : Report) : Type 0 where
+  pub no_tls : NeedsNoTls settings
   pub startup : Startup
   pub link : LinkView
-  pub opened : Opened user nonce before link startup
+  pub opened : Opened (plain_login settings nonce) 0 before link startup
   pub opening : List ℕ
   pub new : SessionState
   pub fresh : IsFresh startup opening new.streams
   pub is_new : IsNewSession scripts new
   pub last : SessionState
   pub plays : Plays scripts given new link last after
-  pub reports : Reports opening last report
+  pub reports : Reports opening (startup.process_id, startup.secret_key) last report
   pub counted : last.streams.given < 2 ^ 64
-  pub within : last.streams.given ≤ startup.max_bytes
+  pub within : last.streams.given ≤ startup.bytes.max_bytes

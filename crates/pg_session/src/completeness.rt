@@ -2,7 +2,7 @@
 
 ghost use Rattle.std.specs.Prelude.{ℕ, List, Err, ⊤};
 ghost use Rattle.pg_promises.specs.Causes.{Call, HasCause, OfDialogue, WithSettings};
-ghost use Rattle.pg_spec.specs.Settings.{only_user};
+ghost use Rattle.pg_spec.specs.Settings.{Settings};
 ghost use Rattle.pg_promises.specs.ConnectionStrings.{Means};
 ghost use Rattle.pg_spec.specs.Faults.{Failure};
 ghost use Rattle.pg_spec.specs.Links.{Plan};
@@ -13,8 +13,8 @@ ghost use Rattle.pg_session.specs.Course.{HoldsCourse};
 /// Over a link that conforms and held its course, no failure of a session with valid input has a cause, but want of
 /// memory.
 pub fn what_may_fail_over_a_link_that_conforms()
-    ensures { (call : Call) (user : List ℕ) (plan : Plan) (given taken : List ℕ) (failure : Failure) → Means call.config (only_user user) →
-        IsValid call (only_user user) plan → Conforms call (only_user user) plan taken → HoldsCourse call plan given taken →
+    ensures { (call : Call) (settings : Settings) (plan : Plan) (given taken : List ℕ) (failure : Failure) → Means call.config settings →
+        IsValid call settings plan → Conforms call settings plan taken → HoldsCourse call settings plan given taken →
         HasCause call failure → EndsWell (Err failure) }
 {}
 

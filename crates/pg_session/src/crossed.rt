@@ -2,6 +2,7 @@
 
 ghost use Rattle.std.specs.Prelude.{ℕ, List};
 ghost use Rattle.pg_spec.specs.Links.{LinkView, OfBytes};
+ghost use Rattle.pg_spec.specs.Settings.{Settings};
 ghost use Rattle.pg_text.specs.declared.command.Command.{Command};
 ghost use Rattle.pg_text.specs.declared.report.Report.{Report};
 ghost use Rattle.pg_session.specs.Crossed.{session_of, Sent, Crossed};
@@ -11,9 +12,9 @@ ghost use Rattle.pg_session.specs.Sessions.{HasPlayed};
 /// each request whole, in booking order, and Terminate, and reports that. All that the server gave was read, sorted
 /// and reported too.
 pub fn what_crossed()
-    ensures sent { (user nonce : List ℕ) (scripts : List (List Command)) (given : List ℕ) (before after : LinkView) (report : Report) →
-        HasPlayed user nonce scripts given before after report → OfBytes before after (λ g t. Sent (session_of user nonce scripts given report g) t) }
-    ensures crossed { (user nonce : List ℕ) (scripts : List (List Command)) (given : List ℕ) (before after : LinkView) (report : Report) →
-        HasPlayed user nonce scripts given before after report →
-        OfBytes before after (λ g t. Crossed (session_of user nonce scripts given report g) t) }
+    ensures sent { (settings : Settings) (nonce : List ℕ) (scripts : List (List Command)) (given : List ℕ) (before after : LinkView) (report : Report) →
+        HasPlayed settings nonce scripts given before after report → OfBytes before after (λ g t. Sent (session_of settings nonce scripts given report g) t) }
+    ensures crossed { (settings : Settings) (nonce : List ℕ) (scripts : List (List Command)) (given : List ℕ) (before after : LinkView) (report : Report) →
+        HasPlayed settings nonce scripts given before after report →
+        OfBytes before after (λ g t. Crossed (session_of settings nonce scripts given report g) t) }
 {}

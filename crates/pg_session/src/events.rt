@@ -2,6 +2,7 @@
 
 ghost use Rattle.std.specs.Prelude.{ℕ, List};
 ghost use Rattle.pg_spec.specs.Links.{LinkView, OfBytes};
+ghost use Rattle.pg_spec.specs.Settings.{Settings};
 ghost use Rattle.pg_text.specs.declared.command.Command.{Command};
 ghost use Rattle.pg_text.specs.declared.report.Report.{Report};
 ghost use Rattle.pg_session.specs.Crossed.{session_of};
@@ -11,11 +12,11 @@ ghost use Rattle.pg_session.specs.Sessions.{HasPlayed};
 /// The calls of a session's hub, those of its handles and of its connection, are a history of one hub, and
 /// where the link tells its bytes, the reader of request k took a front of the reply to request k.
 pub fn each_request_reads_its_reply()
-    ensures events { (user nonce : List ℕ) (scripts : List (List Command)) (given : List ℕ) (before after : LinkView) (report : Report) →
-        (p : HasPlayed user nonce scripts given before after report) →
+    ensures events { (settings : Settings) (nonce : List ℕ) (scripts : List (List Command)) (given : List ℕ) (before after : LinkView) (report : Report) →
+        (p : HasPlayed settings nonce scripts given before after report) →
         AreEvents scripts report (turn_events scripts given p.new p.link p.last after p.plays) }
-    ensures reads { (user nonce : List ℕ) (scripts : List (List Command)) (given : List ℕ) (before after : LinkView) (report : Report) →
-        (p : HasPlayed user nonce scripts given before after report) →
-        OfBytes before after (λ g t. ReadsItsReply scripts (session_of user nonce scripts given report g)
+    ensures reads { (settings : Settings) (nonce : List ℕ) (scripts : List (List Command)) (given : List ℕ) (before after : LinkView) (report : Report) →
+        (p : HasPlayed settings nonce scripts given before after report) →
+        OfBytes before after (λ g t. ReadsItsReply scripts (session_of settings nonce scripts given report g)
         (turn_events scripts given p.new p.link p.last after p.plays)) }
 {}

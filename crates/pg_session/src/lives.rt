@@ -5,6 +5,7 @@ ghost use Rattle.pg_promises.specs.EndedWell.{Session, later_messages};
 ghost use Rattle.pg_spec.specs.Links.{LinkView};
 ghost use Rattle.pg_spec.specs.RawMessages.{RawMessage, sync_of};
 ghost use Rattle.pg_spec.specs.Turns.{Times, delivered_before};
+ghost use Rattle.pg_spec.specs.Settings.{Settings};
 ghost use Rattle.pg_connect.specs.Passed.{delivered_by};
 ghost use Rattle.pg_desk.specs.History.{IsFrontOf};
 ghost use Rattle.pg_text.specs.Views.{scripts_of, report_of};
@@ -35,16 +36,16 @@ pub fn what_commands_answered()
 
 /// What came is a front of the synchronous messages that the link gave behind the startup.
 pub fn what_came()
-    ensures { (user nonce : List ℕ) (scripts : List (List Command)) (given : List ℕ) (before after : LinkView) (report : Report) →
-        (p : HasPlayed user nonce scripts given before after report) →
+    ensures { (settings : Settings) (nonce : List ℕ) (scripts : List (List Command)) (given : List ℕ) (before after : LinkView) (report : Report) →
+        (p : HasPlayed settings nonce scripts given before after report) →
         CameBehind p.opened.read before after (delivered_by (calls_of scripts given p.new p.link p.last after p.plays)) p.last.streams.given }
 {}
 
 /// All of it together, of a report: where all synchronous messages behind the startup were delivered, the
 /// handles ran and their commands answered as the main theorem says.
 pub fn what_was_answered()
-    ensures { (user nonce : List ℕ) (scripts : List (List Command)) (given : List ℕ) (before after : LinkView) (report : Report) →
-        (p : HasPlayed user nonce scripts given before after report) →
+    ensures { (settings : Settings) (nonce : List ℕ) (scripts : List (List Command)) (given : List ℕ) (before after : LinkView) (report : Report) →
+        (p : HasPlayed settings nonce scripts given before after report) →
         (s : Session) → s.scripts ≡ scripts_of scripts → s.report ≡ report_of report →
         IsFrontOf (delivered_by (calls_of scripts given p.new p.link p.last after p.plays)) (sync_of (later_messages s)) →
         delivered_before s.report.trace (length s.report.trace) ≡ length (sync_of (later_messages s)) →

@@ -5,9 +5,9 @@ use Rattle.std.specs.Prelude.{Contains, is_some, find, ◌==◌}
 use Rattle.std.specs.Str.{is_utf8}
 use Rattle.std.proofs.lemmas.List.Elements.{Contains-append_left, Contains-append_right}
 use Rattle.std.proofs.lemmas.Option.{same_Some}
-use Rattle.pg_promises.specs.Causes.{Call, HasCause, OfDialogue, Behind, IsOfBody, OutOfTurn}
+use Rattle.pg_promises.specs.Causes.{Call, HasCause, OfDialogue, Behind, IsOfBody, NeedsNoTls, OutOfTurn}
 use Rattle.pg_spec.specs.Asides.{AsideBreaks, AsideUnreadable, aside_fault, unasked, out_of_turn}
-use Rattle.pg_spec.specs.Settings.{only_user, Settings}
+use Rattle.pg_spec.specs.Settings.{Settings}
 use Rattle.pg_promises.specs.ConnectionStrings.{Means}
 use Rattle.pg_spec.specs.DbErrors.{DbError, db_error_of}
 use Rattle.pg_spec.specs.Faults as faults
@@ -15,8 +15,7 @@ use Rattle.pg_spec.specs.Links.{LinkView, OfBytes, Grew}
 use Rattle.pg_spec.specs.Messages.{Message, layouts}
 use Rattle.pg_spec.specs.Messages as spec
 use Rattle.pg_spec.specs.RawMessages.{RawMessage, messages, bytes_left, has_bad_header, async_of, is_ready, cut_after}
-use Rattle.pg_spec.specs.Sent.{tagged_frames}
-use Rattle.pg_spec.specs.Startup.{Done}
+use Rattle.pg_spec.specs.Sent.{said_terminate, units}
 use Rattle.pg_wire.specs.LinkCalls.{Keeps}
 use Rattle.pg_wire.specs.Messages.{message_view}
 use Rattle.pg_wire.specs.declared.body.ErrorResponseBody.{ErrorResponseBody}
@@ -36,36 +35,35 @@ use Rattle.pg_connect.specs.Passed.{AllEngineCalls, bytes_out_by, delivered_by}
 use Rattle.pg_connect.specs.Passes.{goodbye, waiting, notice_of, delayed_in, IsUnread, CameOff}
 use Rattle.pg_connect.specs.Polls.{TurnFails, EndsWhole}
 use Rattle.pg_connect.specs.Reads.{BreaksLayout, LeavesUnread, LeavesDelayed, IsUnasked, has_no_request}
-use Rattle.pg_connect.specs.Startups.{frame_of, Ends}
 use Rattle.pg_connect.specs.declared.fault.ConnectionFault.{ConnectionFault}
 use Rattle.pg_connect.specs.declared.fault.ConnectionFault.TheVariants as fault
 use Rattle.pg_connect.specs.declared.streams.Streams.{Streams}
 use Rattle.pg_connect.proofs.Joining.{rose_later}
 use Rattle.pg_session.proofs.Caused.Asks.{IsTame, tame-all, mild-engines, never-closed, wire-asks}
-use Rattle.pg_session.proofs.Caused.Start.{needs-none}
-use Rattle.pg_session.proofs.Caused.Frames.{AreQueries, front-queries, TakesQueries, front-reads, frames-behind, never-said, few-units}
+use Rattle.pg_session.proofs.Caused.Frames.{AreQueries, front-queries, TakesQueries, front-reads, never-said}
 use Rattle.pg_session.proofs.Crossing.Hub.{out-all}
 use Rattle.pg_session.proofs.Caused.Groups.{none-open, delivered-whole, InFront, in-front}
 use Rattle.pg_session.proofs.Crossing.Groups.{AreWhole}
 use Rattle.pg_session.proofs.Caused.Lists.{first-stands, unfiltered, not-none, all-left, bad-left}
 use Rattle.pg_session.proofs.Caused.Turns.{Broke}
 use Rattle.pg_session.proofs.Crossing.End.{added-is, of-bytes}
-use Rattle.pg_session.proofs.Crossing.Start.{Started, is-started}
+use Rattle.pg_session.proofs.Opening.{IsDone, IsOpening, Started, done-opening, is-started}
+use Rattle.pg_session.proofs.Opening.Sent.{few-units, silent-behind}
 
 -- a call failed behind its startup, in a turn of its connection
-pub record Fails (user : List ℕ) (call : Call) (former now : List Event) (t : Streams) (l : LinkView) : Type 0 where
-  pub means : Means call.config (only_user user)
+pub record Fails (settings : Settings) (call : Call) (former now : List Event) (t : Streams) (l : LinkView) : Type 0 where
+  pub means : Means call.config settings
   pub opening : List ℕ
   pub first : List RawMessage
-  pub frame : frame_of user ≡ Ok opening
-  pub done : Ends user call.nonce first (Done (length first))
+  pub no_tls : NeedsNoTls settings
+  pub done : IsDone settings call.nonce opening first
   pub broke : Broke opening first call.before former now t call.after
   pub keeps : Keeps call.before l
   pub limit : t.max_bytes ≡ call.limit
   -- the hub's events in the turn, and what it held before
   pub calls : AllEngineCalls now
   pub tame : IsTame (after_all (start 0 0) former).book (after_all (start 0 0) former).failed
-  -- the link took the startup's frame whole
+  -- the link took the startup's frames whole
   pub more : List ℕ
   pub took : Grew call.before.taken call.after.taken (opening ++ more)
 
@@ -119,7 +117,7 @@ pub of-batch : (batch : List RawMessage) (e : Error) → IsUnasked batch (fault.
 of-batch [] e h = absurd h
 of-batch (first ∷ batch) e h = subst IsOfAnswer (sym h) (of-raw first)
 
-module _ (user : List ℕ) (call : Call) (former now : List Event) (t : Streams) (l : LinkView) (f : Fails user call former now t l) where
+module _ (settings : Settings) (call : Call) (former now : List Event) (t : Streams) (l : LinkView) (f : Fails settings call former now t l) where
   -- the messages behind the startup
   abbrev pub later : List RawMessage
   later = f.broke.read ++ (f.broke.lost ++ messages t.buffer.items)
@@ -130,28 +128,31 @@ module _ (user : List ℕ) (call : Call) (former now : List Event) (t : Streams)
       subst (λ (x : List ℕ). P x t) (sym (added-is call.before.given call.after.given f.broke.given g f.broke.gave e))
       (subst (λ (x : List ℕ). P f.broke.given x) (sym (added-is call.before.taken call.after.taken f.broke.taken t f.broke.took d)) h))
 
-  pub of-dialogue : (P : Settings → List ℕ → List ℕ → Type 0) → P (only_user user) f.broke.given f.broke.taken → OfDialogue call P
-  of-dialogue P h = (only_user user, f.means, of-bytes-of (P (only_user user)) h)
+  pub of-dialogue : (P : Settings → List ℕ → List ℕ → Type 0) → P settings f.broke.given f.broke.taken → OfDialogue call P
+  of-dialogue P h = (settings, f.means, of-bytes-of (P settings) h)
 
-  -- the same of all that was taken, which began with the startup's frame
-  pub of-taken : (P : Settings → List ℕ → List ℕ → Type 0) → ((taken : List ℕ) → taken ≡ f.broke.taken → taken ≡ f.opening ++ f.more → P (only_user user) f.broke.given taken) → OfDialogue call P
+  -- the same of all that was taken, which began with the startup's frames
+  pub of-taken : (P : Settings → List ℕ → List ℕ → Type 0) → ((taken : List ℕ) → taken ≡ f.broke.taken → taken ≡ f.opening ++ f.more → P settings f.broke.given taken) → OfDialogue call P
   of-taken P h = (
-    only_user user,
+    settings,
     f.means,
-    of-bytes call.before call.after (P (only_user user)) (λ g t e d.
-        subst (λ (x : List ℕ). P (only_user user) x t) (sym (added-is call.before.given call.after.given f.broke.given g f.broke.gave e))
+    of-bytes call.before call.after (P settings) (λ g t e d.
+        subst (λ (x : List ℕ). P settings x t) (sym (added-is call.before.given call.after.given f.broke.given g f.broke.gave e))
         (h t (added-is call.before.taken call.after.taken f.broke.taken t f.broke.took d) (added-is call.before.taken call.after.taken (f.opening ++ f.more) t f.took d))),
   )
 
   all-messages : messages f.broke.given ≡ f.first ++ later
   all-messages = f.broke.came_off ∙ append_assoc f.first f.broke.read (f.broke.lost ++ messages t.buffer.items)
 
-  started : Started user call.nonce f.opening f.first later (messages f.broke.given)
-  started = is-started user call.nonce f.opening f.first later (messages f.broke.given) f.frame f.done all-messages
+  opens : IsOpening settings f.opening
+  opens = done-opening settings call.nonce f.opening f.first f.done
+
+  started : Started settings call.nonce f.opening f.first later (messages f.broke.given)
+  started = is-started settings call.nonce f.opening f.first later (messages f.broke.given) f.done all-messages
 
   -- what holds of the messages behind the startup
-  pub behind : (P : List RawMessage → Type 0) → P later → Behind call (only_user user) f.broke.given P
-  behind P h = (needs-none user, (length f.first, started.outcome, subst P (sym started.rest) h))
+  pub behind : (P : List RawMessage → Type 0) → P later → Behind call settings f.broke.given P
+  behind P h = (f.no_tls, (length f.first, started.outcome, subst P (sym started.rest) h))
 
   -- what came behind the startup came
   among-all : (m : RawMessage) → Contains later m → Contains (messages f.broke.given) m
@@ -188,11 +189,11 @@ module _ (user : List ℕ) (call : Call) (former now : List Event) (t : Streams)
   delayed-stands c h =
       let raw = notice_of h.notice in
       let late : delayed_in t ≡ raw ∷ map notice_of h.others = ap (λ (x : List ErrorResponseBody). map notice_of x) h.first in
-      let all : async_of f.broke.read ≡ f.broke.handed ++ raw ∷ map notice_of h.others = f.broke.handed_out ∙ ap (λ (x : List RawMessage). f.broke.handed ++ x) late in (
+      let all : async_of (f.first ++ f.broke.read) ≡ f.broke.handed ++ raw ∷ map notice_of h.others = f.broke.handed_out ∙ ap (λ (x : List RawMessage). f.broke.handed ++ x) late in (
         raw,
         spec.NoticeResponse h.notice.fields,
-        among-all raw (Contains-append_left f.broke.read (f.broke.lost ++ messages t.buffer.items) raw
-            (unfiltered _ f.broke.read raw
+        subst (λ (x : List RawMessage). Contains x raw) (sym f.broke.came_off) (Contains-append_left (f.first ++ f.broke.read) (f.broke.lost ++ messages t.buffer.items) raw
+            (unfiltered _ (f.first ++ f.broke.read) raw
             (subst (λ (x : List RawMessage). Contains x raw) (sym all)
             (Contains-append_right f.broke.handed (raw ∷ map notice_of h.others) raw (first-stands raw (map notice_of h.others)))))),
         refl,
@@ -207,7 +208,7 @@ module _ (user : List ℕ) (call : Call) (former now : List Event) (t : Streams)
 
   -- where the connection isn't closing, frames of queries were taken, no more than went out of the hub
   pub took-queries : t.closing ≡ false → (taken : List ℕ) → taken ≡ f.broke.taken → taken ≡ f.opening ++ f.more →
-      TakesQueries (length (after_all (after_all (start 0 0) former) now).gone_out) (tagged_frames taken)
+      TakesQueries (length (after_all (after_all (start 0 0) former) now).gone_out) (messages f.more)
   took-queries open_ taken same front =
       let begin = after_all (start 0 0) former in
       let last = after_all begin now in
@@ -224,15 +225,17 @@ module _ (user : List ℕ) (call : Call) (former now : List Event) (t : Streams)
       ∙ f.broke.out ∙ ap (λ (x : List ℕ). x ++ t.unsent) (sym same ∙ front) ∙ append_assoc f.opening f.more t.unsent in
       let rest : f.more ++ t.unsent ≡ joined last.gone_out =
       sym (drop-append_seam f.opening (f.more ++ t.unsent)) ∙ ap (λ (x : List ℕ). drop (length f.opening) x) (sym all) ∙ drop-append_seam f.opening (joined last.gone_out) in
-      subst (λ (ms : List RawMessage). TakesQueries (length last.gone_out) ms)
-      (sym (ap tagged_frames front ∙ frames-behind user f.opening f.more f.frame))
-      (front-reads last.gone_out f.more t.unsent parts rest)
+      front-reads last.gone_out f.more t.unsent parts rest
 
   -- where the input ended while the connection was active
   pub ends-whole : (s : Streams) → EndsWhole (fresh s) (left_open t) l call.after → HasCause call faults.Closed
   ends-whole s ends = (
     rose_later call.before.ends l.ends call.after.ends f.keeps.counts.ends ends.rose,
-    of-taken _ (λ taken same front. (needs-none user, f.broke.rest ∙ ap bytes_left ends.buffer, never-said (tagged_frames taken) (took-queries ends.stays taken same front).all)),
+    of-taken _ (λ taken same front. (
+      f.no_tls,
+      f.broke.rest ∙ ap bytes_left ends.buffer,
+      ap said_terminate front ∙ silent-behind settings f.opening opens f.more (never-said (messages f.more) (took-queries ends.stays taken same front).all),
+    )),
   )
 
   closed-cause : (s : Streams) → EndsWhole (fresh s) (left_open t) l call.after ⊎ (last_is is_closed_out now ≡ true) → HasCause call faults.Closed
@@ -270,13 +273,15 @@ module _ (user : List ℕ) (call : Call) (former now : List Event) (t : Streams)
       let stands : InFront (finished last.deliveries) first later =
       in-front (finished last.deliveries) (delivered_by (former ++ now)) batch f.broke.read (f.broke.lost ++ messages t.buffer.items) first whole
       (f.broke.delivered ∙ ap (λ (x : List RawMessage). delivered_by (former ++ now) ++ x) held) in
-      let sent : length (tagged_frames taken) ≤ length last.gone_out = (took-queries open_ taken same front).count in
+      let sent : length (messages f.more) ≤ length last.gone_out = (took-queries open_ taken same front).count in
+      let few : length (units taken) ≤ length (messages f.more) =
+      subst (λ (x : List ℕ). length (units x) ≤ length (messages f.more)) (sym front) (few-units settings f.opening opens f.more) in
       record {
         before = finished last.deliveries;
         group = stands.group;
         first = first;
         stands = stands.stands;
-        unasked = omega (arith, few-units taken, sent, answered);
+        unasked = omega (arith, few, sent, answered);
         means = refl;
       }
 
@@ -291,28 +296,28 @@ module _ (user : List ℕ) (call : Call) (former now : List Event) (t : Streams)
 
 -- ---- why a turn fails
 
-pub cause-of : (user : List ℕ) (call : Call) (former now : List Event) (s t : Streams) (l : LinkView) → Fails user call former now t l → (e : ConnectionFault) →
+pub cause-of : (settings : Settings) (call : Call) (former now : List Event) (s t : Streams) (l : LinkView) → Fails settings call former now t l → (e : ConnectionFault) →
     TurnFails (fresh s) (left_open t) l call.after e now → HasCause call (error_of e)
-cause-of user call former now s t l f fault.Link ends = rose_later call.before.faults l.faults call.after.faults f.keeps.counts.faults ends
-cause-of user call former now s t l f (fault.LimitReached given limit) ends = record {
+cause-of settings call former now s t l f fault.Link ends = rose_later call.before.faults l.faults call.after.faults f.keeps.counts.faults ends
+cause-of settings call former now s t l f (fault.LimitReached given limit) ends = record {
   asked = ends.1 ∙ f.limit;
   more = ends.2;
-  counted = of-bytes-of user call former now t l f (λ g t. length g ≡ given) (sym (ends.0 ∙ f.broke.count));
+  counted = of-bytes-of settings call former now t l f (λ g t. length g ≡ given) (sym (ends.0 ∙ f.broke.count));
 }
-cause-of user call former now s t l f fault.Ended ends =
+cause-of settings call former now s t l f fault.Ended ends =
     let left : bytes_left f.broke.given ≡ t.buffer.items = f.broke.rest ∙ all-left t.buffer.items ends.decoded.none_whole in (
       rose_later call.before.ends l.ends call.after.ends f.keeps.counts.ends ends.rose,
-      of-dialogue user call former now t l f _
-          (inl (needs-none user, (subst (λ (x : List ℕ). x ≢ []) (sym left) (not-none t.buffer.items ends.some), ap has_bad_header left ∙ ends.decoded.no_bad_header))),
+      of-dialogue settings call former now t l f _
+          (inl (f.no_tls, (subst (λ (x : List ℕ). x ≢ []) (sym left) (not-none t.buffer.items ends.some), ap has_bad_header left ∙ ends.decoded.no_bad_header))),
     )
-cause-of user call former now s t l f fault.BadLength ends =
-    of-dialogue user call former now t l f _ (inl (needs-none user, refl, ap has_bad_header f.broke.rest ∙ bad-left t.buffer.items ends.header))
-cause-of user call former now s t l f fault.Layout ends =
-    of-dialogue user call former now t l f _ (inr (inr (behind user call former now t l f (AsideBreaks faults.Layout)
-    (layout-breaks user call former now t l f (record { raw = ends.raw; rest = ends.rest; front = ends.front; aside = ends.aside; broken = ends.broken; held = ends.held; delayed = ends.delayed; unread = ends.unread })))))
-cause-of user call former now s t l f (fault.Unreadable c) ends = (
+cause-of settings call former now s t l f fault.BadLength ends =
+    of-dialogue settings call former now t l f _ (inl (f.no_tls, refl, ap has_bad_header f.broke.rest ∙ bad-left t.buffer.items ends.header))
+cause-of settings call former now s t l f fault.Layout ends =
+    of-dialogue settings call former now t l f _ (inr (inr (behind settings call former now t l f (AsideBreaks faults.Layout)
+    (layout-breaks settings call former now t l f (record { raw = ends.raw; rest = ends.rest; front = ends.front; aside = ends.aside; broken = ends.broken; held = ends.held; delayed = ends.delayed; unread = ends.unread })))))
+cause-of settings call former now s t l f (fault.Unreadable c) ends = (
   aside-body c ends,
-  of-dialogue user call former now t l f _ (inr (inl (needs-none user, aside-stands user call former now t l f c (aside-in c ends)))),
+  of-dialogue settings call former now t l f _ (inr (inl (f.no_tls, aside-stands settings call former now t l f c (aside-in c ends)))),
 )
   where
     aside-in : (c : Cause) → LeavesUnread (left_open t) c ⊎ (LeavesDelayed (left_open t) c × (now ≡ [])) → LeavesUnread t c ⊎ LeavesDelayed t c
@@ -322,6 +327,6 @@ cause-of user call former now s t l f (fault.Unreadable c) ends = (
     aside-body : (c : Cause) → LeavesUnread (left_open t) c ⊎ (LeavesDelayed (left_open t) c × (now ≡ [])) → IsOfBody c
     aside-body c (inl h) = of-body (message_view h.message) c h.means
     aside-body c (inr h) = of-body (spec.NoticeResponse h.0.notice.fields) c h.0.means
-cause-of user call former now s t l f fault.OutOfMemory ends = tt
-cause-of user call former now s t l f fault.Closed ends = closed-cause user call former now t l f s ends
-cause-of user call former now s t l f (fault.Unasked e) ends = unasked-cause user call former now t l f e ends.1 ends.0 ends.2
+cause-of settings call former now s t l f fault.OutOfMemory ends = tt
+cause-of settings call former now s t l f fault.Closed ends = closed-cause settings call former now t l f s ends
+cause-of settings call former now s t l f (fault.Unasked e) ends = unasked-cause settings call former now t l f e ends.1 ends.0 ends.2

@@ -11,11 +11,11 @@ use Rattle.pg_spec.specs.Faults.{FrameFault, ZeroByte, TooMany, TooLong}
 use Rattle.pg_spec.specs.Frames.{frame_fault, unless_fault, has_zero, untagged, tagged, startup_body, query_frame}
 use Rattle.pg_spec.specs.RawMessages.{RawMessage, message_bytes, messages, bytes_left, cut_after, ends_in}
 use Rattle.pg_spec.specs.Sent.{after_startup_frame, messages_if, tagged_frames, is_password, ends_unit, units, is_terminate}
-use Rattle.pg_spec.specs.Settings.{startup_parameters, only_user}
+use Rattle.pg_spec.specs.Settings.{startup_parameters, Settings}
 use Rattle.pg_spec.proofs.MessageLaws.{messages-front, messages-append}
 use Rattle.pg_spec.proofs.SentLaws.{after_startup_frame-front}
 use Rattle.pg_desk.specs.History.{joined}
-use Rattle.pg_connect.specs.Startups.{frame_of}
+use Rattle.pg_login.specs.Steps.{frame_of}
 use Rattle.pg_session.proofs.Crossing.Groups.{both-true}
 
 -- ---- frames that were written
@@ -101,9 +101,9 @@ front-reads parts more unsent h is =
 -- ---- what was said
 
 -- what was sent behind the startup's frame
-pub sent-behind : (user opening more : List ℕ) → frame_of user ≡ Ok opening → after_startup_frame (opening ++ more) ≡ Some more
-sent-behind user opening more e =
-    let pairs = startup_parameters (only_user user) in
+pub sent-behind : (settings : Settings) (opening more : List ℕ) → frame_of settings ≡ Ok opening → after_startup_frame (opening ++ more) ≡ Some more
+sent-behind settings opening more e =
+    let pairs = startup_parameters settings in
     let w = written (map (λ pair. pair.0) pairs ++ map (λ pair. pair.1) pairs) [] (4 + length (startup_body pairs)) (untagged (startup_body pairs)) opening e in
     let rest = drop 1 (startup_body pairs) in
     let short : 5 + length rest < 2 ^ 32 = omega (arith, w.short) in
@@ -111,8 +111,8 @@ sent-behind user opening more e =
     ∙ after_startup_frame-front rest more short
 
 -- the frames there
-pub frames-behind : (user opening more : List ℕ) → frame_of user ≡ Ok opening → tagged_frames (opening ++ more) ≡ messages more
-frames-behind user opening more e = ap messages_if (sent-behind user opening more e)
+pub frames-behind : (settings : Settings) (opening more : List ℕ) → frame_of settings ≡ Ok opening → tagged_frames (opening ++ more) ≡ messages more
+frames-behind settings opening more e = ap messages_if (sent-behind settings opening more e)
 
 no_end : (tag : ℕ) → (tag == byte "Q") ≡ true → (tag == byte "X") ≡ false
 no_end tag e = ap (λ (x : ℕ). x == byte "X") (eqb-true tag (byte "Q") e)
@@ -122,7 +122,7 @@ never-said [] e = refl
 never-said (m ∷ []) e = no_end m.tag (both-true (is_query m) true e).0
 never-said (m ∷ n ∷ ms) e = never-said (n ∷ ms) (both-true (is_query m) (list_all is_query (n ∷ ms)) e).1
 
-filter-short : {X : Type 0} (p : X → Bool) (xs : List X) → length (filter p xs) ≤ length xs
+pub filter-short : {X : Type 0} (p : X → Bool) (xs : List X) → length (filter p xs) ≤ length xs
 filter-short p [] = omega arith
 filter-short {X} p (x ∷ xs) = by_test (p x) (filter p xs) (filter-short p xs)
   where
@@ -130,7 +130,7 @@ filter-short {X} p (x ∷ xs) = by_test (p x) (filter p xs) (filter-short p xs)
     by_test true few h = omega (arith, h)
     by_test false few h = omega (arith, h)
 
-cut-short : {X : Type 0} (p : X → Bool) (xs : List X) → length (cut_after p xs) ≤ length xs
+pub cut-short : {X : Type 0} (p : X → Bool) (xs : List X) → length (cut_after p xs) ≤ length xs
 cut-short p [] = omega arith
 cut-short {X} p (x ∷ xs) = by_test (p x) (cut_after p xs) (cut-short p xs)
   where
@@ -141,11 +141,3 @@ cut-short {X} p (x ∷ xs) = by_test (p x) (cut_after p xs) (cut-short p xs)
     by_test : (b : Bool) (few : List (List X)) → length few ≤ length xs → length (if b then (x ∷ []) ∷ few else onto_first x few) ≤ suc (length xs)
     by_test true few h = omega (arith, h)
     by_test false few h = by_pieces few h
-
--- there are no more units than frames
-pub few-units : (sent : List ℕ) → length (units sent) ≤ length (tagged_frames sent)
-few-units sent = omega (
-  arith,
-  cut-short ends_unit (filter (λ frame. not (is_password frame)) (tagged_frames sent)),
-  filter-short (λ frame. not (is_password frame)) (tagged_frames sent),
-)

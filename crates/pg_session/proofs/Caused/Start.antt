@@ -1,23 +1,26 @@
 -- A startup that failed has its cause.
-use Rattle.std.proofs.Common.{◌≡◌, ℕ, zero, suc, List, [], ◌∷◌, ◌++◌, length, take, Option, Some, None, Result, Ok, Err, inl, inr, append-nil, refl, sym, ◌∙◌, ap, subst}
-use Rattle.std.specs.Prelude.{IfSome, slice_get}
-use Rattle.std.proofs.Math.Seq.{drop-append_seam, take-append_seam}
-use Rattle.pg_promises.specs.Causes.{Call, OfDialogue, InStartup, AsksMore, HasCause, NeedsNoTls}
+use Rattle.std.proofs.Common.{◌≡◌, ℕ, Bool, false, List, [], ◌∷◌, ◌++◌, length, Option, Some, None, Result, Ok, Err, inl, inr, refl, sym, ◌∙◌, ap, subst, arith}
+use Rattle.std.specs.Prelude.{IfSome}
+use Rattle.std.proofs.Math.Seq.{drop-append_seam}
+use Rattle.pg_promises.specs.Causes.{Call, OfDialogue, InStartup, HasCause, NeedsNoTls}
 use Rattle.pg_promises.specs.ConnectionStrings.{Means}
-use Rattle.pg_spec.specs.Settings.{only_user, Prefer, Require, Settings}
-use Rattle.pg_spec.specs.Faults.{FrameFault, ZeroByte, TooMany, TooLong, BadLength, Wire, Frame, Io, Ended, Closed, Config, NotBuilt, Encode, UnexpectedMessage, LimitReached}
+use Rattle.pg_spec.specs.Settings.{Settings}
+use Rattle.pg_spec.specs.Faults.{FrameFault, ZeroByte, TooMany, TooLong, Failure, Frame, Encode}
 use Rattle.pg_spec.specs.Links.{LinkView, Grew, added, OfBytes}
 use Rattle.pg_spec.specs.RawMessages.{RawMessage, messages}
-use Rattle.pg_spec.specs.Startup.{Startup as Dialogue, Outcome, More, Phase, after_one, begun_by, dialogue, startup, plain_login}
+use Rattle.pg_spec.specs.Startup.{Outcome, Refused, Move, begun_by, dialogue, First, moved_by, startup, plain_login}
 use Rattle.pg_faults.specs.declared.fault.FrameFault.TheVariants as frame
 use Rattle.pg_faults.specs.declared.fault.WireFault.TheVariants as wire
 use Rattle.pg_faults.specs.declared.cause.Cause.TheVariants as cause
 use Rattle.pg_faults.specs.declared.error.Error.{Error}
 use Rattle.pg_faults.specs.declared.error.Error.TheVariants as error
-use Rattle.pg_connect.specs.declared.startup.Startup.{Startup}
-use Rattle.pg_connect.specs.Startups.{behind, dialogue_of, frame_of, Leads, Made, MeetsMore, MeetsRefused, Failed}
+use Rattle.pg_login.specs.Steps.{Made, frame_of}
+use Rattle.pg_startup.specs.declared.startup.Startup.{Startup}
+use Rattle.pg_startup.specs.Startups.{IsAt, IsRefusedNext, Leads, Failed}
+use Rattle.pg_session.proofs.Caused.Refusals.{IsOfStartup, startup-failure}
 use Rattle.pg_session.proofs.Crossing.End.{of-bytes}
-use Rattle.pg_session.proofs.Caused.StartSent.{silent_front}
+use Rattle.pg_session.proofs.Opening.{at-opening, leads-outcome}
+use Rattle.pg_session.proofs.Opening.Sent.{silent-front}
 
 -- ---- of the bytes that were given and taken
 
@@ -32,122 +35,99 @@ of_grown a b got sent P given taken h =
     (of_added a.taken b.taken sent (λ t. P got t) taken h)
 
 -- what holds of the bytes of a startup that failed
-pub of_failed : (call : Call) (user : List ℕ) (s : Startup) (e : Error) (P : Settings → List ℕ → List ℕ → Type 0) → Means call.config (only_user user) →
-    (f : Failed user call.nonce call.before call.after s e) → P (only_user user) f.got f.sent → OfDialogue call P
-of_failed call user s e P means f h =
-    (only_user user, means, of_grown call.before call.after f.got f.sent (λ g t. P (only_user user) g t) f.given f.taken h)
+pub of_failed : (call : Call) (settings : Settings) (s : Startup) (e : Error) (P : Settings → List ℕ → List ℕ → Type 0) → Means call.config settings →
+    (f : Failed (plain_login settings call.nonce) 0 call.before call.after s e) → P settings f.got f.sent → OfDialogue call P
+of_failed call settings s e P means f h =
+    (settings, means, of_grown call.before call.after f.got f.sent (λ g t. P settings g t) f.given f.taken h)
 
--- a user alone asks for no TLS
-pub needs-none : (user : List ℕ) → NeedsNoTls (only_user user)
-needs-none user = λ e. let no : Prefer ≡ Require = e in cc
+-- ---- a message that is refused
 
--- ---- each cause
+module _ (call : Call) (settings : Settings) (s : Startup) (e : Error) (means : Means call.config settings) (plain : NeedsNoTls settings)
+    (f : Failed (plain_login settings call.nonce) 0 call.before call.after s e) where
+  of-start : (P : Settings → List ℕ → List ℕ → Type 0) → P settings f.got f.sent → OfDialogue call P
+  of-start P h = of_failed call settings s e P means f h
 
-pub failed-ended : (call : Call) (user : List ℕ) (s : Startup) → Means call.config (only_user user) →
-    Failed user call.nonce call.before call.after s (error.Io cause.Ended) → HasCause call (Io Ended)
-failed-ended call user s means f =
-    (f.fails.0, of_failed call user s (error.Io cause.Ended) _ means f (inl (needs-none user, (f.fails.1, f.fails.2))))
+  leads : f.done ≡ false → Leads (plain_login settings call.nonce) f.read f.at f.wrote
+  leads open_ = subst (λ (b : Bool). IsAt (plain_login settings call.nonce) f.read f.wrote b f.at) open_ f.stands
 
-pub failed-header : (call : Call) (user : List ℕ) (s : Startup) → Means call.config (only_user user) →
-    Failed user call.nonce call.before call.after s (error.Io (cause.Wire wire.BadLength)) → HasCause call (Io (Wire BadLength))
-failed-header call user s means f = of_failed call user s (error.Io (cause.Wire wire.BadLength)) _ means f (inl (needs-none user, refl, f.fails))
+  -- the startup ends so, whatever follows
+  in-startup : f.done ≡ false → IsRefusedNext (plain_login settings call.nonce) f.at f.rest e → InStartup e call settings f.got
+  in-startup open_ h = (plain, ap (λ (ms : List RawMessage). (startup settings call.nonce ms).outcome) f.came ∙ by f.rest h)
+    where
+      by : (rest : List RawMessage) → IsRefusedNext (plain_login settings call.nonce) f.at rest e → (startup settings call.nonce (f.read ++ rest)).outcome ≡ Refused e
+      by [] h = absurd h
+      by (m ∷ ms) h =
+          leads-outcome settings call.nonce f.first f.frame f.read f.at f.wrote (leads open_) (m ∷ ms) (Refused e) refl
+          (ap (λ (move : Move). (moved_by move (λ next. dialogue (plain_login settings call.nonce) next ms)).outcome) h)
 
--- a message that is refused ends the startup, whatever follows
-refused : (call : Call) (user opening got : List ℕ) → frame_of user ≡ Ok opening → MeetsRefused user call.nonce [] (messages got) → InStartup UnexpectedMessage call (only_user user) got
-refused call user opening got is m = (
-  needs-none user,
-  ap (λ (r : Result (List ℕ) FrameFault). (begun_by r (dialogue_of user call.nonce (messages got))).outcome) is
-      ∙ ap (λ (l : List RawMessage). (dialogue_of user call.nonce l).outcome) m.stands
-      ∙ m.refused.over m.rest,
-)
+  of-startup : IsRefusedNext (plain_login settings call.nonce) f.at f.rest e → IsOfStartup e
+  of-startup h = by f.rest h
+    where
+      by : (rest : List RawMessage) → IsRefusedNext (plain_login settings call.nonce) f.at rest e → IsOfStartup e
+      by [] h = absurd h
+      by (m ∷ ms) h = startup-failure (plain_login settings call.nonce) f.at m e h
 
-pub failed-unexpected : (call : Call) (user : List ℕ) (s : Startup) → Means call.config (only_user user) →
-    Failed user call.nonce call.before call.after s error.UnexpectedMessage → HasCause call UnexpectedMessage
-failed-unexpected call user s means f =
-    of_failed call user s error.UnexpectedMessage _ means f (inl (refused call user s.opening.items f.got f.frame f.fails))
+  -- what it is refused for is the session's failure
+  refused-cause : (x : Error) → IsOfStartup x → InStartup x call settings f.got → HasCause call x
+  refused-cause (error.Config cause.NoPassword) is h = of-start _ h
+  refused-cause (error.Encode (cause.Frame frame.ZeroByte)) is h = of-start _ h
+  refused-cause (error.Encode (cause.Frame frame.TooMany)) is h = of-start _ h
+  refused-cause (error.Encode (cause.Frame frame.TooLong)) is h = of-start _ h
+  refused-cause (error.Authentication c) is h = (is, of-start _ h)
+  refused-cause (error.Db d) is h = of-start _ (inl h)
+  refused-cause error.UnexpectedMessage is h = of-start _ (inl h)
+  refused-cause (error.Parse c) is h = (is, of-start _ (inl h))
+  refused-cause (error.Io (cause.Wire wire.UnknownTag)) is h = of-start _ (inr (inl h))
+  refused-cause (error.Io (cause.Wire wire.Layout)) is h = of-start _ (inr (inl h))
+  refused-cause _ is h = absurd is
 
-pub failed-limit : (call : Call) (user : List ℕ) (s : Startup) (given limit : ℕ) → s.max_bytes ≡ call.limit →
-    Failed user call.nonce call.before call.after s (error.LimitReached given limit) → HasCause call (LimitReached given limit)
-failed-limit call user s given limit is f = record {
-  asked = f.fails.1 ∙ is;
-  more = f.fails.2;
-  counted = of_grown call.before call.after f.got f.sent (λ g t. length g ≡ given) f.given f.taken (sym f.fails.0);
-}
-
-pub failed-closed : (call : Call) (user : List ℕ) (s : Startup) → Means call.config (only_user user) →
-    Failed user call.nonce call.before call.after s error.Closed → HasCause call Closed
-failed-closed call user s means f =
-    (f.fails.0, of_failed call user s error.Closed _ means f (needs-none user, f.fails.1, silent_front user s.opening.items f.sent f.front.0 f.frame f.front.1))
-
--- a message that this version doesn't know
-
-get_seam : {X : Type 0} (front : List X) (x : X) (rest : List X) → slice_get (front ++ x ∷ rest) (length front) ≡ Some x
-get_seam [] x rest = refl
-get_seam (y ∷ front) x rest = get_seam front x rest
-
-waits_after : (d : Dialogue) → d.outcome ≡ More → (after_one [] d).outcome ≡ More
-waits_after d is = subst (λ (o : Outcome). (after_one [] (record { frames = d.frames; outcome = o })).outcome ≡ More) (sym is) refl
-
-waits_behind : (n : ℕ) (d : Dialogue) → d.outcome ≡ More → (behind n d).outcome ≡ More
-waits_behind zero d is = is
-waits_behind (suc n) d is = waits_after (behind n d) (waits_behind n d is)
-
--- the dialogue waits behind messages that lead to a phase
-pub awaits : (user nonce opening : List ℕ) (front : List RawMessage) (at : Phase) → frame_of user ≡ Ok opening → Leads user nonce front at →
-    (startup (only_user user) nonce front).outcome ≡ More
-awaits user nonce opening front at is leads =
-    ap (λ (r : Result (List ℕ) FrameFault). (begun_by r (dialogue_of user nonce front)).outcome) is
-    ∙ ap (λ (l : List RawMessage). (dialogue_of user nonce l).outcome) (sym (append-nil front))
-    ∙ ap (λ (d : Dialogue). d.outcome) (leads.on [])
-    ∙ waits_behind (length front) (dialogue (plain_login (only_user user) nonce) at []) refl
-
-asks_more : (call : Call) (user opening got : List ℕ) → frame_of user ≡ Ok opening → MeetsMore user call.nonce [] (messages got) → AsksMore call (only_user user) got
-asks_more call user opening got is m = record {
-  place = length m.front;
-  message = m.message;
-  stands = ap (λ (l : List RawMessage). slice_get l (length m.front)) m.stands ∙ get_seam m.front m.message m.rest;
-  awaited = ap (λ (l : List RawMessage). (startup (only_user user) call.nonce (take (length m.front) l)).outcome) m.stands
-      ∙ ap (λ (l : List RawMessage). (startup (only_user user) call.nonce l).outcome) (take-append_seam m.front (m.message ∷ m.rest))
-      ∙ awaits user call.nonce opening m.front m.at is m.leads;
-  other = m.other;
-}
-
-pub failed-not_built : (call : Call) (user : List ℕ) (s : Startup) → Means call.config (only_user user) →
-    Failed user call.nonce call.before call.after s (error.Config cause.NotBuilt) → HasCause call (Config NotBuilt)
-failed-not_built call user s means f =
-    inr (of_failed call user s (error.Config cause.NotBuilt) (λ s g t. NeedsNoTls s × AsksMore call s g) means f
-    (needs-none user, asks_more call user s.opening.items f.got f.frame f.fails))
+  next-refused : (f.done ≡ false) × IsRefusedNext (plain_login settings call.nonce) f.at f.rest e → HasCause call e
+  next-refused h = refused-cause e (of-startup h.1) (in-startup h.0 h.1)
 
 -- ---- the frame that its writer refuses
 
-refused_frame : (call : Call) (user : List ℕ) (fault : FrameFault) → Means call.config (only_user user) → frame_of user ≡ Err fault →
+refused_frame : (call : Call) (settings : Settings) (fault : FrameFault) → Means call.config settings → NeedsNoTls settings → frame_of settings ≡ Err fault →
     OfDialogue call (λ s g t. InStartup (Encode (Frame fault)) call s g)
-refused_frame call user fault means is = (
-  only_user user,
+refused_frame call settings fault means plain is = (
+  settings,
   means,
-  of-bytes call.before call.after (λ g t. InStartup (Encode (Frame fault)) call (only_user user) g)
-      (λ g t told took. (needs-none user, ap (λ (r : Result (List ℕ) FrameFault). (begun_by r (dialogue_of user call.nonce (messages g))).outcome) is)),
+  of-bytes call.before call.after (λ g t. InStartup (Encode (Frame fault)) call settings g)
+      (λ g t told took. (plain, ap (λ (r : Result (List ℕ) FrameFault). (begun_by r (dialogue (plain_login settings call.nonce) First (messages g))).outcome) is)),
 )
 
 -- where the startup's frame can't be made, it has its cause
-pub made_cause : (call : Call) (user : List ℕ) (e : Error) → Means call.config (only_user user) → Made user (Err e) → HasCause call e
-made_cause call user (error.Encode (cause.Frame frame.ZeroByte)) means m = refused_frame call user ZeroByte means m
-made_cause call user (error.Encode (cause.Frame frame.TooLong)) means m = refused_frame call user TooLong means m
-made_cause call user (error.Encode (cause.Frame frame.TooMany)) means m = refused_frame call user TooMany means m
-made_cause call user error.OutOfMemory means m = tt
-made_cause call user _ means m = absurd m
+pub made_cause : (call : Call) (settings : Settings) (e : Error) → Means call.config settings → NeedsNoTls settings → Made (frame_of settings) (Err e) → HasCause call e
+made_cause call settings (error.Encode (cause.Frame frame.ZeroByte)) means plain m = refused_frame call settings ZeroByte means plain m
+made_cause call settings (error.Encode (cause.Frame frame.TooLong)) means plain m = refused_frame call settings TooLong means plain m
+made_cause call settings (error.Encode (cause.Frame frame.TooMany)) means plain m = refused_frame call settings TooMany means plain m
+made_cause call settings error.OutOfMemory means plain m = tt
+made_cause call settings _ means plain m = absurd m
 
 -- ---- every failure
 
+failed-closed : (call : Call) (settings : Settings) (s : Startup) → Means call.config settings → NeedsNoTls settings →
+    Failed (plain_login settings call.nonce) 0 call.before call.after s error.Closed → HasCause call error.Closed
+failed-closed call settings s means plain f =
+    let o = at-opening settings call.nonce f.first f.frame f.read f.wrote f.done f.at f.stands in
+    (f.fails.2, of_failed call settings s error.Closed _ means f (plain, f.fails.3, silent-front settings (f.first ++ f.wrote) o f.sent f.unsent f.out))
+
+failed-limit : (call : Call) (settings : Settings) (s : Startup) (given limit : ℕ) → s.bytes.max_bytes ≡ call.limit →
+    Failed (plain_login settings call.nonce) 0 call.before call.after s (error.LimitReached given limit) → HasCause call (error.LimitReached given limit)
+failed-limit call settings s given limit is f = record {
+  asked = f.fails.2 ∙ is;
+  more = f.fails.3;
+  counted = of_grown call.before call.after f.got f.sent (λ g t. length g ≡ given) f.given f.taken (let count = f.fails.1 in omega (arith, count));
+}
+
 -- A startup that failed has its cause; it doesn't answer Stalled.
-pub start_cause : (call : Call) (user : List ℕ) (s : Startup) (e : Error) → Means call.config (only_user user) → s.max_bytes ≡ call.limit →
-    Failed user call.nonce call.before call.after s e → HasCause call e
-start_cause call user s (error.Io cause.Link) means is f = f.fails
-start_cause call user s (error.Io cause.Ended) means is f = failed-ended call user s means f
-start_cause call user s (error.Io (cause.Wire wire.BadLength)) means is f = failed-header call user s means f
-start_cause call user s error.Closed means is f = failed-closed call user s means f
-start_cause call user s (error.Config cause.NotBuilt) means is f = failed-not_built call user s means f
-start_cause call user s error.UnexpectedMessage means is f = failed-unexpected call user s means f
-start_cause call user s (error.LimitReached given limit) means is f = failed-limit call user s given limit is f
-start_cause call user s error.OutOfMemory means is f = tt
-start_cause call user s _ means is f = absurd f.fails
+pub start_cause : (call : Call) (settings : Settings) (s : Startup) (e : Error) → Means call.config settings → NeedsNoTls settings → s.bytes.max_bytes ≡ call.limit →
+    Failed (plain_login settings call.nonce) 0 call.before call.after s e → HasCause call e
+start_cause call settings s (error.Io cause.Link) means plain is f = f.fails
+start_cause call settings s (error.Io cause.Ended) means plain is f =
+    (f.fails.2, of_failed call settings s (error.Io cause.Ended) _ means f (inl (plain, (f.fails.3, f.fails.4))))
+start_cause call settings s (error.Io (cause.Wire wire.BadLength)) means plain is f =
+    of_failed call settings s (error.Io (cause.Wire wire.BadLength)) _ means f (inl (plain, refl, f.fails.2))
+start_cause call settings s error.Closed means plain is f = failed-closed call settings s means plain f
+start_cause call settings s (error.LimitReached given limit) means plain is f = failed-limit call settings s given limit is f
+start_cause call settings s error.OutOfMemory means plain is f = tt
+start_cause call settings s e means plain is f = next-refused call settings s e means plain f f.fails

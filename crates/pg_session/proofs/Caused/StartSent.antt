@@ -6,13 +6,13 @@ use Rattle.std.specs.Int.{w32, byte_at, to_be_bytes}
 use Rattle.std.proofs.lemmas.Bool.{ltb-false}
 use Rattle.std.proofs.lemmas.List.{drop_all}
 use Rattle.pg_spec.specs.Bytes.{number_at, text0}
-use Rattle.pg_spec.specs.Settings.{only_user, startup_parameters}
+use Rattle.pg_spec.specs.Settings.{Settings, startup_parameters}
 use Rattle.pg_spec.specs.Faults.{FrameFault, ZeroByte, TooMany, TooLong}
 use Rattle.pg_spec.specs.Frames.{has_zero, frame_fault, startup_body, untagged, unless_fault}
 use Rattle.pg_spec.specs.RawMessages.{messages, ends_in}
 use Rattle.pg_spec.specs.Sent.{asked_for_tls, behind_length, messages_if, is_terminate, said_terminate}
 use Rattle.pg_spec.proofs.Readers.{number_at_front}
-use Rattle.pg_connect.specs.Startups.{frame_of}
+use Rattle.pg_login.specs.Steps.{frame_of}
 
 -- ---- a front of two lists
 
@@ -113,9 +113,9 @@ is_short false false true e = absurd cc
 is_short false false false e = refl
 
 -- a front of the startup's frame
-pub silent_front : (user opening t more : List ℕ) → frame_of user ≡ Ok opening → t ++ more ≡ opening → said_terminate t ≡ false
-silent_front user opening t more is e =
-    let pairs : List (List ℕ × List ℕ) = startup_parameters (only_user user) in
+pub silent_front : (settings : Settings) (opening t more : List ℕ) → frame_of settings ≡ Ok opening → t ++ more ≡ opening → said_terminate t ≡ false
+silent_front settings opening t more is e =
+    let pairs : List (List ℕ × List ℕ) = startup_parameters settings in
     let rest : List ℕ = 3 ∷ 0 ∷ 0 ∷ flat_map (λ (pair : List ℕ × List ℕ). text0 pair.0 ++ text0 pair.1) pairs ++ 0 ∷ [] in
     let texts : List (List ℕ) = map (λ (pair : List ℕ × List ℕ). pair.0) pairs ++ map (λ (pair : List ℕ × List ℕ). pair.1) pairs in
     let made = made_frame (frame_fault texts [] (4 + length (startup_body pairs))) (untagged (startup_body pairs)) opening is in

@@ -99,7 +99,7 @@ pub record Broke (opening : List ℕ) (startup : List RawMessage) (base : LinkVi
   pub unread : IsUnread t.unread lost
   pub out : (opening ++ bytes_out_by (former ++ now)) ++ goodbye false t.closing ≡ taken ++ t.unsent
   pub delivered : sync_of read ≡ delivered_by (former ++ now) ++ waiting t.held
-  pub handed_out : async_of read ≡ handed ++ delayed_in t
+  pub handed_out : async_of (startup ++ read) ≡ handed ++ delayed_in t
   pub count : t.given ≡ length given
 
 pub broke-off : (opening : List ℕ) (startup : List RawMessage) (base l m : LinkView) (a b : Standing) (s t : Streams) (asides : List AsyncMessage) (es : List Event) (hs : List RawMessage) →
@@ -125,7 +125,7 @@ broke-off opening startup base l m a b s t asides es hs h moves p = record {
   delivered = filter-append _ h.read p.read
       ∙ relay [] (sync_of h.read) (delivered_by h.events) (waiting s.held) (sync_of p.read) (delivered_by es) (waiting t.held) h.delivered p.delivered
       ∙ ap (λ x. x ++ waiting t.held) (sym (delivered_by-append h.events es));
-  handed_out = filter-append _ h.read p.read
-      ∙ relay [] (async_of h.read) h.handed (delayed_in s) (async_of p.read) hs (delayed_in t) h.handed_out p.handed_out;
+  handed_out = ap async_of (sym (append_assoc startup h.read p.read)) ∙ filter-append _ (startup ++ h.read) p.read
+      ∙ relay [] (async_of (startup ++ h.read)) h.handed (delayed_in s) (async_of p.read) hs (delayed_in t) h.handed_out p.handed_out;
   count = omega (arith, p.count, h.count, length-append h.given p.got);
 }

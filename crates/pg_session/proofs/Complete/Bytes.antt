@@ -3,7 +3,6 @@ use Rattle.std.proofs.Common.{◌≡◌, ◌<◌, ◌≤◌, ℕ, zero, suc, Lis
 use Rattle.std.specs.Prelude.{Contains, slice_get}
 use Rattle.std.specs.Int.{w32}
 use Rattle.std.specs.List.{concat, list_all, AllByRecursion}
-use Rattle.std.proofs.lemmas.Option.{same_Some}
 use Rattle.pg_spec.specs.Bytes.{number_at}
 use Rattle.pg_spec.specs.RawMessages.{RawMessage, is_length, messages, bytes_left, has_bad_header}
 use Rattle.pg_spec.proofs.MessageLaws.{messages-append, bytes_left-append}
@@ -42,37 +41,17 @@ pub none-front : {X : Type 0} (xs ys : List X) → xs ++ ys ≡ [] → xs ≡ []
 none-front [] ys e = refl
 none-front (x ∷ xs) ys e = absurd cc
 
--- an item stands behind those in front of it
-pub record StandsAt {X : Type 0} (xs : List X) (k : ℕ) (x : X) : Type 0 where
-  pub front : List X
-  pub rest : List X
-  pub is : xs ≡ front ++ x ∷ rest
-  pub place : length front ≡ k
-  pub taken : take k xs ≡ front
-
-pub stands-at : {X : Type 0} (xs : List X) (k : ℕ) (x : X) → slice_get xs k ≡ Some x → StandsAt xs k x
-stands-at [] k x e = absurd cc
-stands-at (y ∷ xs) zero x e = record { front = []; rest = xs; is = ap (λ z. z ∷ xs) (same_Some y x e); place = refl; taken = refl }
-stands-at (y ∷ xs) (suc k) x e =
-    let r = stands-at xs k x e in
-    record { front = y ∷ r.front; rest = r.rest; is = ap (λ l. y ∷ l) r.is; place = ap suc r.place; taken = ap (λ l. y ∷ l) r.taken }
-
--- it passes what all of a front pass that holds it
-pub holds-within : {X : Type 0} (p : X → Bool) (n : ℕ) (front : List X) (x : X) (rest : List X) → length front < n → list_all p (take n (front ++ x ∷ rest)) ≡ true → p x ≡ true
-holds-within p zero front x rest low e = absurd (omega (arith, low))
-holds-within p (suc n) [] x rest low e = (both-true (p x) (list_all p (take n rest)) e).0
-holds-within p (suc n) (y ∷ front) x rest low e =
-    holds-within p n front x rest (omega (arith, low)) (both-true (p y) (list_all p (take n (front ++ x ∷ rest))) e).1
-
 pub split-concat : (n : ℕ) (es : List (List ℕ)) → concat (take n es) ++ concat (drop n es) ≡ concat es
 split-concat zero es = refl
 split-concat (suc n) [] = refl
 split-concat (suc n) (e ∷ es) = append_assoc e (concat (take n es)) (concat (drop n es)) ∙ ap (λ (l : List ℕ). e ++ l) (split-concat n es)
 
-pub first-of-front : (n : ℕ) (es : List (List ℕ)) → 1 ≤ n → take 1 (take n es) ≡ take 1 es
-first-of-front zero es low = absurd (omega (arith, low))
-first-of-front (suc n) [] low = refl
-first-of-front (suc n) (e ∷ es) low = refl
+-- the first of a longer front are the first
+pub first-of-front : (m n : ℕ) (es : List (List ℕ)) → m ≤ n → take m (take n es) ≡ take m es
+first-of-front zero n es low = refl
+first-of-front (suc m) zero es low = absurd (omega (arith, low))
+first-of-front (suc m) (suc n) [] low = refl
+first-of-front (suc m) (suc n) (e ∷ es) low = ap (λ (l : List (List ℕ)). e ∷ l) (first-of-front m n es (omega (arith, low)))
 
 pub all-take : {X : Type 0} (P : X → Type 0) (n : ℕ) (xs : List X) → AllByRecursion P xs → AllByRecursion P (take n xs)
 all-take P zero xs h = tt

@@ -1,19 +1,24 @@
 -- A link that conforms holds its course in a call, so valid input ends well over it.
-use Rattle.std.proofs.Common.{◌≡◌, ◌≤◌, ◌+◌, ℕ, List, [], ◌++◌, length, take, Bool, true, false, ◌||◌, Option, Some, Err, refl, sym, ap, subst, ◌∙◌, arith}
+use Rattle.std.proofs.Common.{◌≡◌, ℕ, ◌≤◌, List, [], ◌++◌, length, take, drop, append_assoc, Bool, true, false, ◌||◌, Option, Some, Err, refl, sym, ap, subst, ◌∙◌, arith}
 use Rattle.std.specs.Prelude.{IfSome, IsFalse}
 use Rattle.std.specs.List.{concat}
-use Rattle.pg_promises.specs.Causes.{Call, HasCause, OfDialogue, WithSettings}
-use Rattle.pg_spec.specs.Settings.{only_user, Settings}
+use Rattle.pg_promises.specs.Causes.{Call, HasCause, OfDialogue, WithSettings, startup_after}
+use Rattle.pg_spec.specs.Settings.{Settings}
 use Rattle.pg_promises.specs.ConnectionStrings.{Means}
 use Rattle.pg_spec.specs.Faults.{Failure}
 use Rattle.pg_spec.specs.Links.{Plan, Rose, added, due_by}
 use Rattle.pg_promises.proofs.Strings.{means_one}
-use Rattle.pg_promises.specs.Promises.{Conforms, IsValid, MustEndWell, SentInOrder}
-use Rattle.pg_spec.specs.Sent.{turns_given, units}
+use Rattle.pg_promises.specs.Promises.{AnswersStartup, Conforms, IsValid, MustEndWell, SentInOrder, requests_in}
+use Rattle.pg_spec.specs.RawMessages.{RawMessage, messages}
+use Rattle.pg_spec.specs.Sent.{turns_given}
+use Rattle.pg_spec.specs.Startup.{Startup, startup}
 use Rattle.pg_wire.specs.LinkCalls.{Continues, Extends, Tells}
 use Rattle.pg_session.specs.Course.{HoldsCourse}
+use Rattle.std.proofs.lemmas.List.Elements.{recursion_from_All}
+use Rattle.pg_session.proofs.Complete.Bytes.{IsWhole, all-take, front-of, messages-behind, split-concat, whole-concat}
+use Rattle.pg_session.proofs.Complete.Start.{frames-grow, same-later}
 use Rattle.pg_session.proofs.Complete.{ends-well}
-use Rattle.pg_session.proofs.SentSoFar.TurnsAsked.{few-turns}
+use Rattle.pg_session.proofs.SentSoFar.TurnsAsked.{HasFewTurns, few-turns}
 
 -- what is told holds of what is told
 pub of-some : {X : Type 0} (o : Option X) (x : X) (P : X → Type 0) → o ≡ Some x → IfSome o P → P x
@@ -63,26 +68,27 @@ module _ (call : Call) (plan : Plan) (taken : List ℕ) (before : Tells call.bef
       (of-some call.after.given given (λ g. IfSome call.after.taken (λ t. P plan g t)) all-given.1
       (of-some call.after.plan plan (λ p. IfSome call.after.given (λ g. IfSome call.after.taken (λ t. P p g t))) planned-after h))
 
-  in-plan : (rest : List ℕ) × (given ++ rest ≡ concat (take (turns_given taken) plan.entries))
-  in-plan = of-after (λ p g t. (rest : List ℕ) × (g ++ rest ≡ concat (take (turns_given t) p.entries)))
+  within-plan : (rest : List ℕ) × (given ++ rest ≡ concat (take (turns_given taken) plan.entries))
+  within-plan = of-after (λ p g t. (rest : List ℕ) × (g ++ rest ≡ concat (take (turns_given t) p.entries)))
       (goes.keeps.in_plan (to-before (λ p g t. (rest : List ℕ) × (g ++ rest ≡ concat (take (turns_given t) p.entries)))
       (concat (take (turns_given []) plan.entries), refl)))
 
-  holds-course : turns_given taken ≤ 1 + length (units taken) → HoldsCourse call plan given taken
-  holds-course asked = record {
+  holds-course : (s : Settings) → HasFewTurns taken (length (startup_after call s given).frames) (requests_in call.scripts) → HoldsCourse call s plan given taken
+  holds-course s few = record {
     none_given = none_given;
     none_taken = none_taken;
     tells_given = all-given.1;
     tells_taken = told;
     steady = (of-before (λ p g t. (call.before.due ≡ Some (due_by p g t)) × (IsFalse p.is_troubled → _)) before.by_plan).1 calm;
     due = (of-after (λ p g t. (call.after.due ≡ Some (due_by p g t)) × (IsFalse p.is_troubled → _)) after.by_plan).0;
-    rest = in-plan.0;
-    front = in-plan.1;
+    rest = within-plan.0;
+    front = within-plan.1;
     no_fault = never-rose call.before.faults call.after.faults
         (of-some call.after.plan plan (λ p. IsFalse p.is_troubled → call.after.faults ≡ 0) planned-after after.no_fault calm);
     no_end = never-rose call.before.ends call.after.ends
         (of-some call.after.plan plan (λ p. IsFalse p.ends → call.after.ends ≡ 0) planned-after after.no_end endless);
-    asked = asked;
+    asked = few.units;
+    whole = few.whole;
   }
 
   -- P of the bytes that crossed
@@ -100,15 +106,41 @@ module _ (call : Call) (plan : Plan) (taken : List ℕ) (before : Tells call.bef
 pub must-end-well : (call : Call) (failure : Failure) → Tells call.before → Tells call.after → Continues call.before call.after →
     (WithSettings call (λ s. Unit {0}) → OfDialogue call (λ s g t. SentInOrder call s g t)) → HasCause call failure → MustEndWell call (Err failure)
 must-end-well call failure before after goes sent cause plan s taken none_given none_taken planned told means valid conforms =
-    let user = valid.alone.0 in
-    let is : s ≡ only_user user = valid.alone.1 in
-    let as-user : Means call.config (only_user user) = subst (λ (x : Settings). Means call.config x) is means in
-    let calm = neither plan.is_troubled plan.ends conforms.untroubled in
+    let calm = neither plan.is_troubled plan.ends conforms.opens.untroubled in
     let crossed = of-bytes call plan taken before after goes none_given none_taken planned told calm.0 calm.1 (λ s g t. SentInOrder call s g t) (sent (s, means, tt)) in
     let given = all-given call plan taken before after goes none_given none_taken planned told calm.0 calm.1 in
-    let in-order : SentInOrder call (only_user user) given.0 taken = subst (λ (x : Settings). SentInOrder call x given.0 taken) (means_one call.config crossed.0 (only_user user) crossed.1 as-user) crossed.2 in
-    ends-well call user plan given.0 taken as-user
-    (subst (λ (x : Settings). IsValid call x plan) is valid)
-    (subst (λ (x : Settings). Conforms call x plan taken) is conforms)
-    (holds-course call plan taken before after goes none_given none_taken planned told calm.0 calm.1 (few-turns call user given.0 taken in-order).units)
+    let in-order : SentInOrder call s given.0 taken = subst (λ (x : Settings). SentInOrder call x given.0 taken) (means_one call.config crossed.0 s crossed.1 means) crossed.2 in
+    ends-well call s plan given.0 taken means valid conforms
+    (holds-course call plan taken before after goes none_given none_taken planned told calm.0 calm.1 s (few-turns call s given.0 taken valid.no_tls in-order))
     failure cause
+
+-- ---- the frames of a startup
+
+-- what it gave is a front of what its plan lets it give
+pub in-plan : (call : Call) (plan : Plan) (taken : List ℕ) → Continues call.before call.after → call.before.given ≡ Some [] → call.before.taken ≡ Some [] → call.before.plan ≡ Some plan →
+    call.after.taken ≡ Some taken → (given : List ℕ) → call.after.given ≡ Some given → (rest : List ℕ) × (given ++ rest ≡ concat (take (turns_given taken) plan.entries))
+in-plan call plan taken goes none_given none_taken planned told given is =
+    let P : Plan → List ℕ → List ℕ → Type 0 = λ p g t. (rest : List ℕ) × (g ++ rest ≡ concat (take (turns_given t) p.entries)) in
+    of-some call.after.taken taken (P plan given) told
+    (of-some call.after.given given (λ g. IfSome call.after.taken (λ t. P plan g t)) is
+    (of-some call.after.plan plan (λ p. IfSome call.after.given (λ g. IfSome call.after.taken (λ t. P p g t))) (goes.keeps.plan ∙ planned)
+    (goes.keeps.in_plan
+    (to-some call.before.plan plan (λ p. IfSome call.before.given (λ g. IfSome call.before.taken (λ t. P p g t))) planned
+    (to-some call.before.given [] (λ g. IfSome call.before.taken (λ t. P plan g t)) none_given
+    (to-some call.before.taken [] (P plan []) none_taken (concat (take (turns_given []) plan.entries), refl)))))))
+
+-- so it writes no more frames than those that its plan answers
+pub few-frames : (call : Call) (s : Settings) (plan : Plan) (taken given : List ℕ) → (opens : AnswersStartup call s plan) →
+    (rest : List ℕ) × (given ++ rest ≡ concat (take (turns_given taken) plan.entries)) → length (startup_after call s given).frames ≤ opens.frames
+few-frames call s plan taken given opens w =
+    let whole = recursion_from_All IsWhole plan.entries opens.whole in
+    let first = concat (take opens.frames plan.entries) in
+    let front = front-of given (w.0 ++ concat (drop (turns_given taken) plan.entries)) (concat plan.entries)
+    (sym (append_assoc given w.0 (concat (drop (turns_given taken) plan.entries))) ∙ ap (λ (l : List ℕ). l ++ concat (drop (turns_given taken) plan.entries)) w.1 ∙ split-concat (turns_given taken) plan.entries) in
+    let split : messages (concat plan.entries) ≡ messages first ++ messages (concat (drop opens.frames plan.entries)) =
+    ap messages (sym (split-concat opens.frames plan.entries)) ∙ messages-behind first (concat (drop opens.frames plan.entries)) (whole-concat (take opens.frames plan.entries) (all-take IsWhole opens.frames plan.entries whole)) in
+    let all : length (startup s call.nonce (messages (concat plan.entries))).frames ≡ opens.frames =
+    ap (λ (l : List RawMessage). length (startup s call.nonce l).frames) split
+    ∙ ap (λ (d : Startup). length d.frames) (same-later s call.nonce (messages first) (messages (concat (drop opens.frames plan.entries))) opens.started.0 opens.started.1)
+    ∙ opens.all_frames in
+    omega (arith, frames-grow s call.nonce (messages given) front.more, ap (λ (l : List RawMessage). length (startup s call.nonce l).frames) front.is, all)

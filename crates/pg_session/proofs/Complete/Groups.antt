@@ -99,7 +99,7 @@ whole-onto p x [] e = no-counts (ends_in p) (x ∷ []) [] e
 whole-onto p x ([] ∷ ps) e = no-counts (ends_in p) (x ∷ []) ps e ∙ sym (no-counts (ends_in p) [] ps refl)
 whole-onto p x ((y ∷ l) ∷ ps) e = counted (ends_in p) (x ∷ y ∷ l) ps (ends_in p (y ∷ l)) refl ∙ sym (counted (ends_in p) (y ∷ l) ps (ends_in p (y ∷ l)) refl)
 
-ended-pieces : {X : Type 0} (p : X → Bool) (xs : List X) → count_by (ends_in p) (cut_after p xs) ≡ count_by p xs
+pub ended-pieces : {X : Type 0} (p : X → Bool) (xs : List X) → count_by (ends_in p) (cut_after p xs) ≡ count_by p xs
 ended-pieces p [] = refl
 ended-pieces {X} p (x ∷ xs) = by (p x) refl (ended-pieces p xs)
   where
@@ -112,7 +112,7 @@ ended-pieces {X} p (x ∷ xs) = by (p x) refl (ended-pieces p xs)
         ∙ whole-onto p x (cut_after p xs) e ∙ rest ∙ sym (no-counts p x xs e)
 
 -- each Query or Sync gives the turn
-few-ends : (fs : List RawMessage) → count_by ends_unit (filter (λ f. not (is_password f)) fs) ≤ count_by gives_turn fs
+pub few-ends : (fs : List RawMessage) → count_by ends_unit (filter (λ f. not (is_password f)) fs) ≤ count_by gives_turn fs
 few-ends [] = omega arith
 few-ends (f ∷ fs) = by (is_password f) (ends_unit f) refl refl (few-ends fs)
   where

@@ -1,40 +1,14 @@
 -- A startup that is done with all that a plan holds isn't refused by a front of it.
-use Rattle.std.proofs.Common.{◌≡◌, ◌<◌, ◌≤◌, ◌+◌, ◌⊎◌, ℕ, suc, List, [], ◌∷◌, ◌++◌, length, Result, Ok, Err, inl, inr, refl, sym, ap, ◌∙◌, arith}
+use Rattle.std.proofs.Common.{◌≡◌, ◌<◌, ◌≤◌, ◌+◌, ◌⊎◌, ℕ, suc, List, [], ◌∷◌, ◌++◌, length, Result, Ok, Err, inl, inr, refl, sym, ap, ◌∙◌, arith, length-append}
 use Rattle.pg_spec.specs.Faults.{Failure, FrameFault}
 use Rattle.pg_spec.specs.RawMessages.{RawMessage}
 use Rattle.pg_spec.specs.Settings.{Settings}
-use Rattle.pg_spec.specs.Startup.{Startup, Outcome, Done, Refused, More, Move, Writes, Ends, Refuses, Phase, First, used_of, moved_by, startup_move, dialogue, begun_by, startup, plain_login}
+use Rattle.pg_spec.specs.Startup.{Startup, Outcome, Done, Refused, More, Move, Writes, Ends, Refuses, Login, Phase, First, used_of, moved_by, startup_move, dialogue, begun_by, startup, plain_login}
 use Rattle.pg_spec.proofs.StartupLaws.{startup-append}
 
 -- one message behind another
 abbrev later_of : Outcome → Outcome
 later_of o = elim o [ Done used ↦ Done (used + 1) | Refused failure ↦ Refused failure | More ↦ More ]
-
--- what holds of the number of messages used, once a message more stands in front
-counts : (move : Move) (few many : Phase → Startup) (n used : ℕ) → ((p : Phase) (u : ℕ) → (many p).outcome ≡ Done u → (few p).outcome ≡ More → n < u) →
-    (moved_by move many).outcome ≡ Done used → (moved_by move few).outcome ≡ More → suc n < used
-counts (Writes frames next) few many n used h done more = by (many next).outcome (few next).outcome refl refl done more
-  where
-    by : (a b : Outcome) → (many next).outcome ≡ a → (few next).outcome ≡ b → later_of (many next).outcome ≡ Done used → later_of (few next).outcome ≡ More → suc n < used
-    by (Done u) More is open_ done more =
-        let e : u + 1 ≡ used = ap used_of (sym (ap later_of is) ∙ done) in
-        omega (arith, e, h next u is open_)
-    by (Done u) (Done v) is open_ done more = absurd (let no : Done (v + 1) ≡ More = sym (ap later_of open_) ∙ more in cc)
-    by (Done u) (Refused f) is open_ done more = absurd (let no : Refused f ≡ More = sym (ap later_of open_) ∙ more in cc)
-    by (Refused f) b is open_ done more = absurd (let no : Refused f ≡ Done used = sym (ap later_of is) ∙ done in cc)
-    by More b is open_ done more = absurd (let no : More ≡ Done used = sym (ap later_of is) ∙ done in cc)
-counts Ends few many n used h done more = absurd cc
-counts (Refuses f) few many n used h done more = absurd cc
-
-some-used : (move : Move) (many : Phase → Startup) (used : ℕ) → (moved_by move many).outcome ≡ Done used → 0 < used
-some-used (Writes frames next) many used done = by (many next).outcome refl
-  where
-    by : (o : Outcome) → (many next).outcome ≡ o → 0 < used
-    by (Done u) is = let e : u + 1 ≡ used = ap used_of (sym (ap later_of is) ∙ done) in omega (arith, e)
-    by (Refused f) is = absurd (let no : Refused f ≡ Done used = sym (ap later_of is) ∙ done in cc)
-    by More is = absurd (let no : More ≡ Done used = sym (ap later_of is) ∙ done in cc)
-some-used Ends many used done = let e : 1 ≡ used = ap used_of done in omega (arith, e)
-some-used (Refuses f) many used done = absurd cc
 
 used-fit : (move : Move) (many : Phase → Startup) (n used : ℕ) → ((p : Phase) (u : ℕ) → (many p).outcome ≡ Done u → u ≤ n) → (moved_by move many).outcome ≡ Done used → used ≤ suc n
 used-fit (Writes frames next) many n used h done = by (many next).outcome refl
@@ -47,13 +21,6 @@ used-fit Ends many n used h done = let e : 1 ≡ used = ap used_of done in omega
 used-fit (Refuses f) many n used h done = absurd cc
 
 module _ (s : Settings) (nonce : List ℕ) where
-  asks-within : (phase : Phase) (xs ys : List RawMessage) (used : ℕ) → (dialogue (plain_login s nonce) phase (xs ++ ys)).outcome ≡ Done used → (dialogue (plain_login s nonce) phase xs).outcome ≡ More → length xs < used
-  asks-within phase [] [] used done more = absurd cc
-  asks-within phase [] (y ∷ ys) used done more = some-used (startup_move (plain_login s nonce) phase y) (λ p. dialogue (plain_login s nonce) p ys) used done
-  asks-within phase (x ∷ xs) ys used done more =
-      counts (startup_move (plain_login s nonce) phase x) (λ p. dialogue (plain_login s nonce) p xs) (λ p. dialogue (plain_login s nonce) p (xs ++ ys)) (length xs) used
-      (λ p u d m. asks-within p xs ys u d m) done more
-
   fits-within : (phase : Phase) (xs : List RawMessage) (used : ℕ) → (dialogue (plain_login s nonce) phase xs).outcome ≡ Done used → used ≤ length xs
   fits-within phase [] used done = absurd cc
   fits-within phase (x ∷ xs) used done =
@@ -63,15 +30,6 @@ module _ (s : Settings) (nonce : List ℕ) where
 begun-done : (r : Result (List ℕ) FrameFault) (d : Startup) (used : ℕ) → (begun_by r d).outcome ≡ Done used → d.outcome ≡ Done used
 begun-done (Ok frame) d used e = e
 begun-done (Err fault) d used e = absurd cc
-
-begun-more : (r : Result (List ℕ) FrameFault) (d : Startup) → (begun_by r d).outcome ≡ More → d.outcome ≡ More
-begun-more (Ok frame) d e = e
-begun-more (Err fault) d e = absurd cc
-
--- while it waits, fewer messages came than it uses
-pub waits-within : (s : Settings) (nonce : List ℕ) (xs ys : List RawMessage) (used : ℕ) → (startup s nonce (xs ++ ys)).outcome ≡ Done used → (startup s nonce xs).outcome ≡ More → length xs < used
-waits-within s nonce xs ys used done more =
-    asks-within s nonce First xs ys used (begun-done _ (dialogue (plain_login s nonce) First (xs ++ ys)) used done) (begun-more _ (dialogue (plain_login s nonce) First xs) more)
 
 pub used-within : (s : Settings) (nonce : List ℕ) (xs : List RawMessage) (used : ℕ) → (startup s nonce xs).outcome ≡ Done used → used ≤ length xs
 used-within s nonce xs used done = fits-within s nonce First xs used (begun-done _ (dialogue (plain_login s nonce) First xs) used done)
@@ -96,3 +54,28 @@ done-later s nonce xs ys used done = elim (startup-append s nonce xs ys) [
   | inl open_ ↦ absurd (let no : Done used ≡ More = sym done ∙ open_ in cc)
   | inr same ↦ ap (λ (x : Startup). x.outcome) same ∙ done
 ]
+
+-- and nothing more is written
+pub same-later : (s : Settings) (nonce : List ℕ) (xs ys : List RawMessage) (used : ℕ) → (startup s nonce xs).outcome ≡ Done used → startup s nonce (xs ++ ys) ≡ startup s nonce xs
+same-later s nonce xs ys used done = elim (startup-append s nonce xs ys) [
+  | inl open_ ↦ absurd (let no : Done used ≡ More = sym done ∙ open_ in cc)
+  | inr same ↦ same
+]
+
+-- more messages write no fewer frames
+grown-move : (move : Move) (few many : Phase → Startup) → ((p : Phase) → length (few p).frames ≤ length (many p).frames) → length (moved_by move few).frames ≤ length (moved_by move many).frames
+grown-move (Writes frames next) few many h = omega (arith, h next, length-append frames (few next).frames, length-append frames (many next).frames)
+grown-move Ends few many h = omega arith
+grown-move (Refuses f) few many h = omega arith
+
+grown : (l : Login) (phase : Phase) (xs ys : List RawMessage) → length (dialogue l phase xs).frames ≤ length (dialogue l phase (xs ++ ys)).frames
+grown l phase [] ys = omega arith
+grown l phase (x ∷ xs) ys = grown-move (startup_move l phase x) (λ p. dialogue l p xs) (λ p. dialogue l p (xs ++ ys)) (λ p. grown l p xs ys)
+
+begun-grown : (r : Result (List ℕ) FrameFault) (few many : Startup) → length few.frames ≤ length many.frames → length (begun_by r few).frames ≤ length (begun_by r many).frames
+begun-grown (Ok frame) few many h = omega (arith, h)
+begun-grown (Err fault) few many h = omega arith
+
+pub frames-grow : (s : Settings) (nonce : List ℕ) (xs ys : List RawMessage) → length (startup s nonce xs).frames ≤ length (startup s nonce (xs ++ ys)).frames
+frames-grow s nonce xs ys =
+    begun-grown _ (dialogue (plain_login s nonce) First xs) (dialogue (plain_login s nonce) First (xs ++ ys)) (grown (plain_login s nonce) First xs ys)

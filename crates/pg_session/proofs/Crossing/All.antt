@@ -1,17 +1,17 @@
 -- What crossed the link in a session that ended, both ways.
 use Rattle.std.proofs.Common.{◌≡◌, ◌<◌, ◌≤◌, ℕ, suc, ◌+◌, ◌^◌, List, [], ◌∷◌, ◌++◌, length, map, Bool, true, false, ◌&&◌, if◌then◌else◌, Option, Some, refl, sym, ap, subst, ◌∙◌, arith, append-nil, length-append}
-use Rattle.std.specs.Prelude.{filter, slice_get, option_map, unwrap_or, pos, ℤ}
+use Rattle.std.specs.Prelude.{filter, slice_get, option_map, unwrap_or}
 use Rattle.std.specs.List.{list_all}
 use Rattle.std.proofs.lemmas.List.{length_push, length-map}
 use Rattle.std.proofs.lemmas.List.Elements.{filter-append, filter_map-append}
 use Rattle.std.proofs.lemmas.List.Folds.{list_all-append}
 use Rattle.pg_spec.specs.Asides.{is_readable}
-use Rattle.pg_spec.specs.Settings.{only_user}
+use Rattle.pg_spec.specs.Settings.{Settings}
 use Rattle.pg_spec.specs.Links.{LinkView, added}
 use Rattle.pg_spec.specs.Parameters.{parameter_reports, AreLastValues}
 use Rattle.pg_spec.specs.RawMessages.{RawMessage, messages, bytes_left, has_bad_header, is_ready, is_whole_group, sync_of, async_of, cut_after, groups}
 use Rattle.pg_spec.specs.Report as said
-use Rattle.pg_spec.specs.Startup.{startup_part, session_part, cancel_key}
+use Rattle.pg_spec.specs.Startup.{First, Startup, Done, dialogue, plain_login, startup_part, session_part, cancel_key}
 use Rattle.pg_spec.specs.Turns.{delivered_before}
 use Rattle.pg_errors.specs.declared.async_message.AsyncMessage.{AsyncMessage}
 use Rattle.pg_errors.specs.Views.{async_of as aside_of}
@@ -35,9 +35,10 @@ use Rattle.pg_session.specs.Sessions.{HasPlayed}
 use Rattle.pg_session.proofs.Caused.Lists.{all-left}
 use Rattle.pg_session.proofs.Crossing.Hub.{received-all, ends_whole, Ran, ran-all, ran-start}
 use Rattle.pg_session.proofs.Crossing.{Emptied, Stood, shown}
-use Rattle.pg_session.proofs.Crossing.Start.{AreBare, are-bare, no-key}
+use Rattle.pg_session.proofs.Opening.Heard.{all-heard, is_told, readable-all, told-all}
 use Rattle.pg_session.proofs.Crossing.End.{finished as finish, added-is, all-out, startup-of, was-sent}
-use Rattle.pg_session.proofs.Crossing.Groups.{AreWhole, all-whole}
+use Rattle.pg_session.proofs.Crossing.Groups.{AreWhole, all-whole, both-true}
+use Rattle.pg_startup.specs.Startups.{Ends}
 use Rattle.pg_connect.proofs.LastValues.{last-values}
 
 -- ---- lists
@@ -84,12 +85,6 @@ told-asides reported asides read ms same shows is =
     ∙ map-twice (λ (m : said.AsyncMessage). Some m) aside_of asides
     ∙ shows ∙ ap (map said.async_of_raw) (sym is)
 
--- the key that a report tells, where the startup told none
-told-key : (process_id secret_key : ℤ) (first part : List RawMessage) → process_id ≡ pos 0 → secret_key ≡ pos 0 → part ≡ first → AreBare first →
-    (process_id, secret_key) ≡ cancel_key part
-told-key process_id secret_key first part process secret same bare =
-    ap (λ (x : ℤ). (x, secret_key)) process ∙ ap (λ (x : ℤ). (pos 0, x)) secret ∙ sym (ap cancel_key same ∙ no-key first bare)
-
 -- ---- messages and their bytes
 
 few-messages : (ms : List RawMessage) → length ms ≤ sizes ms
@@ -109,8 +104,8 @@ not-saturated n low = omega arith
 pub record AllPassed (first read given : List RawMessage) (h : State) (s : Streams) (asides : List AsyncMessage) : Type 0 where
   pub all : given ≡ first ++ read
   pub delivered : sync_of read ≡ received h.deliveries
-  pub shows : shown asides ≡ map said.async_of_raw (async_of read)
-  pub kept : s.parameters ≡ keep_all [] (parameter_reports read)
+  pub shows : shown asides ≡ map said.async_of_raw (async_of (first ++ read))
+  pub kept : s.parameters ≡ keep_all [] (parameter_reports (first ++ read))
   pub count : s.given < 2 ^ 64 → s.delivered ≡ length (sync_of read)
 
 all-passed : (opening : List ℕ) (first : List RawMessage) (base l : LinkView) (hub : Standing) (s : Streams) (asides : List AsyncMessage) →
@@ -156,47 +151,57 @@ whole-groups opening first base l hub s asides h closing sync =
     subst (λ (n : ℕ). AreWhole n (groups h.read)) count
     (subst (λ (x : List RawMessage). AreWhole (finished st.deliveries) (cut_after is_ready x)) (sym sync) (all-whole st.deliveries ran.cut ends))
 
+-- ---- the messages of the startup
+
+-- all that was handed out could be read, and so could all other messages of a startup that is done
+startup-readable : (settings : Settings) (nonce : List ℕ) (first read : List RawMessage) (wrote : List ℕ) (asides : List AsyncMessage) → Ends (plain_login settings nonce) first wrote →
+    shown asides ≡ map said.async_of_raw (async_of (first ++ read)) → list_all is_readable first ≡ true
+startup-readable settings nonce first read wrote asides ends shows =
+    let l = plain_login settings nonce in
+    let done : (dialogue l First first).outcome ≡ Done (length first) =
+    ap (λ (x : List RawMessage). (dialogue l First x).outcome) (sym (append-nil first)) ∙ ap (λ (x : Startup). x.outcome) (ends.over []) in
+    let told : list_all is_told (async_of first ++ async_of read) ≡ true =
+    ap (list_all is_told) (sym (filter-append _ first read)) ∙ told-all aside_of asides (async_of (first ++ read)) shows in
+    readable-all first (all-heard l First first done)
+    (both-true (list_all is_told (async_of first)) (list_all is_told (async_of read)) (sym (list_all-append is_told (async_of first) (async_of read)) ∙ told)).0
+
 -- ---- all together
 
-pub all-crossed : (user nonce : List ℕ) (scripts : List (List Command)) (given : List ℕ) (before after : LinkView) (report : Report)
-    (p : HasPlayed user nonce scripts given before after report) → (g t : List ℕ) →
-    added before.given after.given ≡ Some g → added before.taken after.taken ≡ Some t → Crossed (session_of user nonce scripts given report g) t
-all-crossed user nonce scripts given before after report p g t e d =
-    let f = finish user nonce scripts given before after report p in
+pub all-crossed : (settings : Settings) (nonce : List ℕ) (scripts : List (List Command)) (given : List ℕ) (before after : LinkView) (report : Report)
+    (p : HasPlayed settings nonce scripts given before after report) → (g t : List ℕ) →
+    added before.given after.given ≡ Some g → added before.taken after.taken ≡ Some t → Crossed (session_of settings nonce scripts given report g) t
+all-crossed settings nonce scripts given before after report p g t e d =
+    let f = finish settings nonce scripts given before after report p in
     let h = f.stood in
-    let sent = was-sent user nonce scripts given before after report p f g t e d in
+    let sent = was-sent settings nonce scripts given before after report p f g t e d in
     let g-is : g ≡ h.given = added-is before.given after.given h.given g h.gave e in
-    let started = startup-of user nonce scripts given before after report p f g g-is in
+    let started = startup-of settings nonce scripts given before after report p f g g-is in
     let empty = h.emptied f.is_last.closing in
     let passed = all-passed p.opening p.opened.read before after p.last.hub p.last.streams p.last.asynchronous h empty in
     let whole = whole-groups p.opening p.opened.read before after p.last.hub p.last.streams p.last.asynchronous h f.is_last.closing passed.delivered in
-    let bare = are-bare p.opened.read p.opened.done.built in
     let lost : h.lost ≡ [] = none_lost p.last.streams.unread h.lost empty.unread h.unread in
-    let later : session_part (only_user user) nonce (messages g) ≡ h.read =
+    let later : session_part settings nonce (messages g) ≡ h.read =
     started.rest ∙ ap (λ (x : List RawMessage). h.read ++ (x ++ messages p.last.streams.buffer.items)) lost
     ∙ ap (λ (x : List RawMessage). h.read ++ x) empty.decoded ∙ append-nil h.read in
     let all : messages g ≡ p.opened.read ++ h.read = ap messages g-is ∙ passed.all in
-    let reports : parameter_reports (messages g) ≡ parameter_reports h.read =
-    ap parameter_reports all ∙ filter_map-append _ p.opened.read h.read ∙ ap (λ (x : List (List ℕ × List ℕ)). x ++ parameter_reports h.read) bare.reports in
-    let aside : async_of (startup_part (only_user user) nonce (messages g) ++ session_part (only_user user) nonce (messages g)) ≡ async_of h.read =
-    ap (λ (x : List RawMessage). async_of (x ++ session_part (only_user user) nonce (messages g))) started.part
-    ∙ ap (λ (x : List RawMessage). async_of (p.opened.read ++ x)) later
-    ∙ filter-append _ p.opened.read h.read ∙ ap (λ (x : List RawMessage). x ++ async_of h.read) bare.async in
+    let aside : async_of (startup_part settings nonce (messages g) ++ session_part settings nonce (messages g)) ≡ async_of (p.opened.read ++ h.read) =
+    ap (λ (x : List RawMessage). async_of (x ++ session_part settings nonce (messages g))) started.part
+    ∙ ap (λ (x : List RawMessage). async_of (p.opened.read ++ x)) later in
+    let begun : list_all is_readable p.opened.read ≡ true = startup-readable settings nonce p.opened.read h.read p.opened.wrote p.last.asynchronous p.opened.done passed.shows in
     record {
       sends = sent;
       one_group_each = ap (λ (x : List RawMessage). length (groups x)) later ∙ whole.count
           ∙ ap (λ (x : List Booking). length x) (sym p.reports.book) ∙ sym (length-map report.book booking_of);
       whole_groups = ap (λ (x : List RawMessage). list_all is_whole_group (groups x)) later ∙ whole.whole;
       delivered_all = told-count report.trace p.plays.ends.state.trace (record { turn = f.is_last.turn; delivered = p.last.streams.delivered }) h.read
-          (session_part (only_user user) nonce (messages g)) (p.reports.trace ∙ f.is_last.trace) (passed.count p.counted) later;
+          (session_part settings nonce (messages g)) (p.reports.trace ∙ f.is_last.trace) (passed.count p.counted) later;
       readable = ap (λ (x : List RawMessage). list_all is_readable x) all ∙ list_all-append is_readable p.opened.read h.read
-          ∙ ap (λ (b : Bool). b && list_all is_readable h.read) bare.readable ∙ h.readable;
-      asynchronous = told-asides report.asynchronous p.last.asynchronous h.read
-          (startup_part (only_user user) nonce (messages g) ++ session_part (only_user user) nonce (messages g)) p.reports.asynchronous passed.shows aside;
+          ∙ ap (λ (b : Bool). b && list_all is_readable h.read) begun ∙ h.readable;
+      asynchronous = told-asides report.asynchronous p.last.asynchronous (p.opened.read ++ h.read)
+          (startup_part settings nonce (messages g) ++ session_part settings nonce (messages g)) p.reports.asynchronous passed.shows aside;
       parameters = subst (λ (x : List (List ℕ × List ℕ)). AreLastValues (parameter_reports (messages g)) x) (sym (p.reports.parameters ∙ passed.kept))
-          (subst (λ (x : List (List ℕ × List ℕ)). AreLastValues x (keep_all [] (parameter_reports h.read))) (sym reports) (last-values (parameter_reports h.read)));
+          (subst (λ (x : List RawMessage). AreLastValues (parameter_reports x) (keep_all [] (parameter_reports (p.opened.read ++ h.read)))) (sym all) (last-values (parameter_reports (p.opened.read ++ h.read))));
       no_bad_header = ap (λ (x : List ℕ). has_bad_header (bytes_left x)) g-is
           ∙ ap has_bad_header (h.rest ∙ all-left p.last.streams.buffer.items empty.decoded) ∙ empty.header;
-      key = told-key report.process_id report.secret_key p.opened.read (startup_part (only_user user) nonce (messages g))
-          p.reports.process_id p.reports.secret_key started.part bare;
+      key = p.reports.key ∙ p.opened.noted.key ∙ ap cancel_key (sym started.part);
     }

@@ -6,7 +6,7 @@ use Rattle.std.proofs.Math.Seq.{drop-append_seam}
 use Rattle.futures.specs.declared.task.Poll.{Poll}
 use Rattle.futures.specs.declared.task.Poll.TheVariants.{Ready, Pending}
 use Rattle.pg_spec.specs.Book as book
-use Rattle.pg_spec.specs.Settings.{only_user, Mode, Prefer, Require}
+use Rattle.pg_spec.specs.Settings.{Settings}
 use Rattle.pg_spec.specs.Frames.{terminate_frame}
 use Rattle.pg_spec.specs.Links.{LinkView, Grew, added, OfBytes}
 use Rattle.pg_spec.specs.RawMessages.{RawMessage, messages, sync_of}
@@ -35,7 +35,8 @@ use Rattle.pg_session.proofs.Crossing.Hub.{out-all}
 use Rattle.pg_session.proofs.Crossing.{Stood}
 use Rattle.pg_session.proofs.Crossing.Chain.{StoodIn, stood-turn, stood-all}
 use Rattle.pg_session.proofs.Crossing.Front.{all-marked, front-delivered}
-use Rattle.pg_session.proofs.Crossing.Start.{stood-start, Started, is-started}
+use Rattle.pg_session.proofs.Crossing.Start.{stood-start}
+use Rattle.pg_session.proofs.Opening.{Started, done-of, is-started}
 
 -- ---- the last turn
 
@@ -66,13 +67,13 @@ pub record Finished (opening : List ℕ) (first : List RawMessage) (before after
   pub stood : StoodIn opening first before t after
   pub is_last : IsLast s t
 
-pub finished : (user nonce : List ℕ) (scripts : List (List Command)) (given : List ℕ) (before after : LinkView) (report : Report)
-    (p : HasPlayed user nonce scripts given before after report) →
+pub finished : (settings : Settings) (nonce : List ℕ) (scripts : List (List Command)) (given : List ℕ) (before after : LinkView) (report : Report)
+    (p : HasPlayed settings nonce scripts given before after report) →
     Finished p.opening p.opened.read before after p.plays.ends.state p.last
-finished user nonce scripts given before after report p = record {
+finished settings nonce scripts given before after report p = record {
   stood = stood-turn p.opening p.opened.read before p.plays.ends.link after scripts p.plays.last p.plays.ends.state p.last true
       (stood-all p.opening p.opened.read before scripts p.plays.turns p.new p.link p.plays.ends.state p.plays.ends.link
-      (stood-start user nonce scripts before p.link p.startup p.opening p.new p.opened p.fresh p.is_new) p.plays.ends.before)
+      (stood-start settings nonce scripts before p.link p.startup p.opening p.new p.opened p.fresh p.is_new) p.plays.ends.before)
       p.plays.ends.over;
   is_last = is-last scripts p.plays.last p.plays.ends.state p.last p.plays.ends.link after p.plays.ends.over;
 }
@@ -126,7 +127,7 @@ all-out opening first base l hub s asides h closing =
     whole-front (after_all (start 0 0) h.events).gone_out (wire (after_all (start 0 0) h.events).book)
     (legal-sound 0 0 h.events h.legal).out_is_front (h.spent closing).out
 
--- The link took the startup's frame, each request, and Terminate.
+-- The link took the startup's frames, each request, and Terminate.
 pub all-taken : (opening : List ℕ) (first : List RawMessage) (base l : LinkView) (hub : Standing) (s : Streams) (asides : List AsyncMessage) →
     (h : Stood opening first base hub s asides l) → s.closing ≡ true → s.unsent ≡ [] → h.taken ≡ opening ++ book.wire (map booking_of hub.book) ++ terminate_frame
 all-taken opening first base l hub s asides h closing sent =
@@ -138,36 +139,29 @@ all-taken opening first base l hub s asides h closing sent =
     ∙ ap (λ (c : Bool). (opening ++ bytes_out_by h.events) ++ goodbye false c) closing
     ∙ ap (λ (l : List ℕ). (opening ++ l) ++ terminate_frame) bytes
 
-no-tls : Prefer ≢ Require
-no-tls e = let no : is_require Prefer ≡ is_require Require = ap is_require e in absurd (let f : false ≡ true = no in cc)
-  where
-    is_require : Mode → Bool
-    is_require Require = true
-    is_require _ = false
-
 -- the startup, by the bytes given
-pub startup-of : (user nonce : List ℕ) (scripts : List (List Command)) (given : List ℕ) (before after : LinkView) (report : Report)
-    (p : HasPlayed user nonce scripts given before after report) (f : Finished p.opening p.opened.read before after p.plays.ends.state p.last) (g : List ℕ) → g ≡ f.stood.given →
-    Started user nonce p.opening p.opened.read (f.stood.read ++ (f.stood.lost ++ messages p.last.streams.buffer.items)) (messages g)
-startup-of user nonce scripts given before after report p f g is =
-    is-started user nonce p.opening p.opened.read (f.stood.read ++ (f.stood.lost ++ messages p.last.streams.buffer.items)) (messages g)
-    (p.opened.frame ∙ ap (λ (l : List ℕ). Ok l) (sym p.fresh.frame)) p.opened.done
+pub startup-of : (settings : Settings) (nonce : List ℕ) (scripts : List (List Command)) (given : List ℕ) (before after : LinkView) (report : Report)
+    (p : HasPlayed settings nonce scripts given before after report) (f : Finished p.opening p.opened.read before after p.plays.ends.state p.last) (g : List ℕ) → g ≡ f.stood.given →
+    Started settings nonce p.opening p.opened.read (f.stood.read ++ (f.stood.lost ++ messages p.last.streams.buffer.items)) (messages g)
+startup-of settings nonce scripts given before after report p f g is =
+    is-started settings nonce p.opening p.opened.read (f.stood.read ++ (f.stood.lost ++ messages p.last.streams.buffer.items)) (messages g)
+    (done-of settings nonce p.opening before p.link p.startup p.new.streams p.opened p.fresh)
     (ap messages is ∙ f.stood.came_off ∙ append_assoc p.opened.read f.stood.read (f.stood.lost ++ messages p.last.streams.buffer.items))
 
-pub was-sent : (user nonce : List ℕ) (scripts : List (List Command)) (given : List ℕ) (before after : LinkView) (report : Report)
-    (p : HasPlayed user nonce scripts given before after report) → Finished p.opening p.opened.read before after p.plays.ends.state p.last → (g t : List ℕ) →
-    added before.given after.given ≡ Some g → added before.taken after.taken ≡ Some t → Sent (session_of user nonce scripts given report g) t
-was-sent user nonce scripts given before after report p f g t e d =
+pub was-sent : (settings : Settings) (nonce : List ℕ) (scripts : List (List Command)) (given : List ℕ) (before after : LinkView) (report : Report)
+    (p : HasPlayed settings nonce scripts given before after report) → Finished p.opening p.opened.read before after p.plays.ends.state p.last → (g t : List ℕ) →
+    added before.given after.given ≡ Some g → added before.taken after.taken ≡ Some t → Sent (session_of settings nonce scripts given report g) t
+was-sent settings nonce scripts given before after report p f g t e d =
     let h = f.stood in
-    let started = startup-of user nonce scripts given before after report p f g (added-is before.given after.given h.given g h.gave e) in
+    let started = startup-of settings nonce scripts given before after report p f g (added-is before.given after.given h.given g h.gave e) in
     let all : t ≡ p.opening ++ book.wire (map booking_of p.last.hub.book) ++ terminate_frame =
     added-is before.taken after.taken h.taken t h.took d
     ∙ all-taken p.opening p.opened.read before after p.last.hub p.last.streams p.last.asynchronous h f.is_last.closing f.is_last.sent in
     record {
-      no_tls = no-tls;
+      no_tls = p.no_tls;
       started = (length p.opened.read, started.outcome);
       sent = all ∙ ap (λ (l : List ℕ). l ++ book.wire (map booking_of p.last.hub.book) ++ terminate_frame) (sym started.frames)
-          ∙ ap (λ (b : List Booking). concat (startup (only_user user) nonce (messages g)).frames ++ book.wire (map booking_of b) ++ terminate_frame) (sym p.reports.book);
+          ∙ ap (λ (b : List Booking). concat (startup settings nonce (messages g)).frames ++ book.wire (map booking_of b) ++ terminate_frame) (sym p.reports.book);
       reported = p.reports.sent ∙ sym all;
       delivered_front = λ place inside.
           let more = h.lost ++ messages p.last.streams.buffer.items in

@@ -9,7 +9,7 @@ use Rattle.std.proofs.lemmas.List.Sums.{sum_by-cons}
 use Rattle.pg_spec.specs.Book.{Booking}
 use Rattle.pg_promises.specs.Causes.{Call, startup_after}
 use Rattle.pg_promises.specs.ConnectionStrings.{Means}
-use Rattle.pg_spec.specs.Settings.{only_user}
+use Rattle.pg_spec.specs.Settings.{Settings}
 use Rattle.pg_spec.specs.Faults.{FrameFault}
 use Rattle.pg_spec.specs.Faults as faults
 use Rattle.pg_spec.specs.Frames.{query_frame}
@@ -30,10 +30,9 @@ use Rattle.pg_connect.specs.Answers.{fresh, left_open}
 use Rattle.pg_connect.specs.Faults.{error_of}
 use Rattle.pg_connect.specs.Passes.{waiting}
 use Rattle.pg_connect.specs.Polls.{TurnFails}
-use Rattle.pg_connect.specs.Startups.{Ends, frame_of}
 use Rattle.pg_connect.specs.declared.fault.ConnectionFault.{ConnectionFault}
 use Rattle.pg_connect.specs.declared.fault.ConnectionFault.TheVariants as fault
-use Rattle.pg_connect.specs.declared.startup.Startup.{Startup}
+use Rattle.pg_startup.specs.declared.startup.Startup.{Startup}
 use Rattle.pg_connect.specs.declared.streams.Streams.{Streams}
 use Rattle.pg_text.specs.Views.{command_of, scripts_of, booking_of}
 use Rattle.pg_text.specs.declared.command.Command.{Command}
@@ -52,6 +51,7 @@ use Rattle.pg_session.proofs.SentSoFar.{script-of, handle-of}
 use Rattle.pg_session.proofs.Stalled.{units-are, quiet-out, dropped, went-quietly}
 use Rattle.pg_session.proofs.Stalled.Start.{rests-so, waits-more}
 use Rattle.pg_session.proofs.Caused.Start.{of_grown}
+use Rattle.pg_session.proofs.Opening.{IsDone}
 
 -- ---- how many requests there are
 
@@ -164,17 +164,17 @@ all-asked scripts t st stands quiet plain =
 abbrev AllSent : Call → List ℕ → Type 0
 AllSent call t = count_by (λ script. nat_lt 0 (length script)) call.scripts ≤ whole_units t
 
-pub none-kept : (call : Call) (user opening : List ℕ) (first : List RawMessage) (scripts : List (List Command)) (s : SessionState) (l : LinkView) (t : SessionState) (m : LinkView)
-    (before after : ℕ) → Means call.config (only_user user) → call.scripts ≡ scripts_of scripts → frame_of user ≡ Ok opening → Ends user call.nonce first (Done (length first)) →
+pub none-kept : (call : Call) (settings : Settings) (opening : List ℕ) (first : List RawMessage) (scripts : List (List Command)) (s : SessionState) (l : LinkView) (t : SessionState) (m : LinkView)
+    (before after : ℕ) → Means call.config settings → call.scripts ≡ scripts_of scripts → IsDone settings call.nonce opening first →
     Keeps call.before l → StoodIn opening first call.before t m → AsksQueries t → QuietRound scripts s l t m →
     call.after.given ≡ m.given → call.after.taken ≡ m.taken → NoneKeptBack call (Err (faults.Stalled before after))
-none-kept call user opening first scripts s l t m before after means asked frame done keeps h asks q given taken steady plain =
+none-kept call settings opening first scripts s l t m before after means asked done keeps h asks q given taken steady plain =
     let goes = q.polled.turns.goes in
     let settled = (went-quietly (fresh s.streams) (left_open t.streams) l m goes.events q.unmoved q.not_full goes.ended (λ closing. goes.passes.still_closing closing)).settled (keeps.steady steady) in
     let st = state_of q.reached in
     let out = quiet-out st goes.events goes.calls (none-moved q.hub t.hub s.streams t.streams l m _ false q.polled q.unmoved) (goes.became.stands st q.before).0 settled.none_left settled.not_over in
     let many = all-asked scripts t st q.stands q.quiet (subst (λ (x : List (List told.Command)). All (λ script. All (λ command. IsTrue (is_plain command)) script) x) asked plain) in
-    let units = units-are call user opening first t l m goes.events frame done h asks settled in
+    let units = units-are call settings opening first t l m goes.events done h asks settled in
     let all : AllSent call h.taken =
     omega (
       arith,
@@ -188,10 +188,10 @@ none-kept call user opening first scripts s l t m before after means asked frame
       length-map t.hub.book booking_of,
       ap (λ (x : List (List told.Command)). count_by (λ script. nat_lt 0 (length script)) x) asked,
     ) in (
-      only_user user,
+      settings,
       means,
       of_grown call.before call.after h.given h.taken
-          (λ g t. ((used : ℕ) × ((startup_after call (only_user user) g).outcome ≡ Done used)) → AllSent call t)
+          (λ g t. ((used : ℕ) × ((startup_after call settings g).outcome ≡ Done used)) → AllSent call t)
           (given ∙ h.gave) (taken ∙ h.took) (λ started. all),
     )
 
@@ -201,18 +201,18 @@ not-done : (o : Outcome) (used : ℕ) → o ≡ More → o ≡ Done used → ⊥
 not-done o used more done = let no : More ≡ Done used = sym more ∙ done in absurd cc
 
 -- a startup that is stalled isn't done
-pub stopped-kept : (call : Call) (user : List ℕ) (s : Startup) (before after : ℕ) → Means call.config (only_user user) →
-    StopsOpening user call.nonce call.before call.after s (error.Stalled before after) → NoneKeptBack call (Err (faults.Stalled before after))
-stopped-kept call user s before after means h steady plain =
+pub stopped-kept : (call : Call) (settings : Settings) (s : Startup) (before after : ℕ) → Means call.config settings →
+    StopsOpening settings call.nonce call.before call.after s (error.Stalled before after) → NoneKeptBack call (Err (faults.Stalled before after))
+stopped-kept call settings s before after means h steady plain =
     let rests = rests-so h.waited h.polled call.after h.fails.2 in
     let o = h.opening in
     let idle = h.goes_on.idle (h.keeps.steady steady) in (
-      only_user user,
+      settings,
       means,
       of_grown call.before call.after o.got o.sent
-          (λ g t. ((used : ℕ) × ((startup_after call (only_user user) g).outcome ≡ Done used)) → AllSent call t)
+          (λ g t. ((used : ℕ) × ((startup_after call settings g).outcome ≡ Done used)) → AllSent call t)
           (rests.bytes.given ∙ o.given) (rests.bytes.taken ∙ o.taken)
-          (λ started. absurd (not-done (startup_after call (only_user user) o.got).outcome started.0 (waits-more call user s h.polled o idle) started.1)),
+          (λ started. absurd (not-done (startup_after call settings o.got).outcome started.0 (waits-more call settings s h.polled o idle) started.1)),
     )
 
 -- ---- a poll of the connection doesn't answer so

@@ -22,7 +22,7 @@ use Rattle.pg_session.proofs.Crossing.Groups.{both-true}
 use Rattle.pg_session.proofs.SentSoFar.Order.{asked_by}
 
 -- what holds of all holds of those in front
-front-all : {X : Type 0} (P : X → Type 0) (xs ys : List X) → AllByRecursion P (xs ++ ys) → AllByRecursion P xs
+pub front-all : {X : Type 0} (P : X → Type 0) (xs ys : List X) → AllByRecursion P (xs ++ ys) → AllByRecursion P xs
 front-all P [] ys h = tt
 front-all P (x ∷ xs) ys h = (h.0, front-all P xs ys h.1)
 

@@ -10,9 +10,11 @@ use Rattle.pg_spec.specs.RawMessages.{RawMessage, messages, is_ready, cut_after,
 use Rattle.pg_spec.specs.Sent.{is_password, ends_unit, whole_units}
 use Rattle.pg_desk.specs.History.{Delivery, finished, joined, received}
 use Rattle.pg_desk.proofs.Soundness.{AllCut}
-use Rattle.pg_connect.specs.Startups.{frame_of}
+use Rattle.pg_spec.specs.Settings.{Settings}
 use Rattle.pg_session.proofs.Crossing.Groups.{both-true, first-of, First, GoesOn, Last}
-use Rattle.pg_session.proofs.Caused.Frames.{AreQueries, is_query, reads-queries, frames-behind}
+use Rattle.pg_session.proofs.Caused.Frames.{AreQueries, is_query, reads-queries}
+use Rattle.pg_session.proofs.Opening.{IsOpening}
+use Rattle.pg_session.proofs.Opening.Sent.{opening-units}
 
 counted : {X : Type 0} (p : X → Bool) (x : X) (xs : List X) (b : Bool) → p x ≡ b → count_by p (x ∷ xs) ≡ cond b 1 0 + count_by p xs
 counted p x xs b is = sum_by-cons (λ y. cond (p y) 1 0) x xs ∙ ap (λ (c : Bool). cond c 1 0 + count_by p xs) is
@@ -37,11 +39,11 @@ count-queries (m ∷ ms) e =
     ∙ ap (λ (c : Bool). count_by (ends_in ends_unit) (if c then (m ∷ []) ∷ cut_after ends_unit rest else onto_first m (cut_after ends_unit rest))) ends
     ∙ one-more (ends_in ends_unit) (m ∷ []) (cut_after ends_unit rest) (length ms) ends (count-queries ms b.1)
 
--- behind the startup's frame each part is a unit
-pub units-sent : (user opening : List ℕ) (parts : List (List ℕ)) → frame_of user ≡ Ok opening → AreQueries parts → whole_units (opening ++ joined parts) ≡ length parts
-units-sent user opening parts frame queries =
+-- behind the startup's frames each part is a unit
+pub units-sent : (settings : Settings) (opening : List ℕ) (parts : List (List ℕ)) → IsOpening settings opening → AreQueries parts → whole_units (opening ++ joined parts) ≡ length parts
+units-sent settings opening parts o queries =
     let r = reads-queries parts queries in
-    ap (λ (ms : List RawMessage). count_by (ends_in ends_unit) (cut_after ends_unit (filter (λ f. not (is_password f)) ms))) (frames-behind user opening (joined parts) frame)
+    ap (λ (us : List (List RawMessage)). count_by (ends_in ends_unit) us) (opening-units settings opening o (joined parts))
     ∙ count-queries (messages (joined parts)) r.all ∙ r.count
 
 -- ---- groups

@@ -1,23 +1,24 @@
 -- Why a startup may be stalled.
-use Rattle.std.proofs.Common.{◌≡◌, ◌≤◌, ◌<◌, ◌+◌, ◌-◌, ◌^◌, ℕ, zero, suc, Bool, true, List, [], ◌++◌, length, Result, Ok, inl, inr, append-nil, refl, sym, ◌∙◌, ap, subst, arith}
+use Rattle.std.proofs.Common.{◌≡◌, ◌≤◌, ◌<◌, ◌+◌, ◌-◌, ◌^◌, ℕ, Bool, true, false, List, [], ◌++◌, length, Option, Some, None, inl, inr, append-nil, refl, sym, ◌∙◌, ap, subst, arith}
 use Rattle.std.specs.Prelude.{IsTrue}
 use Rattle.std.specs.List.{concat}
-use Rattle.pg_promises.specs.Causes.{Call, IsAwaited, IsStalled}
+use Rattle.pg_promises.specs.Causes.{Call, IsAwaited, IsStalled, NeedsNoTls}
 use Rattle.pg_promises.specs.ConnectionStrings.{Means}
-use Rattle.pg_spec.specs.Settings.{only_user}
-use Rattle.pg_spec.specs.Faults.{FrameFault}
+use Rattle.pg_spec.specs.Settings.{Settings}
 use Rattle.pg_spec.specs.Links.{LinkView, Rose, next_count}
 use Rattle.pg_spec.specs.RawMessages.{RawMessage, messages}
-use Rattle.pg_spec.specs.Startup.{Startup as Dialogue, More, Phase, begun_by, dialogue, startup, plain_login}
+use Rattle.pg_spec.specs.Startup.{Login, More, Phase, First, startup, plain_login}
 use Rattle.pg_faults.specs.declared.error.Error.TheVariants as error
-use Rattle.pg_connect.specs.StartupPolls.{IsIdle}
-use Rattle.pg_connect.specs.declared.startup.Startup.{Startup}
-use Rattle.pg_connect.specs.Startups.{behind, dialogue_of, frame_of, phase_of, Leads, Opening}
+use Rattle.pg_login.specs.Stages.{Stage}
+use Rattle.pg_startup.specs.StartupPolls.{IsIdle}
+use Rattle.pg_startup.specs.declared.startup.Startup.{Startup}
+use Rattle.pg_startup.specs.Startups.{IsAt, Leads, Opening, Reaches}
 use Rattle.pg_connect.proofs.Joining.{rose_later}
 use Rattle.pg_session.specs.Failures.{GivesUp, StopsOpening}
 use Rattle.pg_session.specs.Sessions.{Rests}
 use Rattle.pg_session.proofs.Order.{rests_none}
-use Rattle.pg_session.proofs.Caused.Start.{awaits, needs-none, of_grown}
+use Rattle.pg_session.proofs.Opening.{leads-frames, leads-waits}
+use Rattle.pg_session.proofs.Caused.Start.{of_grown}
 
 -- however it gave up, the link rests
 pub rests-so : (waited : Bool) (a b : LinkView) → GivesUp waited a b → Rests a b
@@ -43,43 +44,50 @@ exact-so waited base l m n before calm low promised lulls (inl wait) = wait.quie
 exact-so waited base l m n before calm low promised lulls (inr round) =
     absurd (let rose : Rose l.lulls m.lulls = lulls (promised round.0) in omega (arith, before, calm, low, rose))
 
--- the dialogue writes nothing behind messages that no frame answers
-silent-behind : (n : ℕ) (d : Dialogue) → (behind n d).frames ≡ d.frames
-silent-behind zero d = refl
-silent-behind (suc n) d = silent-behind n d
+-- where the dialogue stands
+reaches-at : (l : Login) (read : List RawMessage) (wrote : List ℕ) (done : Bool) (d : Option Stage) → Reaches l read wrote done d → (at : Phase) × IsAt l read wrote done at
+reaches-at l read wrote true None h = (First, h)
+reaches-at l read wrote true (Some stage) h = absurd h
+reaches-at l read wrote false None h = absurd h
+reaches-at l read wrote false (Some stage) h = (stage.phase, h.1)
 
--- what it writes while it waits: the startup's frame
-frames-of : (user nonce opening : List ℕ) (front : List RawMessage) (at : Phase) → frame_of user ≡ Ok opening → Leads user nonce front at →
-    concat (startup (only_user user) nonce front).frames ≡ opening
-frames-of user nonce opening front at is leads =
-    ap (λ (r : Result (List ℕ) FrameFault). concat (begun_by r (dialogue_of user nonce front)).frames) is
-    ∙ ap (λ (l : List RawMessage). opening ++ concat (dialogue_of user nonce l).frames) (sym (append-nil front))
-    ∙ ap (λ (d : Dialogue). opening ++ concat d.frames) (leads.on [])
-    ∙ ap (λ (fs : List (List ℕ)). opening ++ concat fs) (silent-behind (length front) (dialogue (plain_login (only_user user) nonce) at []))
-    ∙ append-nil opening
+pub stands-at : (settings : Settings) (nonce : List ℕ) (begin link : LinkView) (s : Startup) (o : Opening (plain_login settings nonce) 0 begin link s) →
+    (at : Phase) × IsAt (plain_login settings nonce) o.read o.stands.speaks.wrote s.done at
+stands-at settings nonce begin link s o = reaches-at (plain_login settings nonce) o.read o.stands.speaks.wrote s.done s.dialogue o.stands.speaks.reaches
 
--- it waits for more
-pub waits-more : (call : Call) (user : List ℕ) (s : Startup) (link : LinkView) (o : Opening user call.nonce call.before link s) → IsIdle s link →
-    (startup (only_user user) call.nonce (messages o.got)).outcome ≡ More
-waits-more call user s link o idle =
-    let read : messages o.got ≡ o.read = o.came.messages ∙ ap (λ (l : List RawMessage). o.read ++ l) idle.heard ∙ append-nil o.read in
-    ap (λ (l : List RawMessage). (startup (only_user user) call.nonce l).outcome) read ∙ awaits user call.nonce s.opening.items o.read (phase_of s.phase) o.frame o.leads
+module _ (call : Call) (settings : Settings) (s : Startup) (link : LinkView) (o : Opening (plain_login settings call.nonce) 0 call.before link s) (idle : IsIdle s link) where
+  abbrev l : Login
+  l = plain_login settings call.nonce
 
--- all that it writes was taken, and it waits for more
-waits-so : (call : Call) (user : List ℕ) (s : Startup) (link : LinkView) (o : Opening user call.nonce call.before link s) → IsIdle s link → IsAwaited call (only_user user) o.got o.sent
-waits-so call user s link o idle =
-    let read : messages o.got ≡ o.read = o.came.messages ∙ ap (λ (l : List RawMessage). o.read ++ l) idle.heard ∙ append-nil o.read in
-    let sent : o.sent ≡ s.opening.items = sym (append-nil o.sent) ∙ ap (λ (l : List ℕ). o.sent ++ l) (sym idle.sent) ∙ o.out in
-    inl (
-      needs-none user,
-      waits-more call user s link o idle,
-      sent ∙ sym (ap (λ (l : List RawMessage). concat (startup (only_user user) call.nonce l).frames) read ∙ frames-of user call.nonce s.opening.items o.read (phase_of s.phase) o.frame o.leads),
-    )
+  read-all : messages o.got ≡ o.read
+  read-all = o.came.messages ∙ ap (λ (ms : List RawMessage). o.read ++ ms) idle.heard ∙ append-nil o.read
+
+  waiting : (at : Phase) × Leads l o.read at o.stands.speaks.wrote
+  waiting =
+      let stands = stands-at settings call.nonce call.before link s o in
+      (stands.0, subst (λ (b : Bool). IsAt l o.read o.stands.speaks.wrote b stands.0) idle.going stands.1)
+
+  -- it waits for more
+  pub waits-more : (startup settings call.nonce (messages o.got)).outcome ≡ More
+  waits-more =
+      ap (λ (ms : List RawMessage). (startup settings call.nonce ms).outcome) read-all
+      ∙ leads-waits settings call.nonce o.first o.frame o.read waiting.0 o.stands.speaks.wrote waiting.1
+
+  -- all that it writes was taken
+  all-sent : o.sent ≡ concat (startup settings call.nonce (messages o.got)).frames
+  all-sent =
+      sym (append-nil o.sent) ∙ ap (λ (b : List ℕ). o.sent ++ b) (sym idle.sent) ∙ o.out ∙ o.stands.speaks.opening ∙ sym (append-nil (o.first ++ o.stands.speaks.wrote))
+      ∙ sym (leads-frames settings call.nonce o.first o.frame o.read waiting.0 o.stands.speaks.wrote waiting.1 [])
+      ∙ ap (λ (ms : List RawMessage). concat (startup settings call.nonce ms).frames) (append-nil o.read ∙ sym read-all)
+
+  -- all that it writes was taken, and it waits for more
+  pub waits-so : NeedsNoTls settings → IsAwaited call settings o.got o.sent
+  waits-so plain = inl (plain, waits-more, all-sent)
 
 -- the startup was stalled for a cause
-pub stalled-start : (call : Call) (user : List ℕ) (s : Startup) (before after : ℕ) → Means call.config (only_user user) →
-    StopsOpening user call.nonce call.before call.after s (error.Stalled before after) → IsStalled call before after
-stalled-start call user s before after means h =
+pub stalled-start : (call : Call) (settings : Settings) (s : Startup) (before after : ℕ) → Means call.config settings →
+    StopsOpening settings call.nonce call.before call.after s (error.Stalled before after) → IsStalled call before after
+stalled-start call settings s before after means h =
     let rests = rests-so h.waited h.polled call.after h.fails.2 in
     let o = h.opening in
     let from : before ≡ h.link.quiet = h.fails.0 in
@@ -96,6 +104,6 @@ stalled-start call user s before after means h =
       awaited = λ steady.
           let idle = h.goes_on.idle (h.keeps.steady steady) in (
             rests.bytes.due ∙ idle.empty,
-            (only_user user, means, of_grown call.before call.after o.got o.sent (IsAwaited call (only_user user)) (rests.bytes.given ∙ o.given) (rests.bytes.taken ∙ o.taken) (waits-so call user s h.polled o idle)),
+            (settings, means, of_grown call.before call.after o.got o.sent (IsAwaited call settings) (rests.bytes.given ∙ o.given) (rests.bytes.taken ∙ o.taken) (waits-so call settings s h.polled o idle h.no_tls)),
           );
     }

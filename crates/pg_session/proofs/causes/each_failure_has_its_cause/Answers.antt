@@ -7,7 +7,7 @@ pub returns-clause-startup : goal.returns-clause-startup
 returns-clause-startup c = start_cause
 
 pub returns-clause-later : goal.returns-clause-later
-returns-clause-later c call user scripts e means b limit = broken-cause call user scripts e means b limit
+returns-clause-later c call settings scripts e means b limit = broken-cause call settings scripts e means b limit
 
 pub returns-clause-stalled : goal.returns-clause-stalled
-returns-clause-stalled c call user s before after means h = stalled-start call user s before after means h
+returns-clause-stalled c call settings s before after means h = stalled-start call settings s before after means h

@@ -8,6 +8,6 @@ pub returns-clause-events : goal.returns-clause-events
 returns-clause-events c = are-events
 
 pub returns-clause-reads : goal.returns-clause-reads
-returns-clause-reads c user nonce scripts given before after report p =
-    of-bytes before after (λ g t. ReadsItsReply scripts (session_of user nonce scripts given report g) (turn_events scripts given p.new p.link p.last after p.plays))
-    (λ g t e d. reads-so user nonce scripts given before after report p g t e d)
+returns-clause-reads c settings nonce scripts given before after report p =
+    of-bytes before after (λ g t. ReadsItsReply scripts (session_of settings nonce scripts given report g) (turn_events scripts given p.new p.link p.last after p.plays))
+    (λ g t e d. reads-so settings nonce scripts given before after report p g t e d)

@@ -3,5 +3,5 @@ use Rattle.pg_session.proofs.LivesWhole.{ran-and-answered}
 use Rattle.pg_session.proofs.lives.what_was_answered.Goals as goal
 
 pub returns : goal.returns
-returns c user nonce scripts given before after report p =
-    ran-and-answered user nonce scripts given before after report p (calls-alone scripts given p.new p.link p.last after p.plays)
+returns c settings nonce scripts given before after report p =
+    ran-and-answered settings nonce scripts given before after report p (calls-alone scripts given p.new p.link p.last after p.plays)
