@@ -1,12 +1,14 @@
 -- What is said line by line is what the lines mean together.
 use Rattle.std.proofs.Common.{◌≡◌, ◌<◌, ◌≤◌, ◌-◌, ◌⊎◌, ℕ, zero, suc, length, get_or, set, arith, ◌+◌, length-append, Bool, true, false, cond, List, [], ◌∷◌, ◌++◌, map, flat_map, Option, Some, None, refl, sym, ap, subst, ◌∙◌, append-nil, inl, inr}
-use Rattle.std.specs.Prelude.{filter, filter_map, option_to_list, unwrap_or}
-use Rattle.std.specs.List.{All, concat, cons_option, slice_split, onto_first}
+use Rattle.std.specs.Prelude.{◌||◌, filter, filter_map, option_to_list, unwrap_or}
+use Rattle.std.specs.List.{All, concat, cons_option, list_any, slice_split, onto_first}
 use Rattle.std.proofs.lemmas.List.Elements.{filter-append, filter_map-append}
 use Rattle.std.proofs.lemmas.List.{map-append}
 use Rattle.std.proofs.lemmas.List.Concat.{flat_map-append}
+use Rattle.std.proofs.lemmas.List.Folds.{list_any-append}
+use Rattle.std.proofs.Math.Bool.{or-false, or-true}
 use Rattle.pg_spec.specs.Report.{Command}
-use Rattle.pg_spec.specs.SessionText.{ConfigLine, CutLine, CommandLine, HandleLine, LimitLine, Line, Nothing, StepLine, TurnsLine, command_of, config_of, cut_of, is_handle, is_said, limit_of, step_of, turns_of, one_or, Say, SessionText}
+use Rattle.pg_spec.specs.SessionText.{ConfigLine, CutLine, CommandLine, EndLine, HandleLine, LimitLine, Line, NonceLine, Nothing, StepLine, TurnsLine, command_of, config_of, cut_of, default_nonce, is_end, is_handle, is_said, limit_of, nonce_of, step_of, turns_of, one_or, Say, SessionText}
 use Rattle.pg_text.specs.declared.command.Command as asked
 use Rattle.pg_text.specs.declared.parse.Draft.{Draft}
 use Rattle.pg_text.specs.Views.{command_of as view_of, scripts_of}
@@ -16,8 +18,10 @@ use Rattle.pg_text.specs.Drafts.{AddsLast, Steps, so_far, SoFar, begun, in_scrip
 pub record SaidNothing (lines : List Line) (s : SoFar) : Type 0 where
   pub first : filter is_said lines ≡ []
   pub config : s.config ≡ None
+  pub nonce : s.nonce ≡ None
   pub limit : s.limit ≡ None
   pub cut : s.cut ≡ None
+  pub ends : s.ends ≡ false
   pub turns : s.turns ≡ []
   pub plan : s.plan ≡ []
   pub scripts : s.scripts ≡ []
@@ -27,8 +31,10 @@ pub record Said (lines : List Line) (text : List ℕ) (others : List Line) (s : 
   pub first : filter is_said lines ≡ ConfigLine text ∷ others
   pub one_config : filter_map config_of others ≡ []
   pub config : s.config ≡ Some text
+  pub nonce : filter_map nonce_of others ≡ option_to_list s.nonce
   pub limit : filter_map limit_of others ≡ option_to_list s.limit
   pub cut : filter_map cut_of others ≡ option_to_list s.cut
+  pub ends : s.ends ≡ list_any is_end others
   pub turns : s.turns ≡ flat_map turns_of others
   pub plan : s.plan ≡ filter_map step_of others
   pub scripts : map (filter_map command_of) (slice_split is_handle others) ≡ [] ∷ s.scripts
@@ -107,17 +113,21 @@ scripts_handle others l handle = ap commands (split_end is_handle others l handl
 
 more_said : (lines : List Line) (text : List ℕ) (others : List Line) (s : SoFar) (l : Line) (t : SoFar) → Said lines text others s →
     filter is_said (l ∷ []) ≡ l ∷ [] → config_of l ≡ None → t.config ≡ s.config →
+    option_to_list t.nonce ≡ option_to_list s.nonce ++ cons_option (nonce_of l) [] →
     option_to_list t.limit ≡ option_to_list s.limit ++ cons_option (limit_of l) [] →
     option_to_list t.cut ≡ option_to_list s.cut ++ cons_option (cut_of l) [] →
+    t.ends ≡ (s.ends || is_end l) →
     t.turns ≡ s.turns ++ turns_of l → t.plan ≡ s.plan ++ cons_option (step_of l) [] →
     commands (slice_split is_handle (others ++ l ∷ [])) ≡ [] ∷ t.scripts →
     Said (lines ++ l ∷ []) text (others ++ l ∷ []) t
-more_said lines text others s l t h says other config limit cut turns plan scripts = record {
+more_said lines text others s l t h says other config nonce limit cut ends turns plan scripts = record {
   first = filter-append is_said lines (l ∷ []) ∙ ap (λ x. x ++ filter is_said (l ∷ [])) h.first ∙ ap (λ x. (ConfigLine text ∷ others) ++ x) says;
   one_config = filter_map-append config_of others (l ∷ []) ∙ ap (λ x. x ++ cons_option (config_of l) []) h.one_config ∙ ap (λ c. cons_option c []) other;
   config = config ∙ h.config;
+  nonce = filter_map-append nonce_of others (l ∷ []) ∙ ap (λ x. x ++ cons_option (nonce_of l) []) h.nonce ∙ sym nonce;
   limit = filter_map-append limit_of others (l ∷ []) ∙ ap (λ x. x ++ cons_option (limit_of l) []) h.limit ∙ sym limit;
   cut = filter_map-append cut_of others (l ∷ []) ∙ ap (λ x. x ++ cons_option (cut_of l) []) h.cut ∙ sym cut;
+  ends = ends ∙ ap (λ x. x || is_end l) h.ends ∙ sym (list_any-append is_end others (l ∷ []) ∙ ap (λ x. list_any is_end others || x) (or-false (is_end l)));
   turns = turns ∙ ap (λ x. x ++ turns_of l) h.turns ∙ sym (flat_map-append turns_of others (l ∷ []) ∙ ap (λ x. flat_map turns_of others ++ x) (append-nil (turns_of l)));
   plan = plan ∙ ap (λ x. x ++ cons_option (step_of l) []) h.plan ∙ sym (filter_map-append step_of others (l ∷ []));
   scripts = scripts;
@@ -149,8 +159,10 @@ line_said lines s Nothing t (inl h) e =
     along (lines ++ Nothing ∷ []) (Some s) s t refl (inl (record {
       first = nothing_more lines ∙ h.first;
       config = h.config;
+      nonce = h.nonce;
       limit = h.limit;
       cut = h.cut;
+      ends = h.ends;
       turns = h.turns;
       plan = h.plan;
       scripts = h.scripts;
@@ -163,8 +175,10 @@ line_said lines s Nothing t (inr (text, others, h)) e =
         first = nothing_more lines ∙ h.first;
         one_config = h.one_config;
         config = h.config;
+        nonce = h.nonce;
         limit = h.limit;
         cut = h.cut;
+        ends = h.ends;
         turns = h.turns;
         plan = h.plan;
         scripts = h.scripts;
@@ -178,14 +192,27 @@ line_said lines s (ConfigLine text) t (inl h) e =
         first = filter-append is_said lines (ConfigLine text ∷ []) ∙ ap (λ x. x ++ ConfigLine text ∷ []) h.first;
         one_config = refl;
         config = refl;
+        nonce = sym (ap option_to_list h.nonce);
         limit = sym (ap option_to_list h.limit);
         cut = sym (ap option_to_list h.cut);
+        ends = h.ends;
         turns = h.turns;
         plan = h.plan;
         scripts = ap (λ x. [] ∷ x) (sym h.scripts);
       },
     )) e
 line_said lines s (ConfigLine text) t (inr (was, others, h)) e = absurd (cc (sym (ap (λ c. once c (Some (record s { config = Some text }))) h.config) ∙ e))
+line_said lines s (NonceLine nonce) t (inl h) e = absurd (not_begun s.config (once s.nonce (Some (record s { nonce = Some nonce }))) t h.config e)
+line_said lines s (NonceLine nonce) t (inr (text, others, h)) e =
+    let fresh = once_some s.nonce (record s { nonce = Some nonce }) t (sym (begun_is s.config text (once s.nonce (Some (record s { nonce = Some nonce }))) h.config) ∙ e) in
+    subst (Drafted (lines ++ NonceLine nonce ∷ [])) fresh.1 (inr (
+      text,
+      others ++ NonceLine nonce ∷ [],
+      more_said lines text others s (NonceLine nonce) (record s { nonce = Some nonce }) h refl refl refl
+          (ap (λ x. option_to_list x ++ nonce ∷ []) (sym fresh.0)) (sym (append-nil (option_to_list s.limit))) (sym (append-nil (option_to_list s.cut)))
+          (sym (or-false s.ends)) (sym (append-nil s.turns)) (sym (append-nil s.plan))
+          (scripts_same others (NonceLine nonce) refl refl ∙ h.scripts),
+    ))
 line_said lines s (LimitLine n) t (inl h) e = absurd (not_begun s.config (once s.limit (Some (record s { limit = Some n }))) t h.config e)
 line_said lines s (LimitLine n) t (inr (text, others, h)) e =
     let fresh = once_some s.limit (record s { limit = Some n }) t (sym (begun_is s.config text (once s.limit (Some (record s { limit = Some n }))) h.config) ∙ e) in
@@ -193,7 +220,8 @@ line_said lines s (LimitLine n) t (inr (text, others, h)) e =
       text,
       others ++ LimitLine n ∷ [],
       more_said lines text others s (LimitLine n) (record s { limit = Some n }) h refl refl refl
-          (ap (λ x. option_to_list x ++ n ∷ []) (sym fresh.0)) (sym (append-nil (option_to_list s.cut))) (sym (append-nil s.turns)) (sym (append-nil s.plan))
+          (sym (append-nil (option_to_list s.nonce))) (ap (λ x. option_to_list x ++ n ∷ []) (sym fresh.0)) (sym (append-nil (option_to_list s.cut)))
+          (sym (or-false s.ends)) (sym (append-nil s.turns)) (sym (append-nil s.plan))
           (scripts_same others (LimitLine n) refl refl ∙ h.scripts),
     ))
 line_said lines s (CutLine n) t (inl h) e = absurd (not_begun s.config (once s.cut (Some (record s { cut = Some n }))) t h.config e)
@@ -203,9 +231,21 @@ line_said lines s (CutLine n) t (inr (text, others, h)) e =
       text,
       others ++ CutLine n ∷ [],
       more_said lines text others s (CutLine n) (record s { cut = Some n }) h refl refl refl
-          (sym (append-nil (option_to_list s.limit))) (ap (λ x. option_to_list x ++ n ∷ []) (sym fresh.0)) (sym (append-nil s.turns)) (sym (append-nil s.plan))
+          (sym (append-nil (option_to_list s.nonce))) (sym (append-nil (option_to_list s.limit))) (ap (λ x. option_to_list x ++ n ∷ []) (sym fresh.0))
+          (sym (or-false s.ends)) (sym (append-nil s.turns)) (sym (append-nil s.plan))
           (scripts_same others (CutLine n) refl refl ∙ h.scripts),
     ))
+line_said lines s EndLine t (inl h) e = absurd (not_begun s.config (Some (record s { ends = true })) t h.config e)
+line_said lines s EndLine t (inr (text, others, h)) e =
+    along (lines ++ EndLine ∷ []) (with_line EndLine s) (record s { ends = true }) t (begun_is s.config text (Some (record s { ends = true })) h.config)
+    (inr (
+      text,
+      others ++ EndLine ∷ [],
+      more_said lines text others s EndLine (record s { ends = true }) h refl refl refl
+          (sym (append-nil (option_to_list s.nonce))) (sym (append-nil (option_to_list s.limit))) (sym (append-nil (option_to_list s.cut)))
+          (sym (or-true s.ends)) (sym (append-nil s.turns)) (sym (append-nil s.plan))
+          (scripts_same others EndLine refl refl ∙ h.scripts),
+    )) e
 line_said lines s (TurnsLine turns) t (inl h) e = absurd (not_begun s.config (Some (record s { turns = s.turns ++ turns })) t h.config e)
 line_said lines s (TurnsLine turns) t (inr (text, others, h)) e =
     along (lines ++ TurnsLine turns ∷ []) (with_line (TurnsLine turns) s) (record s { turns = s.turns ++ turns }) t (begun_is s.config text (Some (record s { turns = s.turns ++ turns })) h.config)
@@ -213,7 +253,8 @@ line_said lines s (TurnsLine turns) t (inr (text, others, h)) e =
       text,
       others ++ TurnsLine turns ∷ [],
       more_said lines text others s (TurnsLine turns) (record s { turns = s.turns ++ turns }) h refl refl refl
-          (sym (append-nil (option_to_list s.limit))) (sym (append-nil (option_to_list s.cut))) refl (sym (append-nil s.plan))
+          (sym (append-nil (option_to_list s.nonce))) (sym (append-nil (option_to_list s.limit))) (sym (append-nil (option_to_list s.cut)))
+          (sym (or-false s.ends)) refl (sym (append-nil s.plan))
           (scripts_same others (TurnsLine turns) refl refl ∙ h.scripts),
     )) e
 line_said lines s (StepLine pieces) t (inl h) e = absurd (not_begun s.config (Some (record s { plan = s.plan ++ concat pieces ∷ [] })) t h.config e)
@@ -223,7 +264,8 @@ line_said lines s (StepLine pieces) t (inr (text, others, h)) e =
       text,
       others ++ StepLine pieces ∷ [],
       more_said lines text others s (StepLine pieces) (record s { plan = s.plan ++ concat pieces ∷ [] }) h refl refl refl
-          (sym (append-nil (option_to_list s.limit))) (sym (append-nil (option_to_list s.cut))) (sym (append-nil s.turns)) refl
+          (sym (append-nil (option_to_list s.nonce))) (sym (append-nil (option_to_list s.limit))) (sym (append-nil (option_to_list s.cut)))
+          (sym (or-false s.ends)) (sym (append-nil s.turns)) refl
           (scripts_same others (StepLine pieces) refl refl ∙ h.scripts),
     )) e
 line_said lines s HandleLine t (inl h) e = absurd (not_begun s.config (Some (record s { scripts = s.scripts ++ [] ∷ [] })) t h.config e)
@@ -233,7 +275,8 @@ line_said lines s HandleLine t (inr (text, others, h)) e =
       text,
       others ++ HandleLine ∷ [],
       more_said lines text others s HandleLine (record s { scripts = s.scripts ++ [] ∷ [] }) h refl refl refl
-          (sym (append-nil (option_to_list s.limit))) (sym (append-nil (option_to_list s.cut))) (sym (append-nil s.turns)) (sym (append-nil s.plan))
+          (sym (append-nil (option_to_list s.nonce))) (sym (append-nil (option_to_list s.limit))) (sym (append-nil (option_to_list s.cut)))
+          (sym (or-false s.ends)) (sym (append-nil s.turns)) (sym (append-nil s.plan))
           (scripts_handle others HandleLine refl ∙ ap (λ x. x ++ [] ∷ []) h.scripts),
     )) e
 line_said lines s (CommandLine c) t (inl h) e = absurd (not_begun s.config (in_script s.scripts (Some (record s { scripts = onto_last c s.scripts }))) t h.config e)
@@ -243,7 +286,8 @@ line_said lines s (CommandLine c) t (inr (text, others, h)) e =
       text,
       others ++ CommandLine c ∷ [],
       more_said lines text others s (CommandLine c) (record s { scripts = onto_last c s.scripts }) h refl refl refl
-          (sym (append-nil (option_to_list s.limit))) (sym (append-nil (option_to_list s.cut))) (sym (append-nil s.turns)) (sym (append-nil s.plan))
+          (sym (append-nil (option_to_list s.nonce))) (sym (append-nil (option_to_list s.limit))) (sym (append-nil (option_to_list s.cut)))
+          (sym (or-false s.ends)) (sym (append-nil s.turns)) (sym (append-nil s.plan))
           (scripts_command others (CommandLine c) c refl refl ∙ ap (onto_last c) (h.scripts ∙ ap (λ x. [] ∷ x) found.2) ∙ ap (λ x. [] ∷ onto_last c x) (sym found.2)),
     ))
 
@@ -314,8 +358,10 @@ twice f default given was n a others rest lines l is all here same e =
 pub line_refused : (lines : List Line) (s : SoFar) (l : Line) (more : List Line) (t : SessionText) → Drafted lines s → with_line l s ≡ None → Say (lines ++ (l ∷ more)) t → ⊥
 line_refused lines s Nothing more t h e say = cc e
 line_refused lines s (ConfigLine text) more t (inl h) e say = cc (sym (ap (λ c. once c (Some (record s { config = Some text }))) h.config) ∙ e)
+line_refused lines s (NonceLine nonce) more t (inl h) e say = cc (said_before lines s (NonceLine nonce) more t h say refl)
 line_refused lines s (LimitLine n) more t (inl h) e say = cc (said_before lines s (LimitLine n) more t h say refl)
 line_refused lines s (CutLine n) more t (inl h) e say = cc (said_before lines s (CutLine n) more t h say refl)
+line_refused lines s EndLine more t (inl h) e say = cc (said_before lines s EndLine more t h say refl)
 line_refused lines s (TurnsLine turns) more t (inl h) e say = cc (said_before lines s (TurnsLine turns) more t h say refl)
 line_refused lines s (StepLine pieces) more t (inl h) e say = cc (said_before lines s (StepLine pieces) more t h say refl)
 line_refused lines s HandleLine more t (inl h) e say = cc (said_before lines s HandleLine more t h say refl)
@@ -325,12 +371,16 @@ line_refused lines s (ConfigLine again) more t (inr (text, others, h)) e say =
     let shown : filter_map config_of say.others ≡ again ∷ filter_map config_of (filter is_said more) =
     ap (filter_map config_of) are ∙ filter_map-append config_of others (ConfigLine again ∷ filter is_said more) ∙ ap (λ x. x ++ filter_map config_of (ConfigLine again ∷ filter is_said more)) h.one_config in
     cc (sym shown ∙ say.one_config)
+line_refused lines s (NonceLine nonce) more t (inr (text, others, h)) e say =
+    let was = once_none s.nonce (record s { nonce = Some nonce }) (sym (begun_is s.config text (once s.nonce (Some (record s { nonce = Some nonce }))) h.config) ∙ e) in
+    twice nonce_of default_nonce t.nonce was.0 nonce s.nonce others (filter is_said more) say.others (NonceLine nonce) was.1 h.nonce refl (others_are lines text others s (NonceLine nonce) more t h say refl) say.nonce
 line_refused lines s (LimitLine n) more t (inr (text, others, h)) e say =
     let was = once_none s.limit (record s { limit = Some n }) (sym (begun_is s.config text (once s.limit (Some (record s { limit = Some n }))) h.config) ∙ e) in
     twice limit_of 16777216 t.limit was.0 n s.limit others (filter is_said more) say.others (LimitLine n) was.1 h.limit refl (others_are lines text others s (LimitLine n) more t h say refl) say.limit
 line_refused lines s (CutLine n) more t (inr (text, others, h)) e say =
     let was = once_none s.cut (record s { cut = Some n }) (sym (begun_is s.config text (once s.cut (Some (record s { cut = Some n }))) h.config) ∙ e) in
     twice cut_of 8192 t.cut was.0 n s.cut others (filter is_said more) say.others (CutLine n) was.1 h.cut refl (others_are lines text others s (CutLine n) more t h say refl) say.cut
+line_refused lines s EndLine more t (inr (text, others, h)) e say = cc (sym (begun_is s.config text (Some (record s { ends = true })) h.config) ∙ e)
 line_refused lines s (TurnsLine turns) more t (inr (text, others, h)) e say = cc (sym (begun_is s.config text (Some (record s { turns = s.turns ++ turns })) h.config) ∙ e)
 line_refused lines s (StepLine pieces) more t (inr (text, others, h)) e say = cc (sym (begun_is s.config text (Some (record s { plan = s.plan ++ concat pieces ∷ [] })) h.config) ∙ e)
 line_refused lines s HandleLine more t (inr (text, others, h)) e say = cc (sym (begun_is s.config text (Some (record s { scripts = s.scripts ++ [] ∷ [] })) h.config) ∙ e)
@@ -350,8 +400,10 @@ said_whole lines text others s h = record {
   others = others;
   first = h.first;
   one_config = h.one_config;
+  nonce = ap (one_or default_nonce) h.nonce ∙ one_or_list default_nonce s.nonce;
   limit = ap (one_or 16777216) h.limit ∙ one_or_list 16777216 s.limit;
   cut = ap (one_or 8192) h.cut ∙ one_or_list 8192 s.cut;
+  ends = h.ends;
   turns = h.turns;
   plan = h.plan;
   scripts = h.scripts;
@@ -371,13 +423,15 @@ same_scripts lines text others s t h say =
 pub may_begin : (lines : List Line) (s : SoFar) → Drafted lines s → (more : List Line) × (t : SessionText) × Say (lines ++ more) t
 may_begin lines s (inl h) = (
   ConfigLine [] ∷ [],
-  record { config = []; scripts = []; turns = []; limit = 16777216; plan = []; cut = 8192 },
+  record { config = []; nonce = default_nonce; scripts = []; turns = []; limit = 16777216; plan = []; cut = 8192; ends = false },
   record {
     others = [];
     first = filter-append is_said lines (ConfigLine [] ∷ []) ∙ ap (λ x. x ++ ConfigLine [] ∷ []) h.first;
     one_config = refl;
+    nonce = refl;
     limit = refl;
     cut = refl;
+    ends = refl;
     turns = refl;
     plan = refl;
     scripts = refl;
@@ -419,18 +473,20 @@ map_last c (part ∷ []) = ap (λ p. p ∷ []) (map-append view_of part (c ∷ [
 map_last c (part ∷ next ∷ parts) = ap (λ ps. map view_of part ∷ ps) (map_last c (next ∷ parts))
 
 pub command_steps : (old new : Draft) (text : List ℕ) (c : asked.Command) (stands : Bool) → old.config ≡ Some text →
-    new.config ≡ old.config → new.limit ≡ old.limit → new.cut ≡ old.cut → new.turns ≡ old.turns → new.plan ≡ old.plan →
+    new.config ≡ old.config → new.nonce ≡ old.nonce → new.limit ≡ old.limit → new.cut ≡ old.cut → new.ends ≡ old.ends → new.turns ≡ old.turns → new.plan ≡ old.plan →
     AddsLast c old.scripts.items stands new.scripts.items → Steps (with_line (CommandLine (view_of c)) (so_far old)) stands (so_far new)
-command_steps old new text c false is config limit cut turns plan added =
+command_steps old new text c false is config nonce limit cut ends turns plan added =
     begun_is old.config text (in_script (scripts_of old.scripts.items) (Some (record (so_far old) { scripts = onto_last (view_of c) (scripts_of old.scripts.items) }))) is
     ∙ ap (λ x. in_script (scripts_of x) (Some (record (so_far old) { scripts = onto_last (view_of c) (scripts_of old.scripts.items) }))) added.0
-command_steps old new text c true is config limit cut turns plan (first, more, some, grown) =
+command_steps old new text c true is config nonce limit cut ends turns plan (first, more, some, grown) =
     begun_is old.config text (in_script (scripts_of old.scripts.items) (Some (record (so_far old) { scripts = onto_last (view_of c) (scripts_of old.scripts.items) }))) is
     ∙ ap (λ x. in_script (scripts_of x) (Some (record (so_far old) { scripts = onto_last (view_of c) (scripts_of old.scripts.items) }))) some
     ∙ (λ i. Some (record {
       config = sym config i;
+      nonce = sym nonce i;
       limit = sym limit i;
       cut = sym cut i;
+      ends = sym ends i;
       turns = (sym turns i).items;
       plan = map (λ entry. entry.items) (sym plan i).items;
       scripts = (sym (map_last c old.scripts.items) ∙ ap scripts_of (sym grown)) i;

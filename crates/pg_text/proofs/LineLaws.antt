@@ -1,5 +1,5 @@
 -- Lines are read as they are spelled.
-use Rattle.std.proofs.Common.{◌≡◌, ◌≢◌, ◌<◌, ◌+◌, ◌⊎◌, ℕ, true, false, List, [], ◌∷◌, ◌++◌, Option, Some, None, codes, refl, sym, ap, subst, ◌∙◌, append_assoc, append-nil, inl, inr}
+use Rattle.std.proofs.Common.{◌≡◌, ◌≢◌, ◌<◌, ◌⊎◌, ℕ, true, false, List, [], ◌∷◌, ◌++◌, Option, Some, None, codes, refl, sym, ap, subst, ◌∙◌, append_assoc, append-nil, inl, inr}
 use Rattle.std.specs.Prelude.{IsUtf8, is_none, cond, not, ◌&&◌, ◌==◌}
 use Rattle.std.specs.List.{AllZip, concat, join_with_byte, list_all}
 use Rattle.std.proofs.lemmas.Bool.{eqb-false}
@@ -8,7 +8,7 @@ use Rattle.pg_spec.specs.Report as command
 use Rattle.pg_spec.specs.SessionText as said
 use Rattle.pg_spec.specs.SessionText.{IsBytes, IsNumber, IsQuoted, Spells}
 use Rattle.pg_text.specs.declared.line.Keyword.{Keyword}
-use Rattle.pg_text.specs.declared.line.Keyword.TheVariants.{Config, Limit, Turns, Handle, Step, Cut, Simple}
+use Rattle.pg_text.specs.declared.line.Keyword.TheVariants.{Config, Nonce, Limit, Turns, Handle, Step, Cut, End, Simple}
 use Rattle.pg_text.specs.declared.line.Line.{Line}
 use Rattle.pg_text.specs.declared.line.Line.TheVariants as line
 use Rattle.pg_text.specs.declared.command.Command.TheVariants as asked
@@ -154,6 +154,13 @@ config_some old text (word, is, e) = (said.ConfigLine text, word ∷ [], (text, 
 pub config_none : (old : Option (List ℕ)) → OneWord IsUtf8Quoted old None → ReadsRest Config old None
 config_none old none l words (text, word, is, utf8, quoted, same) e = none text word (utf8, quoted) (e ∙ ap behind same)
 
+pub nonce_some : (old : Option (List ℕ)) (bytes nonce : List ℕ) → nonce ≡ bytes → OneWord IsQuoted old (Some bytes) → ReadsRest Nonce old (Some (line.Nonce nonce))
+nonce_some old bytes nonce same (word, is, e) =
+    (said.NonceLine nonce, word ∷ [], (nonce, word, refl, subst (λ (t : List ℕ). IsQuoted t word) (sym same) is, refl), e, refl)
+
+pub nonce_none : (old : Option (List ℕ)) → OneWord IsQuoted old None → ReadsRest Nonce old None
+nonce_none old none l words (nonce, word, is, quoted, same) e = none nonce word quoted (e ∙ ap behind same)
+
 pub limit_some : (old : Option (List ℕ)) (n : ℕ) → OneWord (IsNumber 9223372036854775807) old (Some n) → ReadsRest Limit old (Some (line.Limit n))
 limit_some old n (word, is, e) = (said.LimitLine n, word ∷ [], (n, word, refl, is, refl), e, refl)
 
@@ -200,11 +207,13 @@ pub spelled_words : (l : said.Line) (s : List ℕ) → Spells l s →
 spelled_words said.Nothing s h = inl (refl, h)
 spelled_words (said.ConfigLine text) s (utf8, word, quoted, e) =
     inr (Config, word ∷ [], (text, word, refl, utf8, quoted, refl), e ∙ join_words (codes "config") (word ∷ []))
+spelled_words (said.NonceLine nonce) s (word, is, e) = inr (Nonce, word ∷ [], (nonce, word, refl, is, refl), e ∙ join_words (codes "nonce") (word ∷ []))
 spelled_words (said.LimitLine n) s (word, is, e) = inr (Limit, word ∷ [], (n, word, refl, is, refl), e ∙ join_words (codes "limit") (word ∷ []))
 spelled_words (said.TurnsLine turns) s (words, is, e) = inr (Turns, words, (turns, refl, is), e ∙ join_words (codes "turns") words)
 spelled_words said.HandleLine s h = inr (Handle, [], (refl, refl), h)
 spelled_words (said.StepLine pieces) s (words, is, e) = inr (Step, words, (pieces, refl, is), e ∙ join_words (codes "step") words)
 spelled_words (said.CutLine n) s (word, some, is, e) = inr (Cut, word ∷ [], (n, word, refl, some, is, refl), e ∙ join_words (codes "cut") (word ∷ []))
+spelled_words said.EndLine s h = inr (End, [], (refl, refl), h)
 spelled_words (said.CommandLine (command.Simple text None)) s (utf8, word, quoted, e) =
     inr (Simple, word ∷ [], (text, word, utf8, quoted, inl (refl, refl)), e ∙ join_words (codes "simple") (word ∷ []))
 spelled_words (said.CommandLine (command.Simple text (Some n))) s (utf8, word, number, quoted, digits, e) =
@@ -218,6 +227,8 @@ spelled_words (said.CommandLine (command.Simple text (Some n))) s (utf8, word, n
 pub words_spell : (keyword : Keyword) (l : said.Line) (words : List (List ℕ)) (s : List ℕ) → WordsOf keyword l words → s ≡ first_word keyword ++ behind words → Spells l s
 words_spell Config l words s (text, word, is, utf8, quoted, same) e =
     subst (λ (m : said.Line). Spells m s) (sym is) (utf8, word, quoted, e ∙ sym (join_words (codes "config") words) ∙ ap (λ w. join_with_byte 32 (codes "config" ∷ w)) same)
+words_spell Nonce l words s (nonce, word, is, quoted, same) e =
+    subst (λ (m : said.Line). Spells m s) (sym is) (word, quoted, e ∙ sym (join_words (codes "nonce") words) ∙ ap (λ w. join_with_byte 32 (codes "nonce" ∷ w)) same)
 words_spell Limit l words s (n, word, is, digits, same) e =
     subst (λ (m : said.Line). Spells m s) (sym is) (word, digits, e ∙ sym (join_words (codes "limit") words) ∙ ap (λ w. join_with_byte 32 (codes "limit" ∷ w)) same)
 words_spell Turns l words s (turns, is, all) e =
@@ -227,6 +238,7 @@ words_spell Step l words s (pieces, is, all) e =
     subst (λ (m : said.Line). Spells m s) (sym is) (words, all, e ∙ sym (join_words (codes "step") words))
 words_spell Cut l words s (n, word, is, some, digits, same) e =
     subst (λ (m : said.Line). Spells m s) (sym is) (word, some, digits, e ∙ sym (join_words (codes "cut") words) ∙ ap (λ w. join_with_byte 32 (codes "cut" ∷ w)) same)
+words_spell End l words s (is, same) e = subst (λ (m : said.Line). Spells m s) (sym is) (e ∙ ap (λ w. codes "end" ++ behind w) same)
 words_spell Simple l words s (text, word, utf8, quoted, inl (is, same)) e =
     subst (λ (m : said.Line). Spells m s) (sym is) (utf8, word, quoted, e ∙ sym (join_words (codes "simple") words) ∙ ap (λ w. join_with_byte 32 (codes "simple" ∷ w)) same)
 words_spell Simple l words s (text, word, utf8, quoted, inr (n, number, is, digits, same)) e =
@@ -242,11 +254,13 @@ no_space_from (b ∷ w) e =
 
 first_no_space : (keyword : Keyword) → NoSpace (first_word keyword)
 first_no_space Config = no_space_from (first_word Config) refl
+first_no_space Nonce = no_space_from (first_word Nonce) refl
 first_no_space Limit = no_space_from (first_word Limit) refl
 first_no_space Turns = no_space_from (first_word Turns) refl
 first_no_space Handle = no_space_from (first_word Handle) refl
 first_no_space Step = no_space_from (first_word Step) refl
 first_no_space Cut = no_space_from (first_word Cut) refl
+first_no_space End = no_space_from (first_word End) refl
 first_no_space Simple = no_space_from (first_word Simple) refl
 
 -- the line that a word begins, told by two letters
@@ -254,16 +268,18 @@ keyword_at : List ℕ → Keyword
 keyword_at [] = Config
 keyword_at (a ∷ []) = Config
 keyword_at (a ∷ b ∷ w) =
-    cond (a == 99) (cond (b == 111) Config Cut) (cond (a == 108) Limit (cond (a == 116) Turns (cond (a == 104) Handle (cond (b == 116) Step Simple))))
+    cond (a == 99) (cond (b == 111) Config Cut) (cond (a == 110) Nonce (cond (a == 108) Limit (cond (a == 116) Turns (cond (a == 104) Handle (cond (a == 101) End (cond (b == 116) Step Simple))))))
 
 keyword_at-first_word : (keyword : Keyword) → keyword_at (first_word keyword) ≡ keyword
 unfolding keyword_at
 keyword_at-first_word Config = refl
+keyword_at-first_word Nonce = refl
 keyword_at-first_word Limit = refl
 keyword_at-first_word Turns = refl
 keyword_at-first_word Handle = refl
 keyword_at-first_word Step = refl
 keyword_at-first_word Cut = refl
+keyword_at-first_word End = refl
 keyword_at-first_word Simple = refl
 
 same_keyword : (a b : Keyword) → first_word a ≡ first_word b → a ≡ b
@@ -339,6 +355,8 @@ word_kind_ends x y v w l k p q e =
 same_words : (keyword : Keyword) (l m : said.Line) (ws vs : List (List ℕ)) → WordsOf keyword l ws → WordsOf keyword m vs → behind ws ≡ behind vs → l ≡ m
 same_words Config l m ws vs (t, w, p, utf8, quoted, a) (u, v, q, utf8', quoted', b) e =
     p ∙ ap said.ConfigLine (first_of IsQuoted quoted_ends t u w v [] [] quoted quoted' (ap behind (sym a) ∙ e ∙ ap behind b)).0 ∙ sym q
+same_words Nonce l m ws vs (t, w, p, is, a) (u, v, q, is', b) e =
+    p ∙ ap said.NonceLine (first_of IsQuoted quoted_ends t u w v [] [] is is' (ap behind (sym a) ∙ e ∙ ap behind b)).0 ∙ sym q
 same_words Limit l m ws vs (n, w, p, is, a) (k, v, q, is', b) e =
     p ∙ ap said.LimitLine (first_of (IsNumber 9223372036854775807) (number_ends 9223372036854775807) n k w v [] [] is is' (ap behind (sym a) ∙ e ∙ ap behind b)).0 ∙ sym q
 same_words Turns l m ws vs (ts, p, is) (us, q, is') e =
@@ -348,6 +366,7 @@ same_words Step l m ws vs (ts, p, is) (us, q, is') e =
     p ∙ ap said.StepLine (all_same IsBytes bytes_ends ts us ws vs is is' e) ∙ sym q
 same_words Cut l m ws vs (n, w, p, some, is, a) (k, v, q, some', is', b) e =
     p ∙ ap said.CutLine (first_of (IsNumber 18446744073709551615) (number_ends 18446744073709551615) n k w v [] [] is is' (ap behind (sym a) ∙ e ∙ ap behind b)).0 ∙ sym q
+same_words End l m ws vs p q e = p.0 ∙ sym q.0
 same_words Simple l m ws vs (t, w, utf8, quoted, inl (p, a)) (u, v, utf8', quoted', inl (q, b)) e =
     p ∙ ap (λ x. said.CommandLine (command.Simple x None)) (first_of IsQuoted quoted_ends t u w v [] [] quoted quoted' (ap behind (sym a) ∙ e ∙ ap behind b)).0 ∙ sym q
 same_words Simple l m ws vs (t, w, utf8, quoted, inl (p, a)) (u, v, utf8', quoted', inr (k, number, q, digits, b)) e =
@@ -362,11 +381,13 @@ same_words Simple l m ws vs (t, w, utf8, quoted, inr (n, number, p, digits, a)) 
 
 word_says : (keyword : Keyword) (t : List ℕ) → SaysSomething (first_word keyword ++ t)
 word_says Config t = eqb-false 99 35 refl
+word_says Nonce t = eqb-false 110 35 refl
 word_says Limit t = eqb-false 108 35 refl
 word_says Turns t = eqb-false 116 35 refl
 word_says Handle t = eqb-false 104 35 refl
 word_says Step t = eqb-false 115 35 refl
 word_says Cut t = eqb-false 99 35 refl
+word_says End t = eqb-false 101 35 refl
 word_says Simple t = eqb-false 115 35 refl
 
 -- a line is spelled by at most one line

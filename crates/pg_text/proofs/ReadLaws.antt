@@ -1,8 +1,8 @@
 -- A text is read line by line.
 use Rattle.std.proofs.Common.{◌≡◌, ◌<◌, ◌≤◌, ◌+◌, ◌⊎◌, ℕ, false, true, List, [], ◌∷◌, ◌++◌, length, Option, Some, None, Result, Ok, Err, refl, sym, ap, subst, ◌∙◌, append_assoc, append-nil, inl, inr, arith, length-append}
 use Rattle.std.specs.Prelude.{filter_map, flat_map}
-use Rattle.std.specs.List.{AllZip, slice_split}
-use Rattle.pg_spec.specs.SessionText.{ConfigLine, cut_of, is_handle, limit_of, one_or, step_of, turns_of, AreLines, CanNotGoOn, IsRefusedAt, IsSessionText, Line, MayBegin, Say, SessionText, Spells}
+use Rattle.std.specs.List.{AllZip, list_any, slice_split}
+use Rattle.pg_spec.specs.SessionText.{ConfigLine, cut_of, default_nonce, is_end, is_handle, limit_of, nonce_of, one_or, step_of, turns_of, AreLines, CanNotGoOn, IsRefusedAt, IsSessionText, Line, MayBegin, Say, SessionText, Spells}
 use Rattle.pg_text.specs.declared.session.Session.{Session}
 use Rattle.pg_text.specs.declared.session.TextFault.{TextFault}
 use Rattle.pg_text.specs.declared.session.TextFault.TheVariants as fault
@@ -29,7 +29,7 @@ starts text s h = record {
   lines = [];
   text_lines = refl;
   each = tt;
-  drafted = inl (record { first = refl; config = h.config; limit = h.limit; cut = h.cut; turns = h.turns; plan = h.plan; scripts = h.scripts });
+  drafted = inl (record { first = refl; config = h.config; nonce = h.nonce; limit = h.limit; cut = h.cut; ends = h.ends; turns = h.turns; plan = h.plan; scripts = h.scripts });
   number = refl;
 }
 
@@ -134,21 +134,23 @@ ends text rest n s (Err fault.OutOfMemory) h none end = tt
 
 -- ---- one session
 
-same_number : (m n : ℕ) (o : Option ℕ) → o ≡ Some m → o ≡ Some n → m ≡ n
-same_number m n o p q = cc
+same_given : {A : Type 0} (x y : A) (o : Option A) → o ≡ Some x → o ≡ Some y → x ≡ y
+same_given x y o p q = cc
 
 one_say : (lines : List Line) (s t : SessionText) → Say lines s → Say lines t → s ≡ t
 one_say lines s t p q =
     let both : ConfigLine s.config ∷ p.others ≡ ConfigLine t.config ∷ q.others = sym p.first ∙ q.first in
     let others : p.others ≡ q.others = cc in
     let config : s.config ≡ t.config = cc in
-    let limit : s.limit ≡ t.limit = same_number s.limit t.limit (one_or 16777216 (filter_map limit_of p.others)) p.limit (ap (λ x. one_or 16777216 (filter_map limit_of x)) others ∙ q.limit) in
-    let cut : s.cut ≡ t.cut = same_number s.cut t.cut (one_or 8192 (filter_map cut_of p.others)) p.cut (ap (λ x. one_or 8192 (filter_map cut_of x)) others ∙ q.cut) in
+    let nonce : s.nonce ≡ t.nonce = same_given s.nonce t.nonce (one_or default_nonce (filter_map nonce_of p.others)) p.nonce (ap (λ x. one_or default_nonce (filter_map nonce_of x)) others ∙ q.nonce) in
+    let limit : s.limit ≡ t.limit = same_given s.limit t.limit (one_or 16777216 (filter_map limit_of p.others)) p.limit (ap (λ x. one_or 16777216 (filter_map limit_of x)) others ∙ q.limit) in
+    let cut : s.cut ≡ t.cut = same_given s.cut t.cut (one_or 8192 (filter_map cut_of p.others)) p.cut (ap (λ x. one_or 8192 (filter_map cut_of x)) others ∙ q.cut) in
+    let ends : s.ends ≡ t.ends = p.ends ∙ ap (list_any is_end) others ∙ sym q.ends in
     let turns : s.turns ≡ t.turns = p.turns ∙ ap (flat_map turns_of) others ∙ sym q.turns in
     let plan : s.plan ≡ t.plan = p.plan ∙ ap (filter_map step_of) others ∙ sym q.plan in
     let parts : [] ∷ s.scripts ≡ [] ∷ t.scripts = sym p.scripts ∙ ap (λ x. commands (slice_split is_handle x)) others ∙ q.scripts in
     let scripts : s.scripts ≡ t.scripts = cc in
-    λ i. record { config = config i; scripts = scripts i; turns = turns i; limit = limit i; plan = plan i; cut = cut i }
+    λ i. record { config = config i; nonce = nonce i; scripts = scripts i; turns = turns i; limit = limit i; plan = plan i; cut = cut i; ends = ends i }
 
 pub one_session : (text : List ℕ) (s t : SessionText) → IsSessionText text s → IsSessionText text t → s ≡ t
 one_session text s t p q =

@@ -2,7 +2,7 @@
 use Rattle.std.specs.Prelude.{◌≡◌, ◌<◌, ◌≤◌, ℕ, Bool, true, false, List, [], ◌∷◌, ◌++◌, length, map, Option, Some, None, IfSome, unwrap_or}
 use Rattle.std.specs.List.{All, concat}
 use Rattle.pg_spec.specs.Report.{Command}
-use Rattle.pg_spec.specs.SessionText.{ConfigLine, CutLine, CommandLine, HandleLine, LimitLine, Line, Nothing, StepLine, TurnsLine, SessionText, Spells}
+use Rattle.pg_spec.specs.SessionText.{ConfigLine, CutLine, CommandLine, EndLine, HandleLine, LimitLine, Line, NonceLine, Nothing, StepLine, TurnsLine, SessionText, Spells, default_nonce}
 use Rattle.pg_text.specs.declared.line.Line as read
 use Rattle.pg_text.specs.declared.line.Line.TheVariants as line
 use Rattle.pg_text.specs.declared.parse.Draft.{Draft}
@@ -21,8 +21,10 @@ pub record IsWithin (n : ℕ) (d : Draft) : Type 0 where
 -- what the lines so far say
 pub record SoFar : Type 0 where
   pub config : Option (List ℕ)
+  pub nonce : Option (List ℕ)
   pub limit : Option ℕ
   pub cut : Option ℕ
+  pub ends : Bool
   pub turns : List ℕ
   pub plan : List (List ℕ)
   pub scripts : List (List Command)
@@ -31,8 +33,10 @@ pub record SoFar : Type 0 where
 abbrev pub so_far : Draft → SoFar
 so_far d = record {
   config = d.config;
+  nonce = d.nonce;
   limit = d.limit;
   cut = d.cut;
+  ends = d.ends;
   turns = d.turns.items;
   plan = map (λ entry. entry.items) d.plan.items;
   scripts = scripts_of d.scripts.items;
@@ -67,8 +71,10 @@ with_entry entry s = begun s.config (Some (record s { plan = s.plan ++ entry ∷
 abbrev pub with_line : Line → SoFar → Option SoFar
 with_line Nothing s = Some s
 with_line (ConfigLine text) s = once s.config (Some (record s { config = Some text }))
+with_line (NonceLine nonce) s = begun s.config (once s.nonce (Some (record s { nonce = Some nonce })))
 with_line (LimitLine n) s = begun s.config (once s.limit (Some (record s { limit = Some n })))
 with_line (CutLine n) s = begun s.config (once s.cut (Some (record s { cut = Some n })))
+with_line EndLine s = begun s.config (Some (record s { ends = true }))
 with_line (TurnsLine turns) s = begun s.config (Some (record s { turns = s.turns ++ turns }))
 with_line (StepLine pieces) s = with_entry (concat pieces) s
 with_line HandleLine s = begun s.config (Some (record s { scripts = s.scripts ++ [] ∷ [] }))
@@ -78,8 +84,10 @@ with_line (CommandLine command) s = begun s.config (in_script s.scripts (Some (r
 abbrev pub with_read : read.Line → SoFar → Option SoFar
 with_read line.Nothing s = with_line Nothing s
 with_read (line.Config text) s = with_line (ConfigLine text) s
+with_read (line.Nonce nonce) s = with_line (NonceLine nonce) s
 with_read (line.Limit n) s = with_line (LimitLine n) s
 with_read (line.Cut n) s = with_line (CutLine n) s
+with_read line.End s = with_line EndLine s
 with_read (line.Turns turns) s = with_line (TurnsLine turns.items) s
 with_read (line.Step entry) s = with_entry entry.items s
 with_read line.Handle s = with_line HandleLine s
@@ -99,18 +107,22 @@ ReadsOn old spelled false new = (l : Line) → Spells l spelled → with_line l 
 abbrev pub session_so_far : List ℕ → SoFar → SessionText
 session_so_far text s = record {
   config = text;
+  nonce = unwrap_or s.nonce default_nonce;
   scripts = s.scripts;
   turns = s.turns;
   limit = unwrap_or s.limit 16777216;
   plan = s.plan;
   cut = unwrap_or s.cut 8192;
+  ends = s.ends;
 }
 
 -- nothing is said yet
 pub record IsEmpty (s : SoFar) : Type 0 where
   pub config : s.config ≡ None
+  pub nonce : s.nonce ≡ None
   pub limit : s.limit ≡ None
   pub cut : s.cut ≡ None
+  pub ends : s.ends ≡ false
   pub turns : s.turns ≡ []
   pub plan : s.plan ≡ []
   pub scripts : s.scripts ≡ []

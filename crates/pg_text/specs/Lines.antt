@@ -5,7 +5,7 @@ use Rattle.pg_spec.specs.Report as command
 use Rattle.pg_spec.specs.SessionText as said
 use Rattle.pg_spec.specs.SessionText.{IsBytes, IsNumber, IsQuoted, Spells}
 use Rattle.pg_text.specs.declared.line.Keyword.{Keyword}
-use Rattle.pg_text.specs.declared.line.Keyword.TheVariants.{Config, Limit, Turns, Handle, Step, Cut, Simple}
+use Rattle.pg_text.specs.declared.line.Keyword.TheVariants.{Config, Nonce, Limit, Turns, Handle, Step, Cut, End, Simple}
 use Rattle.pg_text.specs.declared.line.Line.{Line}
 use Rattle.pg_text.specs.declared.line.Line.TheVariants as line
 use Rattle.pg_text.specs.Views.{command_of}
@@ -14,11 +14,13 @@ use Rattle.pg_text.specs.Words.{behind, left_text}
 -- the first word of such a line
 abbrev pub first_word : Keyword → List ℕ
 first_word Config = codes "config"
+first_word Nonce = codes "nonce"
 first_word Limit = codes "limit"
 first_word Turns = codes "turns"
 first_word Handle = codes "handle"
 first_word Step = codes "step"
 first_word Cut = codes "cut"
+first_word End = codes "end"
 first_word Simple = codes "simple"
 
 -- the word begins this line, or none
@@ -30,21 +32,25 @@ FirstWord word (Some keyword) = word ≡ first_word keyword
 abbrev pub Stands : Line → said.Line → Type 0
 Stands line.Nothing l = l ≡ said.Nothing
 Stands (line.Config text) l = l ≡ said.ConfigLine text
+Stands (line.Nonce nonce) l = l ≡ said.NonceLine nonce
 Stands (line.Limit bytes) l = l ≡ said.LimitLine bytes
 Stands (line.Turns turns) l = l ≡ said.TurnsLine turns.items
 Stands line.Handle l = l ≡ said.HandleLine
 Stands (line.Step entry) l = (pieces : List (List ℕ)) × (l ≡ said.StepLine pieces) × (entry.items ≡ concat pieces)
 Stands (line.Cut bytes) l = l ≡ said.CutLine bytes
+Stands line.End l = l ≡ said.EndLine
 Stands (line.Command c) l = l ≡ said.CommandLine (command_of c)
 
 -- the words behind the first one of a line
 abbrev pub WordsOf : Keyword → said.Line → List (List ℕ) → Type 0
 WordsOf Config l words = (text : List ℕ) × (word : List ℕ) × (l ≡ said.ConfigLine text) × IsUtf8 text × IsQuoted text word × (words ≡ word ∷ [])
+WordsOf Nonce l words = (nonce : List ℕ) × (word : List ℕ) × (l ≡ said.NonceLine nonce) × IsQuoted nonce word × (words ≡ word ∷ [])
 WordsOf Limit l words = (n : ℕ) × (word : List ℕ) × (l ≡ said.LimitLine n) × IsNumber 9223372036854775807 n word × (words ≡ word ∷ [])
 WordsOf Turns l words = (turns : List ℕ) × (l ≡ said.TurnsLine turns) × AllZip (IsNumber 4294967295) turns words
 WordsOf Handle l words = (l ≡ said.HandleLine) × (words ≡ [])
 WordsOf Step l words = (pieces : List (List ℕ)) × (l ≡ said.StepLine pieces) × AllZip IsBytes pieces words
 WordsOf Cut l words = (n : ℕ) × (word : List ℕ) × (l ≡ said.CutLine n) × (1 ≤ n) × IsNumber 18446744073709551615 n word × (words ≡ word ∷ [])
+WordsOf End l words = (l ≡ said.EndLine) × (words ≡ [])
 WordsOf Simple l words = (text : List ℕ) × (word : List ℕ) × IsUtf8 text × IsQuoted text word ×
     (((l ≡ said.CommandLine (command.Simple text None)) × (words ≡ word ∷ []))
     ⊎ ((n : ℕ) × (number : List ℕ) × (l ≡ said.CommandLine (command.Simple text (Some n))) × IsNumber 18446744073709551615 n number

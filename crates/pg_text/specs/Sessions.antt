@@ -1,5 +1,5 @@
 -- What a session that was read asks for.
-use Rattle.std.specs.Prelude.{◌≡◌, ◌<◌, ◌≤◌, ◌⊎◌, ℕ, false, List, [], length, Some, None, Result, Ok, Err, codes}
+use Rattle.std.specs.Prelude.{◌≡◌, ◌<◌, ◌≤◌, ◌⊎◌, ℕ, false, List, [], length, Some, None, Result, Ok, Err}
 use Rattle.pg_spec.specs.SessionText.{IsRefusedAt, IsSessionText, SessionText}
 use Rattle.pg_text.specs.declared.session.Session.{Session}
 use Rattle.pg_text.specs.declared.session.TextFault.{TextFault}
@@ -12,19 +12,20 @@ use Rattle.pg_text.specs.Views.{scripts_of}
 abbrev pub session_of : Session → SessionText
 session_of s = record {
   config = s.config;
+  nonce = s.nonce;
   scripts = scripts_of s.scripts;
   turns = s.turns;
   limit = s.max_bytes;
   plan = s.link.entries;
   cut = s.link.cut;
+  ends = s.link.ends;
 }
 
--- its link has given and taken nothing yet and doesn't end, and its nonce is the one of a text that gives none
+-- its link has given and taken nothing yet
 pub record IsNew (s : Session) : Type 0 where
-  pub nonce : s.nonce ≡ codes "abcdefghijklmnopqrstuvwx"
   pub link : s.link ≡ record {
     entries = s.link.entries;
-    ends = false;
+    ends = s.link.ends;
     cut = s.link.cut;
     room = 8192;
     given = [];

@@ -1,7 +1,7 @@
 //! The lines of a session text.
 
 ghost use Rattle.std.specs.Prelude.{◌<◌, IfOk, IfSome, option_map};
-ghost use Rattle.pg_spec.specs.SessionText.{IsNumber};
+ghost use Rattle.pg_spec.specs.SessionText.{IsNumber, IsQuoted};
 ghost use Rattle.pg_text.specs.declared.line.Keyword.TheVariants as first;
 ghost use Rattle.pg_text.specs.Drafts.{HasCut};
 ghost use Rattle.pg_text.specs.Lines.{FirstWord, ReadsLine, ReadsRest, SaysSomething};
@@ -9,7 +9,7 @@ ghost use Rattle.pg_text.specs.Words.{AllBytes, AllWords, IsTextOf, IsUtf8Quoted
 
 use crate::command::Command;
 use crate::word::Words;
-use pg_types::{OutOfMemory, Text};
+use pg_types::{Blob, OutOfMemory, Text};
 use std::alloc::Global;
 
 /// What a line says.
@@ -18,11 +18,13 @@ pub(crate) enum Line {
     /// It is empty or a comment.
     Nothing,
     Config(Text),
+    Nonce(Blob),
     Limit(u64),
     Turns(Vec<u32>),
     Handle,
     Step(Vec<u8>),
     Cut(u64),
+    End,
     Command(Command),
 }
 
@@ -63,11 +65,13 @@ fn read_words(alloc: Global, line: &[u8]) -> Result<Option<Line>, OutOfMemory>
 #[derive(Clone, Copy, Drop)]
 enum Keyword {
     Config,
+    Nonce,
     Limit,
     Turns,
     Handle,
     Step,
     Cut,
+    End,
     Simple,
 }
 
@@ -77,6 +81,9 @@ fn keyword_of(word: &[u8]) -> Option<Keyword>
 {
     if word == b"config".as_slice() {
         return Some(Keyword::Config);
+    }
+    if word == b"nonce".as_slice() {
+        return Some(Keyword::Nonce);
     }
     if word == b"limit".as_slice() {
         return Some(Keyword::Limit);
@@ -92,6 +99,9 @@ fn keyword_of(word: &[u8]) -> Option<Keyword>
     }
     if word == b"cut".as_slice() {
         return Some(Keyword::Cut);
+    }
+    if word == b"end".as_slice() {
+        return Some(Keyword::End);
     }
     if word == b"simple".as_slice() {
         return Some(Keyword::Simple);
@@ -110,11 +120,13 @@ fn read_rest(
 {
     match keyword {
         Keyword::Config => config_line(alloc, words),
+        Keyword::Nonce => nonce_line(alloc, words),
         Keyword::Limit => Ok(limit_line(words)),
         Keyword::Turns => turns_line(alloc, words),
         Keyword::Handle => Ok(handle_line(words)),
         Keyword::Step => step_line(alloc, words),
         Keyword::Cut => Ok(cut_line(words)),
+        Keyword::End => Ok(end_line(words)),
         Keyword::Simple => simple_line(alloc, words),
     }
 }
@@ -127,6 +139,17 @@ fn config_line(alloc: Global, words: &mut Words) -> Result<Option<Line>, OutOfMe
         Some(text) => Ok(Some(Line::Config(text))),
         None => Ok(None),
     }
+}
+
+/// A nonce, of any bytes: whether it is in form the session says.
+fn nonce_line(alloc: Global, words: &mut Words) -> Result<Option<Line>, OutOfMemory>
+    ensures line { IfOk result (λ found. ReadsRest first.Nonce words.old found) }
+    ensures cut { IfOk result (λ found. IfSome found HasCut) }
+{
+    let Some(nonce) = only_quoted(alloc, words)? else {
+        return Ok(None);
+    };
+    Ok(Some(Line::Nonce(Blob::new(nonce))))
 }
 
 fn limit_line(words: &mut Words) -> Option<Line>
@@ -180,6 +203,17 @@ fn cut_line(words: &mut Words) -> Option<Line>
     }
 }
 
+fn end_line(words: &Words) -> Option<Line>
+    ensures line { ReadsRest first.End words.now result }
+    ensures cut { IfSome result HasCut }
+{
+    if words.is_done() {
+        Some(Line::End)
+    } else {
+        None
+    }
+}
+
 /// `TEXT`, or `TEXT take N`.
 fn simple_line(alloc: Global, words: &mut Words) -> Result<Option<Line>, OutOfMemory>
     ensures line { IfOk result (λ found. ReadsRest first.Simple words.old found) }
@@ -224,6 +258,20 @@ fn only_number(words: &mut Words, most: u64) -> Option<u64>
 {
     let number = words.number(most);
     if words.is_done() { number } else { None }
+}
+
+/// A text in quotes, of any bytes, and nothing behind it.
+fn only_quoted(alloc: Global, words: &mut Words) -> Result<Option<Vec<u8>>, OutOfMemory>
+    ensures { IfOk result (λ found. OneWord IsQuoted words.old (option_map (λ bytes. bytes.items) found)) }
+{
+    let Some(bytes) = words.text(alloc)? else {
+        return Ok(None);
+    };
+    if words.is_done() {
+        Ok(Some(bytes))
+    } else {
+        Ok(None)
+    }
 }
 
 /// A text in quotes that is UTF-8, and nothing behind it.

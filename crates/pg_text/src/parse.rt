@@ -2,6 +2,7 @@
 
 ghost use Rattle.std.specs.Prelude.{◌≡◌, ◌<◌, ◌+◌, ◌-◌, ◌^◌, ◌∷◌, ◌++◌, [], ℕ, length, EachIndex, IfOk, IfSome, MatchOption, OnOk, ◌↔◌, ◌≢◌, slice_index, unwrap_or, true, false};
 ghost use Rattle.pg_spec.specs.SessionText as said;
+ghost use Rattle.pg_spec.specs.SessionText.{default_nonce};
 ghost use Rattle.pg_wire.specs.Giving.{lists};
 ghost use Rattle.pg_text.specs.Drafts.{AddsLast, HasCut, IsEmpty, IsWithin, ReadsOn, Steps, so_far, with_entry, with_line, with_read};
 ghost use Rattle.pg_text.specs.Sessions.{Finishes, ReadsText};
@@ -32,8 +33,10 @@ const DEFAULT_NONCE: &[u8] = b"abcdefghijklmnopqrstuvwx";
 #[derive(Drop)]
 struct Draft {
     config: Option<Text>,
+    nonce: Option<Blob>,
     limit: Option<u64>,
     cut: Option<u64>,
+    ends: bool,
     turns: Vec<u32>,
     plan: Vec<Vec<u8>>,
     scripts: Vec<List<Command>>,
@@ -92,8 +95,10 @@ impl Draft {
     {
         Draft {
             config: None,
+            nonce: None,
             limit: None,
             cut: None,
+            ends: false,
             turns: Vec::new(alloc),
             plan: Vec::new(alloc),
             scripts: Vec::new(alloc),
@@ -123,8 +128,10 @@ impl Draft {
         match line {
             Line::Nothing => Ok(true),
             Line::Config(text) => Ok(self.set_config(text)),
+            Line::Nonce(nonce) => Ok(self.set_nonce(nonce)),
             Line::Limit(limit) => Ok(self.set_limit(limit)),
             Line::Cut(cut) => Ok(self.set_cut(cut)),
+            Line::End => Ok(self.set_end()),
             Line::Turns(turns) => self.add_turns(turns),
             Line::Step(entry) => self.add_entry(entry),
             Line::Handle => self.add_script(alloc),
@@ -142,6 +149,19 @@ impl Draft {
                 self.config = Some(text);
                 true
             }
+        }
+    }
+
+    fn set_nonce(&mut self, nonce: Blob) -> bool
+        ensures steps { Steps (with_line (said.NonceLine nonce) (so_far self.old)) result (so_far self.new) }
+        ensures within { (n : ℕ) → IsWithin n self.old → IsWithin (n + 1) self.new }
+    {
+        match (&self.config, &self.nonce) {
+            (Some(_), None) => {
+                self.nonce = Some(nonce);
+                true
+            }
+            _ => false,
         }
     }
 
@@ -169,6 +189,20 @@ impl Draft {
                 true
             }
             _ => false,
+        }
+    }
+
+    /// The link ends behind its plan.
+    fn set_end(&mut self) -> bool
+        ensures steps { Steps (with_line said.EndLine (so_far self.old)) result (so_far self.new) }
+        ensures within { (n : ℕ) → IsWithin n self.old → IsWithin (n + 1) self.new }
+    {
+        match &self.config {
+            Some(_) => {
+                self.ends = true;
+                true
+            }
+            None => false,
         }
     }
 
@@ -234,8 +268,10 @@ impl Draft {
     {
         let Draft {
             config,
+            nonce,
             limit,
             cut,
+            ends,
             turns,
             plan,
             scripts,
@@ -246,14 +282,13 @@ impl Draft {
         let Ok(scripts) = Scripts::new(List::new(scripts)) else {
             return Err(TextFault::Line(number));
         };
-        let nonce = Blob::from_slice(alloc, DEFAULT_NONCE)?;
         Ok(Session {
             config,
             scripts,
             turns: List::new(turns),
-            nonce,
+            nonce: nonce_or_default(alloc, nonce)?,
             max_bytes: limit.unwrap_or(DEFAULT_LIMIT),
-            link: new_link(alloc, plan, cut),
+            link: new_link(alloc, plan, cut, ends),
         })
     }
 }
@@ -278,12 +313,22 @@ fn push_command(script: &mut List<Command>, command: Command) -> Result<bool, Ou
     Ok(true)
 }
 
-/// The link that gives this plan, at most `cut` bytes a read.
-fn new_link(alloc: Global, plan: Vec<Vec<u8>>, cut: Option<u64>) -> MemoryLink
+/// The nonce that the text gives, or the default.
+fn nonce_or_default(alloc: Global, nonce: Option<Blob>) -> Result<Blob, OutOfMemory>
+    ensures { IfOk result (λ given. given ≡ unwrap_or nonce default_nonce) }
+{
+    match nonce {
+        Some(nonce) => Ok(nonce),
+        None => Blob::from_slice(alloc, DEFAULT_NONCE),
+    }
+}
+
+/// The link that gives this plan, at most `cut` bytes a read, and then its end, if it `ends`.
+fn new_link(alloc: Global, plan: Vec<Vec<u8>>, cut: Option<u64>, ends: bool) -> MemoryLink
     requires { IfSome cut (λ cut. 0 < cut) }
     ensures { result ≡ record {
       entries = lists plan.items;
-      ends = false;
+      ends = ends;
       cut = unwrap_or cut 8192;
       room = 8192;
       given = [];
@@ -301,5 +346,5 @@ fn new_link(alloc: Global, plan: Vec<Vec<u8>>, cut: Option<u64>) -> MemoryLink
         Some(cut) => cut as usize,
         None => DEFAULT_PIECE,
     };
-    MemoryLink::new(alloc, plan, cut, DEFAULT_PIECE, false)
+    MemoryLink::new(alloc, plan, cut, DEFAULT_PIECE, ends)
 }
