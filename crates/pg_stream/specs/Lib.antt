@@ -1,0 +1,4 @@
+pub mod Answers
+pub mod Aheads
+pub mod Streams
+pub mod Tallies
