@@ -1,24 +1,27 @@
 -- A session that must end well does so, and so does the program that plays it.
-use Rattle.std.proofs.Common.{◌≡◌, ◌≤◌, ◌+◌, ◌⊎◌, ℕ, inl, inr, List, [], length, Option, Some, None, Result, Ok, Err, IfErr, refl, ap, subst, ◌∙◌, arith}
+use Rattle.std.proofs.Common.{◌≡◌, ◌≤◌, ◌+◌, ◌⊎◌, ℕ, inl, inr, List, [], ◌∷◌, length, codes, Option, Some, None, Result, Ok, Err, IfErr, refl, sym, ◌∙◌, ap, subst, arith}
 use Rattle.std.specs.Prelude.{IfSome}
-use Rattle.pg_promises.specs.Causes.{Call, HasCause}
+use Rattle.pg_promises.specs.Causes.{Call, HasCause, startup_after}
 use Rattle.pg_spec.specs.Faults.{Failure, OutOfMemory}
 use Rattle.pg_spec.specs.Links.{LinkView, Plan, Rose, added}
-use Rattle.pg_promises.specs.Promises.{Conforms, EndsWell, IsValid, MustEndWell, SentInOrder, requests_in}
+use Rattle.pg_promises.specs.Promises.{AnswersStartup, EndsWell, IsValid, MustEndWell, SentInOrder, requests_in}
 use Rattle.pg_spec.specs.ReportText.{report_text}
 use Rattle.pg_spec.specs.Sent.{turns_given}
 use Rattle.pg_spec.specs.SessionText.{SessionText, IsSessionText}
-use Rattle.pg_spec.specs.Settings.{Settings, only_user}
+use Rattle.pg_spec.specs.Settings.{Settings}
 use Rattle.pg_promises.proofs.Strings.{means_one}
 use Rattle.pg_wire.specs.LinkCalls.{Continues, Tells}
 use Rattle.pg_wire.specs.Streams.{SinkView}
 use Rattle.pg_faults.specs.declared.error.Error.{Error}
 use Rattle.pg_text.specs.declared.report.Report.{Report}
 use Rattle.pg_text.proofs.ReadLaws.{one_session, refused_is_none}
-use Rattle.pg_session.proofs.Complete.Course.{must-end-well, of-some}
+use Rattle.pg_session.proofs.Complete.Course.{few-frames, in-plan, must-end-well, of-some}
 use Rattle.pg_session.proofs.SentSoFar.TurnsAsked.{few-turns}
 use Rattle.pg_tool.specs.Reading.{longest_text, ReadWhole}
-use Rattle.pg_tool.specs.RunContract.{EndsWith, IsPlayed, IsWellMade, MustPlay, PlayedSession, PlayedText, Run, SaysResult, call_of, new_link, plan_of}
+use Rattle.pg_tool.specs.RunContract.{EndsWith, IsOver, IsPlayed, IsWellMade, MustPlay, PlayedSession, PlayedText, Run, SaysResult, call_of, new_link, plan_of}
+use Rattle.pg_tool.specs.Words.{Asks, play}
+use Rattle.pg_tool.specs.declared.over.Over.{Over}
+use Rattle.pg_tool.specs.declared.over.Over.TheVariants as over
 use Rattle.pg_tool.specs.SessionContract.{SendsInOrder, SessionResult, result_of}
 
 -- by what a session answered
@@ -31,19 +34,16 @@ must_all call (Err e) before after goes sent causes = must-end-well call e befor
 
 -- a call that ended elsewhere was asked the same
 same_valid : (text : SessionText) (a b : LinkView) (s : Settings) (plan : Plan) → IsValid (call_of text a) s plan → IsValid (call_of text b) s plan
-same_valid text a b s plan v = record { user = v.user; alone = v.alone; nonce = v.nonce; frame = v.frame; no_tls = v.no_tls; no_binding = v.no_binding; limit = v.limit }
+same_valid text a b s plan v = record { user = v.user; nonce = v.nonce; frame = v.frame; no_tls = v.no_tls; no_binding = v.no_binding; limit = v.limit }
 
-same_conforms : (text : SessionText) (a b : LinkView) (s : Settings) (plan : Plan) (taken : List ℕ) → Conforms (call_of text a) s plan taken → Conforms (call_of text b) s plan taken
-same_conforms text a b s plan taken c = record {
+abbrev same_startup : (text : SessionText) (a b : LinkView) (s : Settings) (plan : Plan) → AnswersStartup (call_of text a) s plan → AnswersStartup (call_of text b) s plan
+same_startup text a b s plan c = record {
   untroubled = c.untroubled;
-  entries = c.entries;
   whole = c.whole;
   frames = c.frames;
   started = c.started;
   each_frame = c.each_frame;
   all_frames = c.all_frames;
-  plain = c.plain;
-  replies = c.replies;
   readable = c.readable;
 }
 
@@ -52,26 +52,32 @@ only_memory : (failure : Failure) → EndsWell (Err failure) → failure ≡ Out
 only_memory OutOfMemory well = refl
 only_memory _ well = absurd well
 
--- what was sent gave no more turns than the text's requests
-few_turns : (text : SessionText) (result : SessionResult) (failure : Failure) (p : IsPlayed text result) → result ≡ Err failure → IsWellMade text →
-    turns_given p.taken ≤ 1 + requests_in text.scripts
+-- what was sent gave no more turns than the startup has frames, and the text requests
+few_turns : (text : SessionText) (result : SessionResult) (failure : Failure) (p : IsPlayed text result) → result ≡ Err failure → (made : IsWellMade text) →
+    turns_given p.taken ≤ made.opens.frames + requests_in text.scripts
 few_turns text result failure p is made =
     let call = call_of text p.after in
     let sent : SendsInOrder call (Err failure) = subst (SendsInOrder call) is p.session.sent in
     let crossed = sent (made.settings, made.means, tt) in
-    let user = made.valid.alone.0 in
-    let is_user : crossed.0 ≡ only_user user = means_one text.config crossed.0 made.settings crossed.1 made.means ∙ made.valid.alone.1 in
+    let same : crossed.0 ≡ made.settings = means_one text.config crossed.0 made.settings crossed.1 made.means in
     let gave : added (Some []) p.after.given ≡ Some p.given = ap (λ o. added (Some []) o) p.told_given in
     let took : added (Some []) p.after.taken ≡ Some p.taken = ap (λ o. added (Some []) o) p.told_taken in
     let t = of-some (added (Some []) p.after.taken) p.taken (λ t. SentInOrder call crossed.0 p.given t) took
     (of-some (added (Some []) p.after.given) p.given (λ g. IfSome (added (Some []) p.after.taken) (λ t. SentInOrder call crossed.0 g t)) gave crossed.2) in
-    (few-turns call user p.given p.taken (subst (λ (x : Settings). SentInOrder call x p.given p.taken) is_user t)).requests
+    let few = (few-turns call made.settings p.given p.taken made.valid.no_tls (subst (λ (x : Settings). SentInOrder call x p.given p.taken) same t)).requests in
+    let most : length (startup_after call made.settings p.given).frames ≤ made.opens.frames =
+    few-frames call made.settings (plan_of text) p.taken p.given (same_startup text (new_link text) p.after made.settings (plan_of text) made.opens)
+    (in-plan call (plan_of text) p.taken p.session.link refl refl refl p.told_taken p.given p.told_given) in
+    omega (arith, few, most)
 
 ends_well : (text : SessionText) (result : SessionResult) (failure : Failure) → IsPlayed text result → result ≡ Err failure → IsWellMade text → EndsWell (Err failure)
 ends_well text result failure p is made =
     subst EndsWell is
     (p.session.must_end_well (plan_of text) made.settings p.taken refl refl refl p.told_taken made.means (same_valid text (new_link text) p.after made.settings (plan_of text) made.valid)
-    (same_conforms text (new_link text) p.after made.settings (plan_of text) p.taken (made.conforms p.taken (few_turns text result failure p is made))))
+    (record {
+      opens = same_startup text (new_link text) p.after made.settings (plan_of text) made.opens;
+      later = made.conforms p.taken (few_turns text result failure p is made);
+    }))
 
 -- the text due was written, or memory lacked
 ends_so : (old new : SinkView) (text : List ℕ) (status : ℕ) → EndsWith old new text 0 status → (status ≡ 4 → ⊥) → (status ≡ 0) ⊎ (status ≡ 5)
@@ -79,23 +85,31 @@ ends_so old new text status (inl wrote) calm = inl wrote.0
 ends_so old new text status (inr (inl four, front)) calm = absurd (calm four)
 ends_so old new text status (inr (inr five, front)) calm = inr five
 
-result_so : (text : SessionText) (old new : SinkView) (status : ℕ) (result : SessionResult) → PlayedSession text old new status result → IsWellMade text →
+result_so : (text : SessionText) (old new : SinkView) (status : ℕ) (result : SessionResult) → PlayedSession IsPlayed text old new status result → IsWellMade text →
     (Rose old.faults new.faults → ⊥) → (status ≡ 0) ⊎ (status ≡ 5)
 result_so text old new status (Ok report) played made calm = ends_so old new (report_text report) status played.answered.says (λ four. calm (played.answered.sink_failed four))
 result_so text old new status (Err failure) played made calm =
     let memory = only_memory failure (ends_well text (Err failure) failure played.played refl made) in
     inr (subst (λ (f : Failure). SaysResult old new status (Err f)) memory played.answered.says).0
 
-text_so : (bytes : List ℕ) (text : SessionText) (old new : SinkView) (status : ℕ) (result : Option SessionResult) → PlayedText bytes old new status result → length bytes ≤ longest_text →
+text_so : (bytes : List ℕ) (text : SessionText) (old new : SinkView) (status : ℕ) (result : Option SessionResult) → PlayedText IsPlayed bytes old new status result → length bytes ≤ longest_text →
     IsSessionText bytes text → IsWellMade text → (Rose old.faults new.faults → ⊥) → (status ≡ 0) ⊎ (status ≡ 5)
 text_so bytes text old new status (Some result) played within is made calm =
-    result_so text old new status result (subst (λ (t : SessionText). PlayedSession t old new status result) (one_session bytes played.0 text played.1 is) played.2) made calm
+    result_so text old new status result (subst (λ (t : SessionText). PlayedSession IsPlayed t old new status result) (one_session bytes played.0 text played.1 is) played.2) made calm
 text_so bytes text old new status None (inl (None, long, wrote)) within is made calm = absurd (omega (arith, long, within))
 text_so bytes text old new status None (inl (Some n, refused, wrote)) within is made calm = absurd (refused_is_none bytes n text refused is)
 text_so bytes text old new status None (inr nothing) within is made calm = inr nothing.0
 
+-- over its own link
+own_text : (a b : LinkView) (bytes : List ℕ) (old new : SinkView) (status : ℕ) (result : Option SessionResult) → PlayedText (IsOver over.Own a b) bytes old new status result → PlayedText IsPlayed bytes old new status result
+own_text a b bytes old new status None played = played
+own_text a b bytes old new status (Some result) played = (played.0, played.1, record { answered = played.2.answered; played = played.2.played.0 })
+
 -- a text was read and played
-pub must_text : (run : Run) (bytes : List ℕ) → ReadWhole run.source_before bytes → PlayedText bytes run.sink_before run.sink_after run.status run.result → MustPlay run
-must_text run bytes read played told text words left within is made calm_source calm_sink =
+pub must_text : (run : Run) (which : Over) (bytes : List ℕ) → Asks run.words which → ReadWhole run.source_before bytes →
+    PlayedText (IsOver which run.link_before run.link_after) bytes run.sink_before run.sink_after run.status run.result → MustPlay run
+must_text run over.Own bytes asks read played told text words left within is made calm_source calm_sink =
     let same : told ≡ bytes = of-some run.source_before.left told (λ l. l ≡ bytes) left read.all in
-    text_so bytes text run.sink_before run.sink_after run.status run.result played read.within (subst (λ (l : List ℕ). IsSessionText l text) same is) made calm_sink
+    text_so bytes text run.sink_before run.sink_after run.status run.result (own_text run.link_before run.link_after bytes run.sink_before run.sink_after run.status run.result played) read.within
+    (subst (λ (l : List ℕ). IsSessionText l text) same is) made calm_sink
+must_text run over.Handed bytes asks read played told text words left within is made calm_source calm_sink = absurd (let no : play ≡ codes "pipe" ∷ asks.0 ∷ asks.1 ∷ [] = sym words ∙ asks.2 in cc)

@@ -8,7 +8,6 @@ use Rattle.pg_connect.proofs.Calm.{calm_same}
 use Rattle.pg_faults.specs.declared.error.Error.{Error}
 use Rattle.pg_faults.specs.declared.error.Error.TheVariants as error
 use Rattle.pg_session.specs.Failures.{PauseFails}
-use Rattle.pg_tool.specs.Asked.{ConfigIsNotBuilt}
 use Rattle.pg_tool.specs.Plays.{Crosses, IsLater}
 use Rattle.pg_tool.proofs.Following.{continues_same}
 
@@ -33,7 +32,3 @@ crosses_none l r memory = crosses_poll l l r (continues_same l) (calm_same l) me
 pub pause_later : (from to : ℕ) (waited : Bool) (l m : LinkView) (e : Error) → PauseFails from to waited l m e → IsLater e
 pause_later from to waited l m (error.Config cause) fails = absurd fails
 pause_later from to waited l m _ fails = tt
-
-pub later_config : (e : Error) → IsLater e → ConfigIsNotBuilt e
-later_config (error.Config cause) later = absurd later
-later_config _ later = tt

@@ -21,3 +21,4 @@ pub mod Crossing
 pub mod Completing
 pub mod WellMade
 pub mod Neither
+pub mod Requiring

@@ -3,13 +3,13 @@ use Rattle.std.proofs.Common.{◌≡◌, ◌<◌, ◌≤◌, ℕ, List, length, 
 use Rattle.std.specs.Prelude.{IfSome}
 use Rattle.pg_promises.specs.Causes.{Call, HasCause, Unless}
 use Rattle.pg_promises.specs.ConnectionStrings.{Means}
-use Rattle.pg_spec.specs.Settings.{only_user}
+use Rattle.pg_spec.specs.Settings.{Settings}
 use Rattle.pg_spec.specs.Faults.{LimitReached}
 use Rattle.pg_spec.specs.Links.{LinkView, OfBytes, added}
 use Rattle.pg_spec.specs.Report as told
 use Rattle.pg_faults.specs.declared.error.Error.{Error}
 use Rattle.pg_faults.specs.declared.error.Error.TheVariants as error
-use Rattle.pg_connect.specs.declared.startup.Startup.{Startup}
+use Rattle.pg_startup.specs.declared.startup.Startup.{Startup}
 use Rattle.pg_session.proofs.Caused.{broken-limit}
 use Rattle.pg_session.proofs.LimitsKept.{HoldsLimit, holds-ended, holds-failed, holds-stopped, holds-untouched}
 use Rattle.pg_text.specs.declared.command.Command.{Command}
@@ -62,28 +62,28 @@ keeps_limit call (Err e) ended holds causes = failed_so call e holds causes
 
 -- ---- a session that ended well
 
-pub ended_within : (user nonce : List ℕ) (scripts : List (List Command)) (given : List ℕ) (limit : ℕ) (before after : LinkView) (r : Result Report Error) →
-    IfOk r (PlaysWithin user nonce scripts given limit before after) → IfOk r (λ report. OfBytes before after (λ g t. length g ≤ limit))
-ended_within user nonce scripts given limit before after (Err e) played = tt
-ended_within user nonce scripts given limit before after (Ok report) played = holds-ended user nonce scripts given before after report limit played.0 played.1
+pub ended_within : (settings : Settings) (nonce : List ℕ) (scripts : List (List Command)) (given : List ℕ) (limit : ℕ) (before after : LinkView) (r : Result Report Error) →
+    IfOk r (PlaysWithin settings nonce scripts given limit before after) → IfOk r (λ report. OfBytes before after (λ g t. length g ≤ limit))
+ended_within settings nonce scripts given limit before after (Err e) played = tt
+ended_within settings nonce scripts given limit before after (Ok report) played = holds-ended settings nonce scripts given before after report limit played.0 played.1
 
 -- ---- a session that failed
 
-start_holds : (call : Call) (user : List ℕ) (s : Startup) (e : Error) → s.max_bytes ≡ call.limit → OpenEnds user call.nonce call.before call.after s (Err e) → HoldsLimit call e
-start_holds call user s (error.Stalled before after) limit ends = holds-stopped call user s before after limit ends
-start_holds call user s _ limit ends = holds-failed call user s _ limit ends
+start_holds : (call : Call) (settings : Settings) (s : Startup) (e : Error) → s.bytes.max_bytes ≡ call.limit → OpenEnds settings call.nonce call.before call.after s (Err e) → HoldsLimit call e
+start_holds call settings s (error.Stalled before after) limit ends = holds-stopped call settings s before after limit ends
+start_holds call settings s _ limit ends = holds-failed call settings s _ limit ends
 
-holds_by : (config user nonce : List ℕ) (scripts : List (List Command)) (turns : List ℕ) (limit : ℕ) (before after : LinkView) (e : Error) → Means config (only_user user) →
-    SessionFails user nonce scripts limit before after e → HoldsLimit (call_of config nonce scripts turns limit before after) e
-holds_by config user nonce scripts turns limit before after e means (inl lacks) =
+holds_by : (config : List ℕ) (settings : Settings) (nonce : List ℕ) (scripts : List (List Command)) (turns : List ℕ) (limit : ℕ) (before after : LinkView) (e : Error) → Means config settings →
+    SessionFails settings nonce scripts limit before after e → HoldsLimit (call_of config nonce scripts turns limit before after) e
+holds_by config settings nonce scripts turns limit before after e means (inl lacks) =
     subst (λ (x : Error). HoldsLimit (call_of config nonce scripts turns limit before after) x) (sym lacks.memory) tt
-holds_by config user nonce scripts turns limit before after e means (inr (inl made)) = holds-untouched (call_of config nonce scripts turns limit before after) e made.1
-holds_by config user nonce scripts turns limit before after e means (inr (inr (inl start))) =
-    start_holds (call_of config nonce scripts turns limit before after) user start.startup e start.limited start.ends
-holds_by config user nonce scripts turns limit before after e means (inr (inr (inr later))) =
-    broken-limit (call_of config nonce scripts turns limit before after) user scripts e means later.broken later.limited
+holds_by config settings nonce scripts turns limit before after e means (inr (inl made)) = holds-untouched (call_of config nonce scripts turns limit before after) e made.1
+holds_by config settings nonce scripts turns limit before after e means (inr (inr (inl start))) =
+    start_holds (call_of config nonce scripts turns limit before after) settings start.startup e start.limited start.ends
+holds_by config settings nonce scripts turns limit before after e means (inr (inr (inr later))) =
+    broken-limit (call_of config nonce scripts turns limit before after) settings scripts e means later.broken later.limited
 
-pub holds_all : (config user nonce : List ℕ) (scripts : List (List Command)) (turns : List ℕ) (limit : ℕ) (before after : LinkView) (r : Result Report Error) → Means config (only_user user) →
-    IfErr r (SessionFails user nonce scripts limit before after) → IfErr r (HoldsLimit (call_of config nonce scripts turns limit before after))
-holds_all config user nonce scripts turns limit before after (Ok report) means fails = tt
-holds_all config user nonce scripts turns limit before after (Err e) means fails = holds_by config user nonce scripts turns limit before after e means fails
+pub holds_all : (config : List ℕ) (settings : Settings) (nonce : List ℕ) (scripts : List (List Command)) (turns : List ℕ) (limit : ℕ) (before after : LinkView) (r : Result Report Error) → Means config settings →
+    IfErr r (SessionFails settings nonce scripts limit before after) → IfErr r (HoldsLimit (call_of config nonce scripts turns limit before after))
+holds_all config settings nonce scripts turns limit before after (Ok report) means fails = tt
+holds_all config settings nonce scripts turns limit before after (Err e) means fails = holds_by config settings nonce scripts turns limit before after e means fails

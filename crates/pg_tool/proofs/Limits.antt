@@ -2,7 +2,7 @@
 use Rattle.std.proofs.Common.{◌≡◌, ℕ, ◌^◌, ◌<◌, Bool, true, false, cond, List, [], ◌∷◌, filter, Option, Some, None, subst, arith}
 use Rattle.std.specs.Prelude.{filter_map}
 use Rattle.std.specs.List.{AllByRecursion, AllZip, cons_option}
-use Rattle.pg_spec.specs.SessionText.{Line, Nothing, ConfigLine, LimitLine, TurnsLine, HandleLine, StepLine, CutLine, CommandLine, Spells, SessionText, IsSessionText, is_said, limit_of, one_or}
+use Rattle.pg_spec.specs.SessionText.{Line, Nothing, ConfigLine, NonceLine, EndLine, LimitLine, TurnsLine, HandleLine, StepLine, CutLine, CommandLine, Spells, SessionText, IsSessionText, is_said, limit_of, one_or}
 
 -- a number, if it is one, fits
 abbrev IsWithin : Option ℕ → Type 0
@@ -16,6 +16,8 @@ HasLimit line = IsWithin (limit_of line)
 within_line : (line : Line) (spelled : List ℕ) → Spells line spelled → HasLimit line
 within_line Nothing spelled is = tt
 within_line (ConfigLine text) spelled is = tt
+within_line (NonceLine nonce) spelled is = tt
+within_line EndLine spelled is = tt
 within_line (LimitLine n) spelled is = omega (arith, is.1.2)
 within_line (TurnsLine turns) spelled is = tt
 within_line HandleLine spelled is = tt

@@ -1,12 +1,12 @@
 -- Each text is that of a session or is refused at one of its lines.
-use Rattle.std.proofs.Common.{◌+◌, ◌++◌, ◌∷◌, ℕ, List, [], length, refl, sym, subst, append_assoc}
-use Rattle.pg_spec.specs.SessionText.{AreLines, ConfigLine, IsRefusedAt, IsSessionText, MayBegin, SessionText}
+use Rattle.std.proofs.Common.{◌+◌, ◌++◌, ◌∷◌, ℕ, false, List, [], length, refl, sym, subst, append_assoc}
+use Rattle.pg_spec.specs.SessionText.{AreLines, ConfigLine, IsRefusedAt, IsSessionText, MayBegin, SessionText, default_nonce}
 use Rattle.pg_text.proofs.TextLaws.{are_lines}
 use Rattle.pg_text.specs.Texts.{lines_of}
 
 -- the session of a `config` line alone
 abbrev bare : SessionText
-bare = record { config = []; scripts = []; turns = []; limit = 16777216; plan = []; cut = 8192 }
+bare = record { config = []; nonce = default_nonce; scripts = []; turns = []; limit = 16777216; plan = []; cut = 8192; ends = false }
 
 -- every text may begin as one that says nothing yet
 begins_so : MayBegin []
@@ -15,7 +15,7 @@ begins_so = (
   ConfigLine [] ∷ [],
   bare,
   tt,
-  record { others = []; first = refl; one_config = refl; limit = refl; cut = refl; turns = refl; plan = refl; scripts = refl },
+  record { others = []; first = refl; one_config = refl; nonce = refl; limit = refl; cut = refl; ends = refl; turns = refl; plan = refl; scripts = refl },
 )
 
 module _ (text : List ℕ) (none : (s : SessionText) → IsSessionText text s → ⊥) (good : (n : ℕ) → IsRefusedAt text n → ⊥) where

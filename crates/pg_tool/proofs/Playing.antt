@@ -1,11 +1,11 @@
 -- A session that was played over a link in memory.
-use Rattle.std.proofs.Common.{◌≡◌, ℕ, zero, suc, List, [], ◌∷◌, ◌++◌, take, drop, take-append-drop, append_assoc, Option, Some, None, IfOk, Result, Ok, Err, refl, sym, ap, subst, ◌∙◌}
+use Rattle.std.proofs.Common.{◌≡◌, ℕ, Bool, true, false, if◌then◌else◌, zero, suc, List, [], ◌∷◌, ◌++◌, take, drop, take-append-drop, append_assoc, Option, Some, None, IfOk, Result, Ok, Err, refl, sym, ap, subst, ◌∙◌}
 use Rattle.std.specs.List.{concat}
 use Rattle.pg_promises.specs.Causes.{Call}
 use Rattle.pg_spec.specs.Links.{LinkView, Plan}
 use Rattle.pg_wire.specs.declared.memory_link.MemoryLink.TheInside.{Inside}
 use Rattle.pg_wire.specs.Giving.{bytes_before, entries_of, entry_of}
-use Rattle.pg_wire.specs.Memory.{Memory, link_of, tells}
+use Rattle.pg_wire.specs.Memory.{Memory, as_count, link_of, tells}
 use Rattle.pg_wire.specs.MemoryLinks.{memory_of}
 use Rattle.pg_text.specs.declared.session.Session.{Session}
 use Rattle.pg_text.specs.Sessions.{IsNew, session_of}
@@ -13,9 +13,9 @@ use Rattle.pg_text.specs.Views.{scripts_of}
 use Rattle.pg_faults.specs.declared.error.Error.{Error}
 use Rattle.pg_promises.specs.ConnectionStrings.{Means}
 use Rattle.pg_session.specs.Sessions.{HasPlayed}
-use Rattle.pg_spec.specs.Settings.{only_user}
+use Rattle.pg_spec.specs.Settings.{Settings}
 use Rattle.pg_text.specs.declared.report.Report.{Report}
-use Rattle.pg_tool.specs.RunContract.{IsPlayed, WasPlayed, call_of, default_nonce}
+use Rattle.pg_tool.specs.RunContract.{IsPiped, IsPlayed, WasPlayed, call_of, call_over, new_link}
 use Rattle.pg_tool.specs.SessionContract.{SessionContract, result_of}
 
 -- the bytes before a place are a front of the plan's
@@ -45,6 +45,15 @@ abbrev told_entries : Option Plan → List (List ℕ)
 told_entries None = []
 told_entries (Some plan) = plan.entries
 
+-- a count of the ends that were given: none was
+no_end : (ends : Bool) → (if ends then as_count 0 else 0) ≡ 0
+no_end true = refl
+no_end false = refl
+
+-- the link of a new session is that of its text
+link_is : (s : Session) → IsNew s → link_of s.link ≡ new_link (session_of s)
+link_is s new = ap link_of new.link ∙ ap (λ (n : ℕ). record (new_link (session_of s)) { ends = n }) (no_end s.link.ends)
+
 -- the call of `run_session` for a session, with these texts and turns
 abbrev pub asked : (config nonce turns : List ℕ) → Session → LinkView → Call
 asked config nonce turns s after = record {
@@ -62,32 +71,32 @@ asked_is : (config nonce turns : List ℕ) (s : Session) (after : LinkView) → 
     asked config nonce turns s after ≡ call_of (session_of s) after
 asked_is config nonce turns s after new config_is nonce_is turns_is =
     ap (λ (v : List ℕ). asked v nonce turns s after) config_is
-    ∙ ap (λ (v : List ℕ). asked s.config v turns s after) (nonce_is ∙ new.nonce)
-    ∙ ap (λ (v : List ℕ). asked s.config default_nonce v s after) turns_is
-    ∙ ap (λ (m : Memory). record (call_of (session_of s) after) { before = link_of m }) new.link
+    ∙ ap (λ (v : List ℕ). asked s.config v turns s after) nonce_is
+    ∙ ap (λ (v : List ℕ). asked s.config s.nonce v s after) turns_is
+    ∙ ap (λ (l : LinkView). record (call_of (session_of s) after) { before = l }) (link_is s new)
 
 -- it was played turn by turn, of the text
 was_played : (config nonce turns : List ℕ) (s : Session) (m : Memory) (r : Result Report Error) → IsNew s → config ≡ s.config → nonce ≡ s.nonce → turns ≡ s.turns →
-    IfOk r (λ told. (user : List ℕ) × Means config (only_user user) × HasPlayed user nonce s.scripts turns (link_of s.link) (link_of m) told) →
-    WasPlayed (session_of s) (link_of m) (result_of r)
+    IfOk r (λ told. (settings : Settings) × Means config settings × HasPlayed settings nonce s.scripts turns (link_of s.link) (link_of m) told) →
+    WasPlayed (session_of s) (new_link (session_of s)) (link_of m) (result_of r)
 was_played config nonce turns s m (Err e) new config_is nonce_is turns_is played = tt
 was_played config nonce turns s m (Ok told) new config_is nonce_is turns_is played =
-    let named : HasPlayed played.0 default_nonce s.scripts turns (link_of s.link) (link_of m) told =
-    subst (λ (v : List ℕ). HasPlayed played.0 v s.scripts turns (link_of s.link) (link_of m) told) (nonce_is ∙ new.nonce) played.2 in
-    let turned : HasPlayed played.0 default_nonce s.scripts s.turns (link_of s.link) (link_of m) told =
-    subst (λ (v : List ℕ). HasPlayed played.0 default_nonce s.scripts v (link_of s.link) (link_of m) told) turns_is named in (
+    let named : HasPlayed played.0 s.nonce s.scripts turns (link_of s.link) (link_of m) told =
+    subst (λ (v : List ℕ). HasPlayed played.0 v s.scripts turns (link_of s.link) (link_of m) told) nonce_is played.2 in
+    let turned : HasPlayed played.0 s.nonce s.scripts s.turns (link_of s.link) (link_of m) told =
+    subst (λ (v : List ℕ). HasPlayed played.0 s.nonce s.scripts v (link_of s.link) (link_of m) told) turns_is named in (
       played.0,
-      subst (λ (v : List ℕ). Means v (only_user played.0)) config_is played.1,
+      subst (λ (v : List ℕ). Means v played.0) config_is played.1,
       s.scripts,
       refl,
       told,
       refl,
-      subst (λ (v : Memory). HasPlayed played.0 default_nonce s.scripts s.turns (link_of v) (link_of m) told) new.link turned,
+      subst (λ (v : LinkView). HasPlayed played.0 s.nonce s.scripts s.turns v (link_of m) told) (link_is s new) turned,
     )
 
 pub played_over : (config nonce turns : List ℕ) (s : Session) (m : Memory) (r : Result Report Error) → IsNew s →
     config ≡ s.config → nonce ≡ s.nonce → turns ≡ s.turns → SessionContract (asked config nonce turns s (link_of m)) (result_of r) →
-    IfOk r (λ told. (user : List ℕ) × Means config (only_user user) × HasPlayed user nonce s.scripts turns (link_of s.link) (link_of m) told) →
+    IfOk r (λ told. (settings : Settings) × Means config settings × HasPlayed settings nonce s.scripts turns (link_of s.link) (link_of m) told) →
     (rest : List ℕ) × (m.given ++ rest ≡ concat m.entries) → IsPlayed (session_of s) (result_of r)
 played_over config nonce turns s m r new config_is nonce_is turns_is promised played front = record {
   after = link_of m;
@@ -105,3 +114,37 @@ played_over config nonce turns s m r new config_is nonce_is turns_is promised pl
   where
     session : SessionContract (call_of (session_of s) (link_of m)) (result_of r)
     session = subst (λ (call : Call). SessionContract call (result_of r)) (asked_is config nonce turns s (link_of m) new config_is nonce_is turns_is) promised
+
+-- ---- over the link that was handed in
+
+-- it was played turn by turn, of the text
+was_piped : (config nonce turns : List ℕ) (s : Session) (before after : LinkView) (r : Result Report Error) → config ≡ s.config → nonce ≡ s.nonce → turns ≡ s.turns →
+    IfOk r (λ told. (settings : Settings) × Means config settings × HasPlayed settings nonce s.scripts turns before after told) →
+    WasPlayed (session_of s) before after (result_of r)
+was_piped config nonce turns s before after (Err e) config_is nonce_is turns_is played = tt
+was_piped config nonce turns s before after (Ok told) config_is nonce_is turns_is played =
+    let named : HasPlayed played.0 s.nonce s.scripts turns before after told = subst (λ (v : List ℕ). HasPlayed played.0 v s.scripts turns before after told) nonce_is played.2 in (
+      played.0,
+      subst (λ (v : List ℕ). Means v played.0) config_is played.1,
+      s.scripts,
+      refl,
+      told,
+      refl,
+      subst (λ (v : List ℕ). HasPlayed played.0 s.nonce s.scripts v before after told) turns_is named,
+    )
+
+piped_is : (config nonce turns : List ℕ) (s : Session) (before after : LinkView) → config ≡ s.config → nonce ≡ s.nonce → turns ≡ s.turns →
+    record (asked config nonce turns s after) { before = before } ≡ call_over (session_of s) before after
+piped_is config nonce turns s before after config_is nonce_is turns_is =
+    ap (λ (v : List ℕ). record (asked v nonce turns s after) { before = before }) config_is
+    ∙ ap (λ (v : List ℕ). record (asked s.config v turns s after) { before = before }) nonce_is
+    ∙ ap (λ (v : List ℕ). record (asked s.config s.nonce v s after) { before = before }) turns_is
+
+pub piped_over : (config nonce turns : List ℕ) (s : Session) (before after : LinkView) (r : Result Report Error) →
+    config ≡ s.config → nonce ≡ s.nonce → turns ≡ s.turns → SessionContract (record (asked config nonce turns s after) { before = before }) (result_of r) →
+    IfOk r (λ told. (settings : Settings) × Means config settings × HasPlayed settings nonce s.scripts turns before after told) →
+    IsPiped before after (session_of s) (result_of r)
+piped_over config nonce turns s before after r config_is nonce_is turns_is promised played = record {
+  session = subst (λ (call : Call). SessionContract call (result_of r)) (piped_is config nonce turns s before after config_is nonce_is turns_is) promised;
+  turns = was_piped config nonce turns s before after r config_is nonce_is turns_is played;
+}

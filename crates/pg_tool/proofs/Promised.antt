@@ -1,9 +1,9 @@
 -- What `run_session` promises, where it refuses what it was asked and where it plays.
-use Rattle.std.proofs.Common.{◌≡◌, ◌<◌, ℕ, List, length, true, Option, Some, None, IfSome, Result, Ok, Err, IfOk, IfErr, inl, inr, refl, sym, ap, subst, ◌∙◌, arith}
-use Rattle.std.specs.Prelude.{OnOk, IsSome, IsTrue}
+use Rattle.std.proofs.Common.{◌≡◌, ◌<◌, ℕ, List, length, Option, Some, None, IfSome, Result, Ok, Err, IfOk, IfErr, inl, inr, refl, sym, ap, subst, ◌∙◌, arith}
+use Rattle.std.specs.Prelude.{OnOk, IsSome}
 use Rattle.std.proofs.lemmas.Bool.{true≢false}
 use Rattle.std.proofs.lemmas.List.{length-drop}
-use Rattle.pg_promises.specs.Causes.{Call, HasCause, MustRefuse}
+use Rattle.pg_promises.specs.Causes.{Call, HasCause, MustAskForTls, MustRefuse, NeedsNoTls}
 use Rattle.pg_promises.specs.Promises.{NoneKeptBack}
 use Rattle.pg_promises.proofs.Strings.{means_one, no_fault}
 use Rattle.pg_config.specs.ConnectionStrings.{ConnectionStringMeans}
@@ -11,9 +11,8 @@ use Rattle.pg_config.specs.Outcomes.{HasFault}
 use Rattle.pg_config.specs.Views.{settings_of}
 use Rattle.pg_config.specs.declared.config.Config.{Config as Settled}
 use Rattle.pg_config.proofs.OneMeaning.{meaning_one}
-use Rattle.pg_spec.specs.Passwords.{is_nonce}
 use Rattle.pg_promises.specs.ConnectionStrings.{Means}
-use Rattle.pg_spec.specs.Settings.{Settings, only_user}
+use Rattle.pg_spec.specs.Settings.{Settings}
 use Rattle.pg_spec.specs.Faults.{Cause, ConfigParse, OutOfMemory}
 use Rattle.pg_spec.specs.Links.{LinkView, added}
 use Rattle.pg_spec.specs.Report as said
@@ -28,14 +27,18 @@ use Rattle.pg_text.specs.declared.report.Report.{Report}
 use Rattle.pg_session.proofs.Closing.{is-closed}
 use Rattle.pg_session.proofs.SentSoFar.{sent-untouched}
 use Rattle.pg_session.specs.WholeSession.{IsClosed}
-use Rattle.pg_tool.specs.Asked.{call_of, ConfigIsNotBuilt, StartsAs}
+use Rattle.pg_tool.specs.Asked.{call_of, MayStart}
 use Rattle.pg_tool.specs.Fails.{PlaysWithin, SessionFails}
-use Rattle.pg_tool.specs.SessionContract.{IsEndedWell, IsRun, MissesNoPassword, SendsInOrder, SessionContract, result_of}
+use Rattle.pg_startup.specs.declared.ssl_request.SslRequest.{SslRequest}
+use Rattle.pg_tls.specs.declared.choice.TlsChoice.TheVariants.{Asks, Shakes}
+use Rattle.pg_tool.specs.Required.{AsksInVain, AsksWithin, choice_of}
+use Rattle.pg_tool.specs.SessionContract.{IsEndedWell, IsRun, SendsInOrder, SessionContract, result_of}
 use Rattle.pg_tool.proofs.Causing.{caused}
 use Rattle.pg_tool.proofs.Completing.{must_all}
 use Rattle.pg_tool.proofs.Following.{continues_same}
 use Rattle.pg_tool.proofs.Limiting.{ended_within, holds_all, keeps_limit}
 use Rattle.pg_tool.proofs.Played.{ended_well, has_run}
+use Rattle.pg_tool.proofs.Requiring.{asks_so, shakes_cause, shakes_so, vain_cause, vain_goes, vain_holds, vain_kept, vain_open, vain_sent}
 use Rattle.pg_tool.proofs.Sending.{asks_all, leaves_all, sends_all}
 
 -- ---- what was asked is refused
@@ -50,14 +53,10 @@ none_given (Some g) (Some t) limit P = λ more. absurd (omega (arith, more, leng
 -- an error that comes before any byte
 abbrev IsEarly : Error → Type 0
 IsEarly (error.ConfigParse c) = Unit {0}
-IsEarly (error.Config cause.NoPassword) = ⊥
 IsEarly (error.Config c) = Unit {0}
+IsEarly (error.Tls c) = Unit {0}
 IsEarly error.OutOfMemory = Unit {0}
 IsEarly _ = ⊥
-
-early_password : (e : Error) → IsEarly e → MissesNoPassword e
-early_password (error.Config cause.NoPassword) early = absurd early
-early_password _ early = tt
 
 early_kept : (call : Call) (e : Error) → IsEarly e → NoneKeptBack call (Err e)
 early_kept call (error.Stalled a b) early = absurd early
@@ -77,7 +76,6 @@ refuses config nonce scripts turns limit link e tells early has must =
       stays_open = inl refl;
       link = continues_same link;
       cause = has;
-      no_password = early_password e early;
       limit = none_given link.given link.taken limit _;
       sent = sent;
       none_kept_back = early_kept call e early;
@@ -94,7 +92,6 @@ lacks config nonce scripts turns limit link = record {
   text = λ c fault. record { answer = inr refl; untouched = refl };
   user = λ w. record { answer = inr refl; untouched = refl };
   nonce = λ w out. record { answer = inr refl; untouched = refl };
-  not_built = λ w. record { answer = inr refl; untouched = refl };
 }
 
 same_fault : (a b : Result Settled Cause) (c d : Cause) → a ≡ Err c → b ≡ Err d → a ≡ b → c ≡ d
@@ -110,7 +107,6 @@ faulty config nonce scripts turns limit link c fault = record {
   };
   user = λ w. absurd (no_fault config w.0 c w.1 fault);
   nonce = λ w out. absurd (no_fault config w.0 c w.1 fault);
-  not_built = λ w. absurd (no_fault config w.settings.0 c w.settings.1 fault);
 }
 
 -- by what reading the settings answered
@@ -145,36 +141,82 @@ user_of_said : (config : List ℕ) (s t : Settings) → Means config s → Means
 user_of_said config s t a b = ap (λ (x : Settings). x.user) (means_one config s t a b)
 
 pub start_refused : (config nonce : List ℕ) (scripts : List (List Command)) (turns : List ℕ) (limit : ℕ) (link : LinkView) (s : Settings) (c : Cause) →
-    Tells link → Means config s → StartsAs s nonce (Err c) → SessionContract (call_of config nonce scripts turns limit link link) (Err (error.Config c))
+    Tells link → Means config s → MayStart s nonce (Err c) → SessionContract (call_of config nonce scripts turns limit link link) (Err (error.Config c))
 start_refused config nonce scripts turns limit link s cause.NoUser tells means none =
     refuses config nonce scripts turns limit link (error.Config cause.NoUser) tells tt (s, means, none) (record {
       text = λ d fault. absurd (no_fault config s d means fault);
       user = λ w. record { answer = inl refl; untouched = refl };
       nonce = λ w out. absurd (none_some w.0.user (user_of_said config w.0 s w.1 means ∙ none) w.2);
-      not_built = λ w. absurd (none_some w.settings.0.user (user_of_said config w.settings.0 s w.settings.1 means ∙ none) w.settings.2.0);
     })
 start_refused config nonce scripts turns limit link s cause.Nonce tells means why =
     refuses config nonce scripts turns limit link (error.Config cause.Nonce) tells tt ((s, means, why.0), why.1) (record {
       text = λ d fault. absurd (no_fault config s d means fault);
       user = λ w. absurd (none_some s.user (user_of_said config s w.0 means w.1 ∙ w.2) why.0);
       nonce = λ w out. record { answer = inl refl; untouched = refl };
-      not_built = λ w. absurd (true≢false (sym w.nonce ∙ why.1));
-    })
-start_refused config nonce scripts turns limit link s cause.NotBuilt tells means why =
-    refuses config nonce scripts turns limit link (error.Config cause.NotBuilt) tells tt
-    (inl (record { settings = (s, means, (why.0, why.2)); nonce = why.1 })) (record {
-      text = λ d fault. absurd (no_fault config s d means fault);
-      user = λ w. absurd (none_some s.user (user_of_said config s w.0 means w.1 ∙ w.2) why.0);
-      nonce = λ w out. absurd (true≢false (sym why.1 ∙ out));
-      not_built = λ w. record { answer = inl refl; untouched = refl };
     })
 start_refused config nonce scripts turns limit link s _ tells means why = absurd why
 
--- ---- it was played
+-- ---- it starts up
 
--- the settings that were read are a user alone
-pub user_so : (config user : List ℕ) (said : Result Settled Cause) (c : Settled) → ConnectionStringMeans config said → said ≡ Ok c → settings_of c ≡ only_user user → Means config (only_user user)
-user_so config user said c means is alone = (c, subst (ConnectionStringMeans config) is means, sym alone)
+-- settings that name a user, and a nonce in form, are refused for nothing
+starts : {R : Type 0} (config : List ℕ) (settings : Settings) (nonce : List ℕ) (scripts : List (List Command)) (turns : List ℕ) (limit : ℕ) (before after : LinkView) (r : Result R Error) →
+    Means config settings → MayStart settings nonce (Ok tt) → MustRefuse {R = R} (call_of config nonce scripts turns limit before after) r
+starts config settings nonce scripts turns limit before after r means may = record {
+  text = λ d fault. absurd (no_fault config settings d means fault);
+  user = λ w. absurd (none_some settings.user (user_of_said config settings w.0 means w.1 ∙ w.2) may.0);
+  nonce = λ w out. absurd (true≢false (sym may.1 ∙ out));
+}
+
+-- ---- it requires TLS
+
+-- the handshake fails at once
+pub shakes : (config : List ℕ) (settings : Settings) (nonce : List ℕ) (scripts : List (List Command)) (turns : List ℕ) (limit : ℕ) (link : LinkView) →
+    Means config settings → MayStart settings nonce (Ok tt) → choice_of settings ≡ Shakes → Tells link →
+    SessionContract (call_of config nonce scripts turns limit link link) (Err (error.Tls cause.Handshake))
+shakes config settings nonce scripts turns limit link means may choice tells =
+    refuses config nonce scripts turns limit link (error.Tls cause.Handshake) tells tt
+    (shakes_cause (call_of config nonce scripts turns limit link link) settings means (shakes_so settings choice) refl)
+    (starts {R = said.Report} config settings nonce scripts turns limit link link (Err (error.Tls cause.Handshake)) means may)
+
+-- the server was asked
+asks-in : (config : List ℕ) (settings : Settings) (nonce : List ℕ) (scripts : List (List Command)) (turns : List ℕ) (limit : ℕ) (before after : LinkView) (e : Error) (s : SslRequest) →
+    Means config settings → MayStart settings nonce (Ok tt) → MustAskForTls settings → Tells before → Tells after → s.bytes.max_bytes ≡ limit → AsksInVain before after s e →
+    SessionContract (call_of config nonce scripts turns limit before after) (Err e)
+asks-in config settings nonce scripts turns limit before after e s means may must told tells is vain =
+    let call = call_of config nonce scripts turns limit before after in
+    let causes = vain_cause call settings s e means must is vain in
+    let sent : SendsInOrder call (Err e) = λ w. vain_sent call settings s e means must vain in
+    let link = vain_goes before after s e vain in
+    record {
+      ended_well = tt;
+      has_run = tt;
+      closed = tt;
+      stays_open = vain_open before after s e vain;
+      link = link;
+      cause = causes;
+      limit = keeps_limit call (Err e) tt (vain_holds call s e is vain) causes;
+      sent = sent;
+      none_kept_back = vain_kept call settings s e means vain;
+      must_end_well = must_all call (Err e) told tells link sent causes;
+      must_refuse = starts {R = said.Report} config settings nonce scripts turns limit before after (Err e) means may;
+    }
+
+lacks-in : (config : List ℕ) (nonce : List ℕ) (scripts : List (List Command)) (turns : List ℕ) (limit : ℕ) (before after : LinkView) (e : Error) → e ≡ error.OutOfMemory → after ≡ before → Tells before →
+    SessionContract (call_of config nonce scripts turns limit before after) (Err e)
+lacks-in config nonce scripts turns limit before after e memory same tells =
+    subst (λ (x : LinkView). SessionContract (call_of config nonce scripts turns limit before x) (Err e)) (sym same)
+    (subst (λ (x : Error). SessionContract (call_of config nonce scripts turns limit before before) (Err x)) (sym memory)
+    (refuses config nonce scripts turns limit before error.OutOfMemory tells tt tt (lacks config nonce scripts turns limit before)))
+
+pub asks : (config : List ℕ) (settings : Settings) (nonce : List ℕ) (scripts : List (List Command)) (turns : List ℕ) (limit : ℕ) (before after : LinkView) (e : Error) →
+    Means config settings → MayStart settings nonce (Ok tt) → choice_of settings ≡ Asks → Tells before → Tells after → AsksWithin limit before after e →
+    SessionContract (call_of config nonce scripts turns limit before after) (Err e)
+asks config settings nonce scripts turns limit before after e means may choice told tells (inl short) =
+    lacks-in config nonce scripts turns limit before after e short.0 short.1 told
+asks config settings nonce scripts turns limit before after e means may choice told tells (inr w) =
+    asks-in config settings nonce scripts turns limit before after e w.0 means may (asks_so settings choice) told tells w.1 w.2
+
+-- ---- it was played
 
 -- what holds of a report that was answered, in the words of reports
 of_answer : (r : Result Report Error) (P : said.Report → Type 0) → IfOk r (λ report. P (report_of report)) → IfOk (result_of r) P
@@ -191,40 +233,25 @@ closed_so : (r : Result Report Error) (P : Report → Type 0) (Q : Type 0) → (
 closed_so (Ok report) P Q f h = f report h
 closed_so (Err e) P Q f h = tt
 
-not_missed : (e : Error) → ConfigIsNotBuilt e → MissesNoPassword e
-not_missed (error.Config cause.NoPassword) is = absurd is
-not_missed _ is = tt
-
-none_missed : (r : Result Report Error) → IfErr r ConfigIsNotBuilt → IfErr (result_of r) MissesNoPassword
-none_missed (Ok report) h = tt
-none_missed (Err e) h = not_missed e h
-
-pub plays : (config user nonce : List ℕ) (scripts : List (List Command)) (turns : List ℕ) (limit : ℕ) (before after : LinkView) (r : Result Report Error) →
-    Means config (only_user user) → IsTrue (is_nonce nonce) → Tells before → Tells after → Continues before after →
-    IfErr r (SessionFails user nonce scripts limit before after) → IfOk r (PlaysWithin user nonce scripts turns limit before after) →
-    IfErr r ConfigIsNotBuilt → OnOk r (StaysCalm before after) →
+pub plays : (config : List ℕ) (settings : Settings) (nonce : List ℕ) (scripts : List (List Command)) (turns : List ℕ) (limit : ℕ) (before after : LinkView) (r : Result Report Error) →
+    Means config settings → MayStart settings nonce (Ok tt) → NeedsNoTls settings → Tells before → Tells after → Continues before after →
+    IfErr r (SessionFails settings nonce scripts limit before after) → IfOk r (PlaysWithin settings nonce scripts turns limit before after) → OnOk r (StaysCalm before after) →
     SessionContract (call_of config nonce scripts turns limit before after) (result_of r)
-plays config user nonce scripts turns limit before after r means in_form told tells link fails played config_is calm =
+plays config settings nonce scripts turns limit before after r means may plain told tells link fails played calm =
     let call = call_of config nonce scripts turns limit before after in
-    let causes = caused config user nonce scripts turns limit before after r means fails in
-    let sent = sends_all config user nonce scripts turns limit before after r means fails in
+    let causes = caused config settings nonce scripts turns limit before after r means plain fails in
+    let sent = sends_all config settings nonce scripts turns limit before after r means plain fails in
     record {
-      ended_well = of_answer r (IsEndedWell call) (ended_well config user nonce scripts turns limit before after r means played);
-      has_run = of_answer r (IsRun call) (has_run config user nonce scripts turns limit before after r played);
-      closed = closed_so r (PlaysWithin user nonce scripts turns limit before after) (IsClosed before after) (λ report h. is-closed user nonce scripts turns before after report h.0) played;
-      stays_open = leaves_all user nonce scripts limit before after r fails;
+      ended_well = of_answer r (IsEndedWell call) (ended_well config settings nonce scripts turns limit before after r means played);
+      has_run = of_answer r (IsRun call) (has_run config settings nonce scripts turns limit before after r played);
+      closed = closed_so r (PlaysWithin settings nonce scripts turns limit before after) (IsClosed before after) (λ report h. is-closed settings nonce scripts turns before after report h.0) played;
+      stays_open = leaves_all settings nonce scripts limit before after r fails;
       link = link;
       cause = of_error call r causes;
-      no_password = none_missed r config_is;
-      limit = keeps_limit call r (ended_within user nonce scripts turns limit before after r played)
-          (holds_all config user nonce scripts turns limit before after r means fails) causes;
+      limit = keeps_limit call r (ended_within settings nonce scripts turns limit before after r played)
+          (holds_all config settings nonce scripts turns limit before after r means fails) causes;
       sent = sent;
-      none_kept_back = asks_all config user nonce scripts turns limit before after r means calm fails;
+      none_kept_back = asks_all config settings nonce scripts turns limit before after r means calm fails;
       must_end_well = must_all call r told tells link sent causes;
-      must_refuse = record {
-        text = λ d fault. absurd (no_fault config (only_user user) d means fault);
-        user = λ w. absurd (none_some (Some user) (user_of_said config (only_user user) w.0 means w.1 ∙ w.2) refl);
-        nonce = λ w out. absurd (true≢false (sym in_form ∙ out));
-        not_built = λ w. absurd (w.settings.2.1 (user, means_one config w.settings.0 (only_user user) w.settings.1 means));
-      };
+      must_refuse = starts {R = said.Report} config settings nonce scripts turns limit before after (result_of r) means may;
     }

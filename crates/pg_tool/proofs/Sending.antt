@@ -1,13 +1,13 @@
 -- What was sent where a session failed, and how the link stands then.
 use Rattle.std.proofs.Common.{◌≡◌, ℕ, List, IfErr, Result, Ok, Err, inl, inr, refl, ap, ◌∙◌}
 use Rattle.std.specs.Prelude.{OnOk}
-use Rattle.pg_promises.specs.Causes.{Call, OfDialogue}
+use Rattle.pg_promises.specs.Causes.{Call, NeedsNoTls, OfDialogue}
 use Rattle.pg_promises.specs.ConnectionStrings.{Means}
-use Rattle.pg_spec.specs.Settings.{only_user}
+use Rattle.pg_spec.specs.Settings.{Settings}
 use Rattle.pg_spec.specs.Links.{LinkView}
 use Rattle.pg_promises.specs.Promises.{NoneKeptBack, SentInOrder}
 use Rattle.pg_connect.specs.Calm.{StaysCalm}
-use Rattle.pg_connect.specs.declared.startup.Startup.{Startup}
+use Rattle.pg_startup.specs.declared.startup.Startup.{Startup}
 use Rattle.pg_faults.specs.declared.error.Error.{Error}
 use Rattle.pg_faults.specs.declared.error.Error.TheVariants as error
 use Rattle.pg_session.proofs.Caused.{broken-kept, broken-sent}
@@ -30,62 +30,62 @@ IsInOrder call = OfDialogue call (λ s g t. SentInOrder call s g t)
 sent_then : (call : Call) (e : Error) → IsInOrder call → SendsInOrder call (Err e)
 sent_then call e sent = λ w. sent
 
-start_sent : (call : Call) (user : List ℕ) (s : Startup) (e : Error) → Means call.config (only_user user) → OpenEnds user call.nonce call.before call.after s (Err e) → IsInOrder call
-start_sent call user s (error.Stalled a b) means ends = sent-stopped call user s a b means ends
-start_sent call user s _ means ends = sent-failed call user s _ means ends
+start_sent : (call : Call) (settings : Settings) (s : Startup) (e : Error) → Means call.config settings → NeedsNoTls settings → OpenEnds settings call.nonce call.before call.after s (Err e) → IsInOrder call
+start_sent call settings s (error.Stalled a b) means plain ends = sent-stopped call settings s a b means ends
+start_sent call settings s _ means plain ends = sent-failed call settings s _ means plain ends
 
-sent_by : (config user nonce : List ℕ) (scripts : List (List Command)) (turns : List ℕ) (limit : ℕ) (before after : LinkView) (e : Error) → Means config (only_user user) →
-    SessionFails user nonce scripts limit before after e → IsInOrder (call_of config nonce scripts turns limit before after)
-sent_by config user nonce scripts turns limit before after e means (inl lacks) = elim lacks.crossed [
-  | inl opened ↦ sent-opened (call_of config nonce scripts turns limit before after) user means opened
-  | inr over ↦ sent-over (call_of config nonce scripts turns limit before after) user scripts means refl over
+sent_by : (config : List ℕ) (settings : Settings) (nonce : List ℕ) (scripts : List (List Command)) (turns : List ℕ) (limit : ℕ) (before after : LinkView) (e : Error) → Means config settings → NeedsNoTls settings →
+    SessionFails settings nonce scripts limit before after e → IsInOrder (call_of config nonce scripts turns limit before after)
+sent_by config settings nonce scripts turns limit before after e means plain (inl lacks) = elim lacks.crossed [
+  | inl opened ↦ sent-opened (call_of config nonce scripts turns limit before after) settings means opened
+  | inr over ↦ sent-over (call_of config nonce scripts turns limit before after) settings scripts means refl over
 ]
-sent_by config user nonce scripts turns limit before after e means (inr (inl made)) = sent-untouched (call_of config nonce scripts turns limit before after) (only_user user) means made.1
-sent_by config user nonce scripts turns limit before after e means (inr (inr (inl start))) =
-    start_sent (call_of config nonce scripts turns limit before after) user start.startup e means start.ends
-sent_by config user nonce scripts turns limit before after e means (inr (inr (inr later))) =
-    broken-sent (call_of config nonce scripts turns limit before after) user scripts e means later.broken later.limited refl
+sent_by config settings nonce scripts turns limit before after e means plain (inr (inl made)) = sent-untouched (call_of config nonce scripts turns limit before after) settings means made.1
+sent_by config settings nonce scripts turns limit before after e means plain (inr (inr (inl start))) =
+    start_sent (call_of config nonce scripts turns limit before after) settings start.startup e means plain start.ends
+sent_by config settings nonce scripts turns limit before after e means plain (inr (inr (inr later))) =
+    broken-sent (call_of config nonce scripts turns limit before after) settings scripts e means later.broken later.limited refl
 
 -- by what a session answered
-pub sends_all : (config user nonce : List ℕ) (scripts : List (List Command)) (turns : List ℕ) (limit : ℕ) (before after : LinkView) (r : Result Report Error) → Means config (only_user user) →
-    IfErr r (SessionFails user nonce scripts limit before after) → SendsInOrder (call_of config nonce scripts turns limit before after) (result_of r)
-sends_all config user nonce scripts turns limit before after (Ok report) means fails = tt
-sends_all config user nonce scripts turns limit before after (Err e) means fails =
-    sent_then (call_of config nonce scripts turns limit before after) e (sent_by config user nonce scripts turns limit before after e means fails)
+pub sends_all : (config : List ℕ) (settings : Settings) (nonce : List ℕ) (scripts : List (List Command)) (turns : List ℕ) (limit : ℕ) (before after : LinkView) (r : Result Report Error) → Means config settings → NeedsNoTls settings →
+    IfErr r (SessionFails settings nonce scripts limit before after) → SendsInOrder (call_of config nonce scripts turns limit before after) (result_of r)
+sends_all config settings nonce scripts turns limit before after (Ok report) means plain fails = tt
+sends_all config settings nonce scripts turns limit before after (Err e) means plain fails =
+    sent_then (call_of config nonce scripts turns limit before after) e (sent_by config settings nonce scripts turns limit before after e means plain fails)
 
 -- ---- where it ended well or stalled
 
-asks_by : (config user nonce : List ℕ) (scripts : List (List Command)) (turns : List ℕ) (limit : ℕ) (before after : LinkView) (e : Error) → Means config (only_user user) →
-    SessionFails user nonce scripts limit before after e → NoneKeptBack (call_of config nonce scripts turns limit before after) (Err e)
-asks_by config user nonce scripts turns limit before after (error.Stalled a b) means (inl lacks) = absurd (let no : error.Stalled a b ≡ error.OutOfMemory = lacks.memory in cc)
-asks_by config user nonce scripts turns limit before after (error.Stalled a b) means (inr (inl made)) = absurd made.0
-asks_by config user nonce scripts turns limit before after (error.Stalled a b) means (inr (inr (inl start))) =
-    stopped-kept (call_of config nonce scripts turns limit before after) user start.startup a b means start.ends
-asks_by config user nonce scripts turns limit before after (error.Stalled a b) means (inr (inr (inr later))) =
-    broken-kept (call_of config nonce scripts turns limit before after) user scripts (error.Stalled a b) means later.broken later.limited a b refl refl
-asks_by config user nonce scripts turns limit before after _ means fails = tt
+asks_by : (config : List ℕ) (settings : Settings) (nonce : List ℕ) (scripts : List (List Command)) (turns : List ℕ) (limit : ℕ) (before after : LinkView) (e : Error) → Means config settings →
+    SessionFails settings nonce scripts limit before after e → NoneKeptBack (call_of config nonce scripts turns limit before after) (Err e)
+asks_by config settings nonce scripts turns limit before after (error.Stalled a b) means (inl lacks) = absurd (let no : error.Stalled a b ≡ error.OutOfMemory = lacks.memory in cc)
+asks_by config settings nonce scripts turns limit before after (error.Stalled a b) means (inr (inl made)) = absurd made.0
+asks_by config settings nonce scripts turns limit before after (error.Stalled a b) means (inr (inr (inl start))) =
+    stopped-kept (call_of config nonce scripts turns limit before after) settings start.startup a b means start.ends
+asks_by config settings nonce scripts turns limit before after (error.Stalled a b) means (inr (inr (inr later))) =
+    broken-kept (call_of config nonce scripts turns limit before after) settings scripts (error.Stalled a b) means later.broken later.limited a b refl refl
+asks_by config settings nonce scripts turns limit before after _ means fails = tt
 
-pub asks_all : (config user nonce : List ℕ) (scripts : List (List Command)) (turns : List ℕ) (limit : ℕ) (before after : LinkView) (r : Result Report Error) → Means config (only_user user) →
-    OnOk r (StaysCalm before after) → IfErr r (SessionFails user nonce scripts limit before after) → NoneKeptBack (call_of config nonce scripts turns limit before after) (result_of r)
-asks_all config user nonce scripts turns limit before after (Ok report) means calm fails = calm.no_lull
-asks_all config user nonce scripts turns limit before after (Err e) means calm fails = asks_by config user nonce scripts turns limit before after e means fails
+pub asks_all : (config : List ℕ) (settings : Settings) (nonce : List ℕ) (scripts : List (List Command)) (turns : List ℕ) (limit : ℕ) (before after : LinkView) (r : Result Report Error) → Means config settings →
+    OnOk r (StaysCalm before after) → IfErr r (SessionFails settings nonce scripts limit before after) → NoneKeptBack (call_of config nonce scripts turns limit before after) (result_of r)
+asks_all config settings nonce scripts turns limit before after (Ok report) means calm fails = calm.no_lull
+asks_all config settings nonce scripts turns limit before after (Err e) means calm fails = asks_by config settings nonce scripts turns limit before after e means fails
 
 -- ---- the writing side
 
-start_open : (name nonce : List ℕ) (before after : LinkView) (s : Startup) (e : Error) → OpenEnds name nonce before after s (Err e) → after.shut ≡ before.shut
-start_open name nonce before after s (error.Stalled a b) ends = (rests-so ends.waited ends.polled after ends.fails.2).writing.shut ∙ ends.opening.shut
-start_open name nonce before after s _ ends = ends.shut
+start_open : (settings : Settings) (nonce : List ℕ) (before after : LinkView) (s : Startup) (e : Error) → OpenEnds settings nonce before after s (Err e) → after.shut ≡ before.shut
+start_open settings nonce before after s (error.Stalled a b) ends = (rests-so ends.waited ends.polled after ends.fails.2).writing.shut ∙ ends.opening.shut
+start_open settings nonce before after s _ ends = ends.shut
 
-leaves_by : (user nonce : List ℕ) (scripts : List (List Command)) (limit : ℕ) (before after : LinkView) (e : Error) → SessionFails user nonce scripts limit before after e → LeavesOpen before after e
-leaves_by user nonce scripts limit before after e (inl lacks) = elim lacks.crossed [
+leaves_by : (settings : Settings) (nonce : List ℕ) (scripts : List (List Command)) (limit : ℕ) (before after : LinkView) (e : Error) → SessionFails settings nonce scripts limit before after e → LeavesOpen before after e
+leaves_by settings nonce scripts limit before after e (inl lacks) = elim lacks.crossed [
   | inl opened ↦ inl opened.opened.shut
-  | inr over ↦ inr (lacks.memory, over-closed user nonce scripts before after over)
+  | inr over ↦ inr (lacks.memory, over-closed settings nonce scripts before after over)
 ]
-leaves_by user nonce scripts limit before after e (inr (inl made)) = inl (ap (λ (l : LinkView). l.shut) made.1)
-leaves_by user nonce scripts limit before after e (inr (inr (inl start))) = inl (start_open user nonce before after start.startup e start.ends)
-leaves_by user nonce scripts limit before after e (inr (inr (inr later))) = broken-open user nonce scripts before after e later.broken
+leaves_by settings nonce scripts limit before after e (inr (inl made)) = inl (ap (λ (l : LinkView). l.shut) made.1)
+leaves_by settings nonce scripts limit before after e (inr (inr (inl start))) = inl (start_open settings nonce before after start.startup e start.ends)
+leaves_by settings nonce scripts limit before after e (inr (inr (inr later))) = broken-open settings nonce scripts before after e later.broken
 
-pub leaves_all : (user nonce : List ℕ) (scripts : List (List Command)) (limit : ℕ) (before after : LinkView) (r : Result Report Error) →
-    IfErr r (SessionFails user nonce scripts limit before after) → IfErr (result_of r) (LeavesOpen before after)
-leaves_all user nonce scripts limit before after (Ok report) fails = tt
-leaves_all user nonce scripts limit before after (Err e) fails = leaves_by user nonce scripts limit before after e fails
+pub leaves_all : (settings : Settings) (nonce : List ℕ) (scripts : List (List Command)) (limit : ℕ) (before after : LinkView) (r : Result Report Error) →
+    IfErr r (SessionFails settings nonce scripts limit before after) → IfErr (result_of r) (LeavesOpen before after)
+leaves_all settings nonce scripts limit before after (Ok report) fails = tt
+leaves_all settings nonce scripts limit before after (Err e) fails = leaves_by settings nonce scripts limit before after e fails

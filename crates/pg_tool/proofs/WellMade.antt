@@ -6,7 +6,7 @@ use Rattle.std.specs.Str.{is_utf8, chars}
 use lib.Utf8.{encode}
 use Rattle.pg_spec.specs.Settings.{only_user}
 use Rattle.pg_promises.specs.Examples.{good_plan, good_text}
-use Rattle.pg_promises.specs.Promises.{Conforms, IsValid, requests_in}
+use Rattle.pg_promises.specs.Promises.{AnswersRequests, AnswersStartup, IsValid, requests_in}
 use Rattle.pg_spec.specs.RawMessages.{bytes_left, is_async, is_parameter}
 use Rattle.pg_spec.specs.Sent.{turns_given}
 use Rattle.pg_promises.proofs.WorkedPlans.{only_first, replies_all}
@@ -15,22 +15,22 @@ use Rattle.pg_tool.specs.RunContract.{IsWellMade, call_of, new_link, plan_of}
 
 valid : IsValid (call_of good_text (new_link good_text)) (only_user (codes "a")) (plan_of good_text)
 unfolding is_utf8 chars encode
-valid = record { user = refl; alone = (codes "a", refl); nonce = refl; frame = refl; no_tls = λ e. cc; no_binding = λ e. cc; limit = omega arith }
+valid = record { user = refl; nonce = refl; frame = refl; no_tls = λ e. cc; no_binding = λ e. cc; limit = omega arith }
 
-conforms : (taken : List ℕ) → turns_given taken ≤ 2 → Conforms (call_of good_text (new_link good_text)) (only_user (codes "a")) (plan_of good_text) taken
+opens : AnswersStartup (call_of good_text (new_link good_text)) (only_user (codes "a")) (plan_of good_text)
 unfolding is_utf8 chars encode
-conforms taken few = record {
+opens = record {
   untroubled = refl;
-  entries = few;
   whole = All-from_recursion (λ entry. bytes_left entry ≡ []) good_plan.entries (refl, (refl, tt));
   frames = 1;
   started = (2, refl, All-from_recursion (λ m. IsTrue (is_async m || is_parameter m)) [] tt);
   each_frame = only_first _ refl;
   all_frames = refl;
-  replies = replies_all (turns_given taken) few;
   readable = refl;
-  plain = refl;
 }
+
+conforms : (taken : List ℕ) → turns_given taken ≤ 2 → AnswersRequests (plan_of good_text) 1 taken
+conforms taken few = record { entries = few; replies = replies_all (turns_given taken) few }
 
 -- its scripts ask one request
 one_request : requests_in good_text.scripts ≡ 1
@@ -38,9 +38,11 @@ unfolding is_utf8 chars encode
 one_request = refl
 
 pub well_made : IsWellMade good_text
+unfolding opens
 well_made = record {
   settings = only_user (codes "a");
   means = means_a;
   valid = valid;
+  opens = opens;
   conforms = λ taken few. conforms taken (omega (arith, few, one_request));
 }

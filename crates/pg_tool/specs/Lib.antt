@@ -4,6 +4,8 @@ pub mod Writing
 pub mod Openings
 pub mod Plays
 pub mod Handles
+pub mod Words
 pub mod RunContract
 pub mod Fails
 pub mod SessionContract
+pub mod Required

@@ -1,13 +1,13 @@
 -- The contract of the program: what it writes, and its exit status.
-use Rattle.std.specs.Prelude.{◌≡◌, ◌≢◌, ℕ, ◌+◌, ◌<◌, ◌≤◌, ◌⊎◌, true, false, List, [], ◌∷◌, ◌++◌, length, Ok, Err, Option, Some, None, IfSome, codes, decimal, ⊤}
+use Rattle.std.specs.Prelude.{◌≡◌, ◌≢◌, ℕ, ◌+◌, ◌<◌, ◌≤◌, ◌⊎◌, true, false, List, [], ◌++◌, length, Ok, Err, Option, Some, None, IfSome, codes, decimal, ⊤}
 use Rattle.std.specs.List.{concat}
 use Rattle.pg_promises.specs.Causes.{Call}
 use Rattle.pg_spec.specs.Faults.{OutOfMemory}
 use Rattle.pg_promises.specs.ConnectionStrings.{Means}
 use Rattle.pg_spec.specs.Links.{LinkView, Plan, Rose, Grew, course_of}
-use Rattle.pg_promises.specs.Promises.{Conforms, IsValid, requests_in}
+use Rattle.pg_promises.specs.Promises.{AnswersRequests, AnswersStartup, IsValid, requests_in}
 use Rattle.pg_spec.specs.Sent.{turns_given}
-use Rattle.pg_spec.specs.Settings.{Settings, only_user}
+use Rattle.pg_spec.specs.Settings.{Settings}
 use Rattle.pg_spec.specs.ReportText.{report_text, error_text}
 use Rattle.pg_spec.specs.SessionText.{SessionText, IsSessionText, IsRefusedAt}
 use Rattle.pg_wire.specs.LinkCalls.{Tells}
@@ -18,7 +18,10 @@ use Rattle.pg_text.specs.declared.command.Command.{Command}
 use Rattle.pg_text.specs.declared.report.Report.{Report}
 use Rattle.pg_tool.specs.SessionContract.{SessionContract, SessionResult}
 use Rattle.pg_tool.specs.Reading.{longest_text}
+use Rattle.pg_tool.specs.Words.{Asks, AsksOver, play}
 use Rattle.pg_tool.specs.Writing as writing
+use Rattle.pg_tool.specs.declared.over.Over.{Over}
+use Rattle.pg_tool.specs.declared.over.Over.TheVariants as over
 
 -- one run of the program: its words, and the source and the sink before and after
 pub record Run : Type 0 where
@@ -35,7 +38,7 @@ pub record Run : Type 0 where
 
 -- what a text's link will give
 abbrev pub plan_of : SessionText → Plan
-plan_of text = record { entries = text.plan; ends = false; is_troubled = false }
+plan_of text = record { entries = text.plan; ends = text.ends; is_troubled = false }
 
 -- a link in memory, before its first call
 abbrev pub new_link : SessionText → LinkView
@@ -57,28 +60,28 @@ new_link text = record {
   ends = 0;
 }
 
--- the nonce of a text that gives none
-abbrev pub default_nonce : List ℕ
-default_nonce = codes "abcdefghijklmnopqrstuvwx"
-
--- the call that plays a text over the text's own link, which is then as told
-abbrev pub call_of : SessionText → LinkView → Call
-call_of text after = record {
+-- the call that plays a text over a link, which is then as told
+abbrev pub call_over : SessionText → (before after : LinkView) → Call
+call_over text before after = record {
   config = text.config;
-  nonce = default_nonce;
+  nonce = text.nonce;
   scripts = text.scripts;
   turns = text.turns;
   limit = text.limit;
-  before = new_link text;
+  before = before;
   after = after;
 }
 
+-- over the text's own link
+abbrev pub call_of : SessionText → LinkView → Call
+call_of text after = call_over text (new_link text) after
+
 -- where it answered Ok, the text's scripts were played turn by turn over that link, and this is the report
-abbrev pub WasPlayed : SessionText → LinkView → SessionResult → Type 0
-WasPlayed text after (Ok report) = (user : List ℕ) × Means text.config (only_user user)
+abbrev pub WasPlayed : SessionText → (before after : LinkView) → SessionResult → Type 0
+WasPlayed text before after (Ok report) = (s : Settings) × Means text.config s
     × (scripts : List (List Command)) × (scripts_of scripts ≡ text.scripts) × (told : Report) × (report_of told ≡ report)
-    × HasPlayed user default_nonce scripts text.turns (new_link text) after told
-WasPlayed text after (Err failure) = ⊤
+    × HasPlayed s text.nonce scripts text.turns before after told
+WasPlayed text before after (Err failure) = ⊤
 
 -- the result is that of the text's session over the text's own link, which tells all bytes that crossed
 -- it, gave a front of its plan, and didn't fail
@@ -95,7 +98,17 @@ pub record IsPlayed (text : SessionText) (result : SessionResult) : Type 0 where
   -- all that a session promises
   pub session : SessionContract (call_of text after) result
   -- turn by turn
-  pub turns : WasPlayed text after result
+  pub turns : WasPlayed text (new_link text) after result
+
+-- the result is that of the text's session over the link that was handed in: all that a session promises, turn by turn
+pub record IsPiped (before after : LinkView) (text : SessionText) (result : SessionResult) : Type 0 where
+  pub session : SessionContract (call_over text before after) result
+  pub turns : WasPlayed text before after result
+
+-- by the link that was asked for; the one handed in isn't used by a text that is played over its own
+abbrev pub IsOver : Over → (before after : LinkView) → SessionText → SessionResult → Type 0
+IsOver over.Own before after text result = IsPlayed text result × (after ≡ before)
+IsOver over.Handed before after text result = IsPiped before after text result
 
 -- With the status that is due the text was written whole, with 4 or 5 a front of it; and nothing else was.
 abbrev pub EndsWith : SinkView → SinkView → List ℕ → (due status : ℕ) → Type 0
@@ -123,10 +136,10 @@ pub record Answered (old new : SinkView) (status : ℕ) (result : SessionResult)
   pub says : SaysResult old new status result
   pub sink_failed : status ≡ 4 → Rose old.faults new.faults
 
--- a session was played, and its result told
-pub record PlayedSession (text : SessionText) (old new : SinkView) (status : ℕ) (result : SessionResult) : Type 0 where
+-- a session was played so, and its result told
+pub record PlayedSession (Is : SessionText → SessionResult → Type 0) (text : SessionText) (old new : SinkView) (status : ℕ) (result : SessionResult) : Type 0 where
   pub answered : Answered old new status result
-  pub played : IsPlayed text result
+  pub played : Is text result
 
 -- why a text is refused: its length, or the first line that breaks the rules
 abbrev pub IsRefused : List ℕ → Option ℕ → Type 0
@@ -151,27 +164,23 @@ usage = codes "usage: pgplay play | pipe FILE REPORT | threads | gen N SEED\n"
 abbrev pub RefusedLine : SinkView → SinkView → (number status : ℕ) → Type 0
 RefusedLine old new number status = Written old new (refusal (Some number)) 2 status ⊎ WroteNothing old new status
 
--- the words that play a session text
-abbrev pub play : List (List ℕ)
-play = codes "play" ∷ []
-
 -- what is written where a text was refused, or memory ran out before its session
 abbrev pub NotPlayed : List ℕ → SinkView → SinkView → ℕ → Type 0
 NotPlayed bytes old new status =
     ((why : Option ℕ) × IsRefusedFor bytes why × Written old new (refusal why) 2 status)
     ⊎ WroteNothing old new status
 
--- what a text came to
-abbrev pub PlayedText : List ℕ → SinkView → SinkView → ℕ → Option SessionResult → Type 0
-PlayedText bytes old new status None = NotPlayed bytes old new status
-PlayedText bytes old new status (Some result) =
-    (text : SessionText) × IsSessionText bytes text × PlayedSession text old new status result
+-- what a text came to, whose session is played so
+abbrev pub PlayedText : (SessionText → SessionResult → Type 0) → List ℕ → SinkView → SinkView → ℕ → Option SessionResult → Type 0
+PlayedText Is bytes old new status None = NotPlayed bytes old new status
+PlayedText Is bytes old new status (Some result) =
+    (text : SessionText) × IsSessionText bytes text × PlayedSession Is text old new status result
 
 -- the status where the text due was written whole, else 4 or 5, and a front of it was written
 abbrev pub Ends : Run → ℕ → List ℕ → Type 0
 Ends run status text = EndsWith run.sink_before run.sink_after text status run.status
 
--- why no session was played with `play`: the text is refused, or nothing was written since the source failed or memory ran out
+-- why no session was played with `play` or `pipe`: the text is refused, or nothing was written since the source failed or memory ran out
 abbrev pub PlaysNothing : Run → Type 0
 PlaysNothing run =
     ((why : Option ℕ) × IfSome run.source_before.left (λ text. IsRefused text why) × Ends run 2 (refusal why))
@@ -181,17 +190,17 @@ PlaysNothing run =
 abbrev pub StatusSays : Run → Option SessionResult → Type 0
 StatusSays run (Some result) = SaysResult run.sink_before run.sink_after run.status result
 -- no session was played: with other words the usage line is due, and nothing is read
-StatusSays run None = ((run.words ≢ play) × (run.source_after ≡ run.source_before) × Ends run 2 usage)
-    ⊎ ((run.words ≡ play) × PlaysNothing run)
+StatusSays run None = (AsksOver run.words None × (run.source_after ≡ run.source_before) × Ends run 2 usage)
+    ⊎ ((which : Over) × Asks run.words which × PlaysNothing run)
 
--- The text's session is valid input, and its plan is what a server that conforms gives it: an answer to the
--- startup's frame, and one to each request, however many of them were sent.
+-- The text's session is valid input, and its plan is what a server that conforms gives it: an answer to each frame of the
+-- startup, and one to each request, however many of them were sent.
 pub record IsWellMade (text : SessionText) : Type 0 where
   pub settings : Settings
   pub means : Means text.config settings
   pub valid : IsValid (call_of text (new_link text)) settings (plan_of text)
-  pub conforms : (taken : List ℕ) → turns_given taken ≤ 1 + requests_in text.scripts →
-      Conforms (call_of text (new_link text)) settings (plan_of text) taken
+  pub opens : AnswersStartup (call_of text (new_link text)) settings (plan_of text)
+  pub conforms : (taken : List ℕ) → turns_given taken ≤ opens.frames + requests_in text.scripts → AnswersRequests (plan_of text) opens.frames taken
 
 -- With `play` and such a text, where neither the source nor the sink failed, the session ended well, or memory lacked.
 abbrev pub MustPlay : Run → Type 0
@@ -204,12 +213,12 @@ pub record RunContract (run : Run) : Type 0 where
   pub status : StatusSays run run.result
   pub source_failed : run.status ≡ 3 → Rose run.source_before.faults run.source_after.faults
   pub sink_failed : run.status ≡ 4 → Rose run.sink_before.faults run.sink_after.faults
-  -- with `play`, there are bytes that are a session text, and the result is that session's; they are the source's,
-  -- where it tells them
-  pub session : IfSome run.result (λ result. (run.words ≡ play)
+  -- with `play` or `pipe`, there are bytes that are a session text, and the result is that session's, over the link that the
+  -- words ask for; they are the source's, where it tells them
+  pub session : IfSome run.result (λ result. (which : Over) × Asks run.words which
       × (bytes : List ℕ) × IfSome run.source_before.left (λ left. left ≡ bytes) × (length bytes ≤ longest_text)
-      × (text : SessionText) × IsSessionText bytes text × IsPlayed text result)
-  -- the link handed in isn't used
-  pub link : run.link_after ≡ run.link_before
+      × (text : SessionText) × IsSessionText bytes text × IsOver which run.link_before run.link_after text result)
+  -- without a session the link handed in isn't used
+  pub link : run.result ≡ None → run.link_after ≡ run.link_before
   -- a text that is well made is played well
   pub must_play : MustPlay run

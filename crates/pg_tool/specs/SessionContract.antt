@@ -6,7 +6,7 @@ use Rattle.pg_faults.specs.declared.error.Error.{Error}
 use Rattle.pg_text.specs.Views.{report_of}
 use Rattle.pg_text.specs.declared.report.Report as told
 use Rattle.pg_promises.specs.EndedWell.{Session, HasRun, EndedWell}
-use Rattle.pg_spec.specs.Faults.{Failure, Config, LimitReached, NoPassword}
+use Rattle.pg_spec.specs.Faults.{Failure, LimitReached}
 use Rattle.pg_promises.specs.Promises.{MustEndWell, NoneKeptBack, SentInOrder}
 use Rattle.pg_spec.specs.Report.{Report}
 use Rattle.pg_spec.specs.Settings.{Settings}
@@ -47,11 +47,6 @@ abbrev pub SendsInOrder : Call → SessionResult → Type 0
 SendsInOrder call (Ok report) = ⊤
 SendsInOrder call (Err failure) = WithSettings call (λ s. ⊤) → OfDialogue call (λ s g t. SentInOrder call s g t)
 
--- So far no password is missed: a message that asks for one is one that this version doesn't know.
-abbrev pub MissesNoPassword : Failure → Type 0
-MissesNoPassword (Config NoPassword) = ⊥
-MissesNoPassword _ = ⊤
-
 -- What a session promises of what was asked and of its answer.
 pub record SessionContract (call : Call) (result : SessionResult) : Type 0 where
   -- where it answers Ok, the main theorem
@@ -64,10 +59,9 @@ pub record SessionContract (call : Call) (result : SessionResult) : Type 0 where
   pub link : Continues call.before call.after
   -- each failure has its cause
   pub cause : IfErr result (HasCause call)
-  pub no_password : IfErr result MissesNoPassword
   pub limit : KeepsLimit call result
   pub sent : SendsInOrder call result
   pub none_kept_back : NoneKeptBack call result
   pub must_end_well : MustEndWell call result
-  -- what is refused before any byte, exactly there: the string's first fault, no user, a nonce out of form, more than a user
+  -- what is refused before any byte, exactly there: the string's first fault, no user, a nonce out of form, required TLS
   pub must_refuse : MustRefuse call result

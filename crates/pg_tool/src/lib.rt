@@ -5,10 +5,12 @@ mod asked;
 mod handle;
 mod laws;
 mod opening;
+mod over;
 mod play;
 mod program;
 mod reading;
 mod report;
+mod required;
 mod session;
 mod writing;
 

@@ -1,10 +1,11 @@
 //! The program around a session.
 
-ghost use Rattle.std.specs.Prelude.{◌≡◌, ◌<◌, ◌^◌, ◌↔◌, ℕ, List, None, Err, IfOk, IfSome, IsSome, IsTrue, map, option_map, string_bytes};
+ghost use Rattle.std.specs.Prelude.{◌≡◌, ◌<◌, ◌^◌, ℕ, List, None, Err, IfOk, IfSome, IsSome, map, option_map, string_bytes};
 ghost use Rattle.pg_text.specs.Sessions.{IsNew, session_of};
-ghost use Rattle.pg_tool.specs.RunContract.{Answered, PlayedSession, PlayedText, RefusedLine, RunContract, Written, play};
+ghost use Rattle.pg_tool.specs.RunContract.{Answered, IsOver, IsPiped, IsPlayed, PlayedSession, PlayedText, RefusedLine, RunContract, Written};
 ghost use Rattle.pg_tool.specs.SessionContract.{result_of};
 
+use crate::over::{Over, asked_link};
 use crate::reading::{ReadFault, read_all};
 use crate::session::run_session;
 use crate::writing::{WriteFault, write_all};
@@ -28,7 +29,7 @@ pub struct Outcome {
 
 /// Runs the program: its words say what to do, the source has the session text, and the sink gets the
 /// report. With the one word `play` the text is played over its own link, and the link handed in isn't
-/// used.
+/// used; with `pipe` and two words more it is played over the link handed in, and its own isn't used.
 pub fn run<S: Source, K: Sink, L: Link>(
     alloc: Global,
     words: &[String],
@@ -48,25 +49,14 @@ pub fn run<S: Source, K: Sink, L: Link>(
       result = option_map result_of result.result;
     }) }
 {
-    let _ = &link;
-    if !is_play(words) {
+    let Some(over) = asked_link(words) else {
         return refuse(sink, USAGE.as_bytes());
-    }
+    };
     match read_all(alloc, source) {
-        Ok(text) => play(alloc, text, sink),
+        Ok(text) => play(alloc, text, over, sink, link),
         Err(ReadFault::TooLong) => refuse(sink, b"refused length\n"),
         Err(ReadFault::Failed) => without_session(3),
         Err(ReadFault::OutOfMemory) => without_session(5),
-    }
-}
-
-/// The words are `play` alone.
-fn is_play(words: &[String]) -> bool
-    ensures { IsTrue result ↔ (map string_bytes words.now ≡ play) }
-{
-    match words {
-        [word] => word.as_str() == "play",
-        _ => false,
     }
 }
 
@@ -99,13 +89,23 @@ fn status_of<K: Sink>(sink: &mut K, text: &[u8], status: u8) -> u8
     }
 }
 
-/// Plays a text.
-fn play<K: Sink>(alloc: Global, text: Vec<u8>, sink: &mut K) -> Outcome
-    ensures { PlayedText text.items (K.state sink.old) (K.state sink.new)
+/// Plays a text, over its own link or the one that was handed in.
+fn play<K: Sink, L: Link>(
+    alloc: Global,
+    text: Vec<u8>,
+    over: Over,
+    sink: &mut K,
+    link: &mut L,
+) -> Outcome
+    ensures played { PlayedText (IsOver over (L.view link.old) (L.view link.new)) text.items (K.state sink.old) (K.state sink.new)
         result.status (option_map result_of result.result) }
+    ensures unused { result.result ≡ None → L.view link.new ≡ L.view link.old }
 {
     match session_text(alloc, text.as_slice()) {
-        Ok(session) => play_session(alloc, session, sink),
+        Ok(session) => match over {
+            Over::Own => play_session(alloc, session, sink),
+            Over::Handed => pipe_session(alloc, session, sink, link),
+        },
         Err(TextFault::TooLong) => refuse(sink, b"refused length\n"),
         Err(TextFault::Line(number)) => refuse_line(alloc, number, sink),
         Err(TextFault::OutOfMemory) => without_session(5),
@@ -129,7 +129,7 @@ fn play_session<K: Sink>(alloc: Global, session: Session, sink: &mut K) -> Outco
     requires new { IsNew session }
     ensures some { IsSome result.result }
     ensures played { IfSome (option_map result_of result.result)
-        (PlayedSession (session_of session) (K.state sink.old) (K.state sink.new) result.status) }
+        (PlayedSession IsPlayed (session_of session) (K.state sink.old) (K.state sink.new) result.status) }
 {
     let Session {
         config,
@@ -147,6 +147,42 @@ fn play_session<K: Sink>(alloc: Global, session: Session, sink: &mut K) -> Outco
         nonce.as_slice(),
         max_bytes,
         &mut link,
+    );
+    let status = write_answer(alloc, &result, sink);
+    Outcome {
+        status,
+        result: Some(result),
+    }
+}
+
+/// Plays a session over the link handed in, and writes what it answered.
+fn pipe_session<K: Sink, L: Link>(
+    alloc: Global,
+    session: Session,
+    sink: &mut K,
+    link: &mut L,
+) -> Outcome
+    requires limit { session.max_bytes < 2 ^ 63 }
+    ensures some { IsSome result.result }
+    ensures played { IfSome (option_map result_of result.result)
+        (PlayedSession (IsPiped (L.view link.old) (L.view link.new)) (session_of session) (K.state sink.old) (K.state sink.new) result.status) }
+{
+    let Session {
+        config,
+        scripts,
+        turns,
+        nonce,
+        max_bytes,
+        link: _,
+    } = session;
+    let result = run_session(
+        alloc,
+        config.as_str(),
+        &scripts,
+        turns.as_slice(),
+        nonce.as_slice(),
+        max_bytes,
+        link,
     );
     let status = write_answer(alloc, &result, sink);
     Outcome {

@@ -18,9 +18,14 @@ use pg_types::{Blob, List, Text};
 use std::alloc::Global;
 
 impl Play {
-    /// The report, where `opening` is what startup sent.
-    pub(crate) fn into_report(self, alloc: Global, opening: Vec<u8>) -> Result<Report, Error>
-        ensures report { IfOk result (λ report. Reports opening.items (state_of self) report) }
+    /// The report, where `opening` is what startup sent, and `key` the server's process and the secret key.
+    pub(crate) fn into_report(
+        self,
+        alloc: Global,
+        opening: Vec<u8>,
+        key: (i32, i32),
+    ) -> Result<Report, Error>
+        ensures report { IfOk result (λ report. Reports opening.items key (state_of self) report) }
         ensures counted { self.streams.given < 2 ^ 64 }
         ensures error { IfErr result (λ e. e ≡ Error.OutOfMemory) }
     {
@@ -40,8 +45,8 @@ impl Play {
             answers,
             asynchronous: List::new(asynchronous),
             parameters,
-            process_id: 0,
-            secret_key: 0,
+            process_id: key.0,
+            secret_key: key.1,
             book,
             trace: List::new(trace),
             sent,

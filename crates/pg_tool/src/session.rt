@@ -1,22 +1,28 @@
 //! A session: the startup, the turns, and the report.
 
-ghost use Rattle.std.specs.Prelude.{◌<◌, ◌^◌, ℕ, List, IfErr, IfOk, OnOk};
+ghost use Rattle.std.specs.Prelude.{◌<◌, ◌^◌, IfErr, IfOk, IsTrue, OnOk};
+ghost use Rattle.pg_config.specs.Views.{settings_of};
+ghost use Rattle.pg_promises.specs.Causes.{NeedsNoTls};
 ghost use Rattle.pg_promises.specs.ConnectionStrings.{Means};
-ghost use Rattle.pg_spec.specs.Settings.{only_user};
+ghost use Rattle.pg_spec.specs.Passwords.{is_nonce};
+ghost use Rattle.pg_spec.specs.Settings.{Settings};
 ghost use Rattle.pg_connect.specs.Calm.{StaysCalm};
 ghost use Rattle.pg_session.specs.Sessions.{HasPlayed};
 ghost use Rattle.pg_wire.specs.LinkCalls.{Continues};
 ghost use Rattle.pg_tool.specs.SessionContract.{SessionContract, result_of};
 ghost use Rattle.pg_tool.specs.Fails.{PlaysWithin, SessionFails};
-ghost use Rattle.pg_tool.specs.Asked.{call_of, ConfigIsNotBuilt};
+ghost use Rattle.pg_tool.specs.Asked.{call_of};
 
-use crate::asked::starting_user;
+use crate::asked::may_start;
 use crate::opening::open;
 use crate::play::Play;
+use crate::required::ask_in_vain;
 use pg_config::Config;
-use pg_connect::Startup;
-use pg_errors::Error;
+use pg_errors::{Cause, Error};
+use pg_login::Login;
+use pg_startup::Startup;
 use pg_text::{Report, Scripts};
+use pg_tls::TlsChoice;
 use pg_wire::Link;
 use std::alloc::Global;
 
@@ -26,10 +32,11 @@ use std::alloc::Global;
 ///
 /// Before any byte come ConfigParse exactly where the connection string has a fault, its first one, else
 /// Config(NoUser) exactly where it names no user, else Config(Nonce) exactly where the nonce isn't in form.
-/// Config(NotBuilt) comes then exactly where the string says more that a startup reads, and later only
-/// where a message of the startup is neither AuthenticationOk nor ReadyForQuery. LimitReached comes where the link gave more than
-/// `max_bytes` bytes, Stalled where two rounds or polls moved nothing, or the link has nothing to wait for.
-/// Over a link that conforms valid input answers Ok, or OutOfMemory.
+/// Where it requires TLS nothing crosses the link but an SSLRequest, and the session ends in Tls, since its
+/// connector is `NoTls`, or in an error of the link before the server's byte. Else come the errors of the startup: Encode,
+/// Config(NoPassword), Authentication, Db, Parse, UnexpectedMessage and Io. LimitReached comes where the
+/// link gave more than `max_bytes` bytes, Stalled where two rounds or polls moved nothing, or the link has
+/// nothing to wait for. Over a link that conforms valid input answers Ok, or OutOfMemory.
 pub fn run_session<L: Link>(
     alloc: Global,
     config: &str,
@@ -42,36 +49,54 @@ pub fn run_session<L: Link>(
     requires { max_bytes < 2 ^ 63 }
     ensures session { SessionContract
         (call_of config.now nonce.now scripts.now turns.now max_bytes (L.view link.old) (L.view link.new)) (result_of result) }
-    ensures played { IfOk result (λ report. (user : List ℕ) × Means config.now (only_user user)
-        × HasPlayed user nonce.now scripts.now turns.now (L.view link.old) (L.view link.new) report) }
+    ensures played { IfOk result (λ report. (s : Settings) × Means config.now s
+        × HasPlayed s nonce.now scripts.now turns.now (L.view link.old) (L.view link.new) report) }
 {
     let settings = Config::from_str(alloc, config)?;
-    match starting_user(&settings, nonce) {
-        Ok(user) => play_as(alloc, user, scripts, turns, max_bytes, link),
-        Err(cause) => Err(Error::Config(cause)),
+    match may_start(&settings, nonce) {
+        Ok(()) => {}
+        Err(cause) => return Err(Error::Config(cause)),
+    }
+    match TlsChoice::first(
+        settings.get_ssl_mode(),
+        settings.get_ssl_negotiation(),
+        false,
+        true,
+    ) {
+        TlsChoice::Raw => play_as(alloc, &settings, nonce, scripts, turns, max_bytes, link),
+        TlsChoice::Asks => Err(ask_in_vain(alloc, max_bytes, link)),
+        TlsChoice::Shakes => Err(Error::Tls(Cause::Handshake)),
+        TlsChoice::Fails(cause) => Err(Error::Tls(cause)),
     }
 }
 
-/// The session of this user, whose nonce is in form.
+/// The session of these settings, which require no TLS, and of a nonce in form.
 fn play_as<L: Link>(
     alloc: Global,
-    user: &str,
+    settings: &Config,
+    nonce: &[u8],
     scripts: &Scripts,
     turns: &[u32],
     max_bytes: u64,
     link: &mut L,
 ) -> Result<Report, Error>
-    requires { max_bytes < 2 ^ 63 }
-    ensures fails { (nonce : List ℕ) → IfErr result (SessionFails user.now nonce scripts.now max_bytes (L.view link.old) (L.view link.new)) }
-    ensures played { (nonce : List ℕ) → IfOk result (PlaysWithin user.now nonce scripts.now turns.now max_bytes (L.view link.old) (L.view link.new)) }
+    requires limit { max_bytes < 2 ^ 63 }
+    requires nonce { IsTrue (is_nonce nonce.now) }
+    requires no_tls { NeedsNoTls (settings_of settings.now) }
+    ensures fails { IfErr result (SessionFails (settings_of settings.now) nonce.now scripts.now max_bytes (L.view link.old) (L.view link.new)) }
+    ensures played { IfOk result (PlaysWithin (settings_of settings.now) nonce.now scripts.now turns.now max_bytes (L.view link.old) (L.view link.new)) }
     ensures link { Continues (L.view link.old) (L.view link.new) }
-    ensures config { IfErr result ConfigIsNotBuilt }
     ensures calm { OnOk result (StaysCalm (L.view link.old) (L.view link.new)) }
 {
-    let mut startup = Startup::new(alloc, user, max_bytes)?;
-    open(&mut startup, link)?;
-    let (opening, streams) = startup.into_streams(alloc);
+    let login = Login {
+        config: settings,
+        nonce,
+        channel: None,
+    };
+    let mut startup = Startup::new(alloc, login, 0, max_bytes)?;
+    open(alloc, &mut startup, link)?;
+    let (opening, key, streams) = startup.into_streams();
     let mut play = Play::new(alloc, streams, scripts)?;
     play.run(alloc, link, scripts, turns)?;
-    play.into_report(alloc, opening)
+    play.into_report(alloc, opening, key)
 }

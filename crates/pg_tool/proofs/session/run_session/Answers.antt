@@ -1,7 +1,9 @@
 use Rattle.std.proofs.lemmas.Result.{err_from_is_err_and}
 use Rattle.pg_config.specs.Views.{settings_of}
 use Rattle.pg_tool.proofs.Played.{played_as}
-use Rattle.pg_tool.proofs.Promised.{plays, read_so, start_refused, text_fails, user_so}
+use Rattle.pg_tls.specs.declared.choice.TlsChoice.TheVariants.{Asks, Fails, Raw, Shakes}
+use Rattle.pg_tool.proofs.Requiring.{choice_told, fails_so, raw_so}
+use Rattle.pg_tool.proofs.Promised.{asks, plays, read_so, shakes, start_refused, text_fails}
 use Rattle.pg_tool.proofs.session.run_session.Goals as goal
 
 pub returns-in_err-settings-clause-session : goal.returns-in_err-settings-clause-session
@@ -11,24 +13,42 @@ returns-in_err-settings-clause-session g c =
     text_fails c.args.config.now c.args.nonce.now c.args.scripts.now c.args.turns.now c.args.max_bytes (g.L.Link.view c.args.link.now)
     read.0 c.from_residual.result p.0 c.in_err-settings.field-0.0 p.1 p.2 (g.met.L.Link.tells c.args.link.now) read.1 read.2
 
-pub returns-in-Ok-clause-session : goal.returns-in-Ok-clause-session
-returns-in-Ok-clause-session g c =
+pub returns-in-Raw-clause-session : goal.returns-in-Raw-clause-session
+returns-in-Raw-clause-session g c =
     let read = c.in_ok-settings.ensures.answer in
-    plays c.args.config.now c.in-Ok.user.now c.args.nonce.now c.args.scripts.now c.args.turns.now c.args.max_bytes
+    plays c.args.config.now (settings_of c.in_ok-settings.settings) c.args.nonce.now c.args.scripts.now c.args.turns.now c.args.max_bytes
     (g.L.Link.view c.args.link.now) (g.L.Link.view c.play_as.new.link) c.play_as.result
-    (user_so c.args.config.now c.in-Ok.user.now read.0 c.in_ok-settings.settings read.1 read.2 c.in-Ok.ensures.0) c.in-Ok.ensures.1
+    (read_so c.args.config.now read.0 c.in_ok-settings.settings read.1 read.2) c.in-Ok.ensures (raw_so (settings_of c.in_ok-settings.settings) (choice_told c.in_ok-settings.settings c.get_ssl_mode.result c.get_ssl_negotiation.result Raw c.get_ssl_mode.ensures c.get_ssl_negotiation.ensures c.in-Raw.ensures))
     (g.met.L.Link.tells c.args.link.now) (g.met.L.Link.tells c.play_as.new.link) c.play_as.ensures.link
-    (c.play_as.ensures.fails c.args.nonce.now) (c.play_as.ensures.played c.args.nonce.now) c.play_as.ensures.config c.play_as.ensures.calm
+    c.play_as.ensures.fails c.play_as.ensures.played c.play_as.ensures.calm
 
-pub returns-in-Ok-clause-played : goal.returns-in-Ok-clause-played
-returns-in-Ok-clause-played g c =
+pub returns-in-Raw-clause-played : goal.returns-in-Raw-clause-played
+returns-in-Raw-clause-played g c =
     let read = c.in_ok-settings.ensures.answer in
-    played_as c.args.config.now c.in-Ok.user.now c.args.nonce.now c.args.scripts.now c.args.turns.now c.args.max_bytes
+    played_as c.args.config.now (settings_of c.in_ok-settings.settings) c.args.nonce.now c.args.scripts.now c.args.turns.now c.args.max_bytes
     (g.L.Link.view c.args.link.now) (g.L.Link.view c.play_as.new.link) c.play_as.result
-    (user_so c.args.config.now c.in-Ok.user.now read.0 c.in_ok-settings.settings read.1 read.2 c.in-Ok.ensures.0) (c.play_as.ensures.played c.args.nonce.now)
+    (read_so c.args.config.now read.0 c.in_ok-settings.settings read.1 read.2) c.play_as.ensures.played
 
-pub returns-clause-session : goal.returns-clause-session
-returns-clause-session g c =
+pub returns-in-Err-clause-session : goal.returns-in-Err-clause-session
+returns-in-Err-clause-session g c =
     let read = c.in_ok-settings.ensures.answer in
     start_refused c.args.config.now c.args.nonce.now c.args.scripts.now c.args.turns.now c.args.max_bytes (g.L.Link.view c.args.link.now)
     (settings_of c.in_ok-settings.settings) c.in-Err.cause (g.met.L.Link.tells c.args.link.now) (read_so c.args.config.now read.0 c.in_ok-settings.settings read.1 read.2) c.in-Err.ensures
+
+pub returns-in-Asks-clause-session : goal.returns-in-Asks-clause-session
+returns-in-Asks-clause-session g c =
+    let read = c.in_ok-settings.ensures.answer in
+    asks c.args.config.now (settings_of c.in_ok-settings.settings) c.args.nonce.now c.args.scripts.now c.args.turns.now c.args.max_bytes
+    (g.L.Link.view c.args.link.now) (g.L.Link.view c.ask_in_vain.new.link) c.ask_in_vain.result
+    (read_so c.args.config.now read.0 c.in_ok-settings.settings read.1 read.2) c.in-Ok.ensures (choice_told c.in_ok-settings.settings c.get_ssl_mode.result c.get_ssl_negotiation.result Asks c.get_ssl_mode.ensures c.get_ssl_negotiation.ensures c.in-Asks.ensures)
+    (g.met.L.Link.tells c.args.link.now) (g.met.L.Link.tells c.ask_in_vain.new.link) c.ask_in_vain.ensures
+
+pub returns-in-Shakes-clause-session : goal.returns-in-Shakes-clause-session
+returns-in-Shakes-clause-session g c =
+    let read = c.in_ok-settings.ensures.answer in
+    shakes c.args.config.now (settings_of c.in_ok-settings.settings) c.args.nonce.now c.args.scripts.now c.args.turns.now c.args.max_bytes
+    (g.L.Link.view c.args.link.now) (read_so c.args.config.now read.0 c.in_ok-settings.settings read.1 read.2) c.in-Ok.ensures (choice_told c.in_ok-settings.settings c.get_ssl_mode.result c.get_ssl_negotiation.result Shakes c.get_ssl_mode.ensures c.get_ssl_negotiation.ensures c.in-Shakes.ensures) (g.met.L.Link.tells c.args.link.now)
+
+pub returns-clause-session : goal.returns-clause-session
+returns-clause-session g c = absurd (fails_so (settings_of c.in_ok-settings.settings) c.in-Fails.cause
+    (choice_told c.in_ok-settings.settings c.get_ssl_mode.result c.get_ssl_negotiation.result (Fails c.in-Fails.cause) c.get_ssl_mode.ensures c.get_ssl_negotiation.ensures c.in-Fails.ensures))

@@ -2,8 +2,8 @@ use Rattle.std.proofs.Common.{◌≡◌, ℕ, ◌≤◌, ◌<◌, Bool, List, []
 use Rattle.std.specs.Prelude.{String}
 use Rattle.std.specs.Str.{bytes_eq}
 use Rattle.std.proofs.lemmas.Slice.Eq.{bytes_eq-Decides}
-use Rattle.pg_tool.specs.RunContract.{play}
-use Rattle.pg_tool.proofs.program.is_play.Goals as goal
+use Rattle.pg_tool.specs.Words.{play}
+use Rattle.pg_tool.proofs.over.is_play.Goals as goal
 
 same_head : (v w : List ℕ) → v ∷ [] ≡ w ∷ [] → v ≡ w
 same_head v w e = cc e
