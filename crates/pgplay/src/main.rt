@@ -1,10 +1,14 @@
-//! Plays session texts.
+//! Plays session texts: over a link in memory, or over its own standard input and output.
 #![tactic(auto)]
 
+mod opened;
+
+use crate::opened::Opened;
+use pg_stream::StreamLink;
 use pg_tool::run;
 use pg_wire::{MemoryLink, ReadSource, WriteSink};
 use std::process::ExitCode;
-use std::{env, io};
+use std::{env, fs, io};
 
 /// The status of want of memory.
 const OUT_OF_MEMORY: u8 = 5;
@@ -18,6 +22,32 @@ fn words(rt: &HostRuntime) -> io::Result<Vec<String>> {
     Ok(words)
 }
 
+/// A session text on standard input, its report on standard output; its link is its own.
+fn play(rt: &HostRuntime, words: &[String]) -> u8 {
+    let alloc = rt.alloc();
+    let mut source = ReadSource::new(rt.reader());
+    let mut sink = WriteSink::new(io::writer(rt));
+    let mut link = MemoryLink::new(alloc, Vec::new(alloc), 1, 1, false);
+    run(alloc, words, &mut source, &mut sink, &mut link).status
+}
+
+/// A session text in a file, its report in another, which is made or emptied; its link is standard input and output.
+fn pipe(rt: &HostRuntime, words: &[String], file: &str, report: &str) -> u8 {
+    let alloc = rt.alloc();
+    let mut source = match fs::open(rt, file) {
+        Ok(file) => Opened::Open(ReadSource::new(file)),
+        Err(_) => Opened::Missing(0),
+    };
+    let mut sink = match fs::create(rt, report) {
+        Ok(file) => Opened::Open(WriteSink::new(file)),
+        Err(_) => Opened::Missing(0),
+    };
+    match StreamLink::new(alloc, rt.reader(), io::writer(rt)) {
+        Ok(mut link) => run(alloc, words, &mut source, &mut sink, &mut link).status,
+        Err(_) => OUT_OF_MEMORY,
+    }
+}
+
 fn main(rt: HostRuntime) -> ExitCode {
     let alloc = rt.alloc();
     let words = match words(&rt) {
@@ -28,9 +58,11 @@ fn main(rt: HostRuntime) -> ExitCode {
         // A word isn't UTF-8, so it isn't one that is known: without words the usage line is due.
         Err(_) => Vec::new(alloc),
     };
-    let mut source = ReadSource::new(rt.reader());
-    let mut sink = WriteSink::new(io::writer(&rt));
-    let mut link = MemoryLink::new(alloc, Vec::new(alloc), 1, 1, false);
-    let outcome = run(alloc, words.as_slice(), &mut source, &mut sink, &mut link);
-    ExitCode::from(outcome.status)
+    let status = match words.as_slice() {
+        [word, file, report] if word.as_str() == "pipe" => {
+            pipe(&rt, words.as_slice(), file.as_str(), report.as_str())
+        }
+        _ => play(&rt, words.as_slice()),
+    };
+    ExitCode::from(status)
 }
