@@ -31,6 +31,7 @@ going_on later at bytes Waits = waiting at bytes
 going_on later at bytes (Says said next rest) = before said (later next rest)
 going_on later at bytes (Stops fault) = stopped at bytes fault
 
+-- so many frames at most, one behind another
 abbrev pub said_within : {S : Type 0} → ℕ → Step S → Standing S → List ℕ → Said S
 said_within zero step at bytes = waiting at bytes
 said_within (suc n) step at bytes = going_on (said_within n step) at bytes (front step at bytes)

@@ -47,5 +47,6 @@ FeedsAt step old new bytes out later r Over = (r ≡ Err faults.Ended) × (new �
 FeedsAt step old new bytes out later (Ok done) stage = Takes step old new bytes out later (Ok done)
 FeedsAt step old new bytes out later (Err fault) stage = Takes step old new bytes out later (Err fault) × (new.standing.stage ≡ Over)
 
+-- what a call that is handed these bytes makes of it, by where the connection stood
 abbrev pub Feeds : {S : Type 0} → Step S → (old new : Heard S) → (bytes out later : List ℕ) → Result (Unit {0}) ServerFault → Type 0
 Feeds step old new bytes out later r = FeedsAt step old new bytes out later r old.standing.stage
