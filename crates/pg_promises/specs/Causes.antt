@@ -139,7 +139,9 @@ HasCause call (ConfigParse cause) = ConnectionStringMeans call.config (Err cause
 HasCause call (Config NoUser) = WithSettings call (λ s. s.user ≡ None)
 HasCause call (Config Nonce) = WithSettings call (λ s. IsSome s.user) × IsFalse (is_nonce call.nonce)
 HasCause call (Config NoPassword) = OfDialogue call (λ s g t. InStartup (Config NoPassword) call s g)
-HasCause call (Tls cause) = IsOfTls cause × OfDialogue call (λ s g t. (s.ssl_mode ≡ Require) × NoTlsFor cause s.ssl_negotiation g t)
+HasCause call (Tls cause) = IsOfTls cause × WithSettings call (λ s. (s.ssl_mode ≡ Require)
+    × (s.ssl_negotiation ≡ Postgres → IsFalse call.before.shut → IsTrue call.after.flushed)
+    × OfBytes call.before call.after (λ g t. NoTlsFor cause s.ssl_negotiation g t))
 HasCause call (Encode (Frame frame.OutOfMemory)) = ⊥
 HasCause call (Encode (Frame fault)) = OfDialogue call (λ s g t. InStartup (Encode (Frame fault)) call s g)
 HasCause call (Authentication cause) = IsOfLogin cause × OfDialogue call (λ s g t. InStartup (Authentication cause) call s g)
@@ -171,8 +173,10 @@ pub record RefusedFor {R : Type 0} (failure : Failure) (call : Call) (result : R
   pub answer : (result ≡ Err failure) ⊎ (result ≡ Err OutOfMemory)
   pub untouched : call.after ≡ call.before
 
--- What is refused before any byte, in this order: the string's first fault, no user, a nonce out of form.
+-- What is refused before any byte, in this order: the string's first fault, no user, a nonce out of form, and TLS that
+-- is required and begins at once, over a connector that has none.
 pub record MustRefuse {R : Type 0} (call : Call) (result : Result R Failure) : Type 0 where
   pub text : (cause : Cause) → ConnectionStringMeans call.config (Err cause) → RefusedFor (ConfigParse cause) call result
   pub user : WithSettings call (λ s. s.user ≡ None) → RefusedFor (Config NoUser) call result
   pub nonce : WithSettings call (λ s. IsSome s.user) → IsFalse (is_nonce call.nonce) → RefusedFor (Config Nonce) call result
+  pub direct : WithSettings call (λ s. IsSome s.user × (s.ssl_mode ≡ Require) × (s.ssl_negotiation ≡ Direct)) → IsTrue (is_nonce call.nonce) → RefusedFor (Tls Handshake) call result

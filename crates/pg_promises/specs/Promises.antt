@@ -6,7 +6,7 @@ use Rattle.pg_promises.specs.Causes.{Call, OfDialogue, MustAskForTls, NeedsNoTls
 use Rattle.pg_spec.specs.Passwords.{is_nonce}
 use Rattle.pg_spec.specs.Asides.{is_readable}
 use Rattle.pg_promises.specs.ConnectionStrings.{Means}
-use Rattle.pg_spec.specs.Faults.{Failure, OutOfMemory, Stalled}
+use Rattle.pg_spec.specs.Faults.{Failure, OutOfMemory, Stalled, Tls}
 use Rattle.pg_spec.specs.Frames.{startup_frame, query_frame, ssl_request, terminate_frame}
 use Rattle.pg_spec.specs.Links.{Plan}
 use Rattle.pg_spec.specs.RawMessages.{messages, bytes_left, groups, is_whole_group, is_async, is_parameter}
@@ -89,13 +89,14 @@ InScriptOrder scripts book = (handle : ℕ) (script : List Command) → slice_ge
     (later : List (List (List ℕ))) × (map (λ b. b.parts) (filter (λ b. b.stamp.owner == handle) book) ++ later
     ≡ map (λ frame. frame ∷ []) (filter_map request_frame script))
 
--- Nothing; or, where TLS is required, a front of the SSLRequest and nothing else; or, where it isn't, a front of the
--- startup's frames, or, once the startup is done, these and then a front of requests and Terminate.
+-- Nothing; or, where TLS is required, a front of the SSLRequest and nothing else, and at most the byte that answers it was
+-- read; or, where it isn't, a front of the startup's frames, or, once the startup is done, these and then a front of requests
+-- and Terminate.
 pub record SentInOrder (call : Call) (s : Settings) (g t : List ℕ) : Type 0 where
   pub book : List Booking
   pub owners : All (λ b. b.stamp.owner < length call.scripts) book
   pub order : InScriptOrder call.scripts book
-  pub front : (t ≡ []) ⊎ (MustAskForTls s × IsFront t ssl_request)
+  pub front : (t ≡ []) ⊎ (MustAskForTls s × IsFront t ssl_request × (length g ≤ 1))
       ⊎ (NeedsNoTls s × (IsFront t (concat (startup_after call s g).frames)
       ⊎ (((used : ℕ) × ((startup_after call s g).outcome ≡ Done used))
       × IsFront t (concat (startup_after call s g).frames ++ wire book ++ terminate_frame))))
@@ -107,11 +108,13 @@ abbrev pub is_plain : Command → Bool
 is_plain (Simple text None) = elim (query_frame text) [ Ok frame ↦ true | Err fault ↦ false ]
 is_plain (Simple text (Some n)) = false
 
--- over a steady link an Ok session never waited in vain, and one that stalled had sent a request of each script
+-- over a steady link an Ok session, and one that ends in Tls, never waited in vain, and one that stalled had sent a request of
+-- each script
 abbrev pub NoneKeptBack : Call → Result Report Failure → Type 0
 NoneKeptBack call (Ok report) = IsTrue call.before.steady → call.after.lulls ≡ call.before.lulls
 NoneKeptBack call (Err (Stalled before after)) = IsTrue call.before.steady →
     All (λ script. All (λ command. IsTrue (is_plain command)) script) call.scripts →
     OfDialogue call (λ s g t. ((used : ℕ) × ((startup_after call s g).outcome ≡ Done used)) →
     count_by (λ script. nat_lt 0 (length script)) call.scripts ≤ whole_units t)
+NoneKeptBack call (Err (Tls cause)) = IsTrue call.before.steady → call.after.lulls ≡ call.before.lulls
 NoneKeptBack call (Err failure) = ⊤

@@ -295,7 +295,7 @@ module _ (call : Call) (settings : Settings) (plan : Plan) (g t : List ℕ) (mea
       omega (arith, count, more, most, past, is)
 
   no-tls : (cause : faults.Cause) → HasCause call (faults.Tls cause) → ⊥
-  no-tls cause h = v.no_tls (dialogue-says _ h.1).0
+  no-tls cause h = v.no_tls (ap (λ (x : Settings). x.ssl_mode) (sym (means_one call.config h.1.0 settings h.1.1 means)) ∙ h.1.2.0)
 
   -- nothing is wrong with the bytes
   no-fault : (fault : WireFault) → OfDialogue call (λ s g t.
