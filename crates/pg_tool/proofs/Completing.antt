@@ -18,8 +18,12 @@ use Rattle.pg_text.proofs.ReadLaws.{one_session, refused_is_none}
 use Rattle.pg_session.proofs.Complete.Course.{few-frames, in-plan, must-end-well, of-some}
 use Rattle.pg_session.proofs.SentSoFar.TurnsAsked.{few-turns}
 use Rattle.pg_tool.specs.Reading.{longest_text, ReadWhole}
-use Rattle.pg_tool.specs.RunContract.{EndsWith, IsOver, IsPlayed, IsWellMade, MustPlay, PlayedSession, PlayedText, Run, SaysResult, call_of, new_link, plan_of}
+use Rattle.pg_tool.specs.RunContract.{EndsWith, IsOver, SummedUp, WritesSummary, IsPlayed, IsWellMade, MustPlay, PlayedSession, PlayedText, Run, SaysResult, call_of, new_link}
+use Rattle.pg_gen.specs.Generated.{IsCount, generated}
+use Rattle.pg_gen.specs.Laws.{plan_of}
+use Rattle.pg_gen.proofs.WellMade.{well_made}
 use Rattle.pg_tool.specs.Words.{Asks, play}
+use Rattle.pg_tool.specs.declared.numbers.Numbers.{Numbers}
 use Rattle.pg_tool.specs.declared.over.Over.{Over}
 use Rattle.pg_tool.specs.declared.over.Over.TheVariants as over
 use Rattle.pg_tool.specs.SessionContract.{SendsInOrder, SessionResult, result_of}
@@ -113,3 +117,13 @@ must_text run over.Own bytes asks read played told text words left within is mad
     text_so bytes text run.sink_before run.sink_after run.status run.result (own_text run.link_before run.link_after bytes run.sink_before run.sink_after run.status run.result played) read.within
     (subst (λ (l : List ℕ). IsSessionText l text) same is) made calm_sink
 must_text run over.Handed bytes asks read played told text words left within is made calm_source calm_sink = absurd (let no : play ≡ codes "pipe" ∷ asks.0 ∷ asks.1 ∷ [] = sym words ∙ asks.2 in cc)
+
+-- ---- a generated session
+
+-- its result was told; it fails for want of memory alone
+pub summed_up : (x : Numbers) (old new : SinkView) (status : ℕ) (r : SessionResult) → IsCount x.commands → IsPlayed (generated x.commands x.seed) r → WritesSummary old new status r → SummedUp old new status r
+summed_up x old new status (Ok report) count played w = record { says = w.ends; sink_failed = w.sink_failed (λ e. cc e) }
+summed_up x old new status (Err failure) count played nothing = record {
+  says = (only_memory failure (ends_well (generated x.commands x.seed) (Err failure) failure played refl (well_made x.commands x.seed (call_of (generated x.commands x.seed) (new_link (generated x.commands x.seed))) count (record { nonce = refl; limit = refl }))), nothing);
+  sink_failed = λ is. absurd (omega (arith, nothing.0, is));
+}

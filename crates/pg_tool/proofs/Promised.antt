@@ -3,7 +3,7 @@ use Rattle.std.proofs.Common.{◌≡◌, ◌<◌, ℕ, List, length, Option, Som
 use Rattle.std.specs.Prelude.{OnOk, IsSome}
 use Rattle.std.proofs.lemmas.Bool.{true≢false}
 use Rattle.std.proofs.lemmas.List.{length-drop}
-use Rattle.pg_promises.specs.Causes.{Call, HasCause, MustAskForTls, MustRefuse, NeedsNoTls}
+use Rattle.pg_promises.specs.Causes.{Call, HasCause, MustAskForTls, MustRefuse, NeedsNoTls, RefusedFor}
 use Rattle.pg_promises.specs.Promises.{NoneKeptBack}
 use Rattle.pg_promises.proofs.Strings.{means_one, no_fault}
 use Rattle.pg_config.specs.ConnectionStrings.{ConnectionStringMeans}
@@ -12,7 +12,7 @@ use Rattle.pg_config.specs.Views.{settings_of}
 use Rattle.pg_config.specs.declared.config.Config.{Config as Settled}
 use Rattle.pg_config.proofs.OneMeaning.{meaning_one}
 use Rattle.pg_promises.specs.ConnectionStrings.{Means}
-use Rattle.pg_spec.specs.Settings.{Settings}
+use Rattle.pg_spec.specs.Settings.{Settings, Require, Postgres, Direct}
 use Rattle.pg_spec.specs.Faults.{Cause, ConfigParse, OutOfMemory}
 use Rattle.pg_spec.specs.Links.{LinkView, added}
 use Rattle.pg_spec.specs.Report as said
@@ -58,9 +58,10 @@ IsEarly (error.Tls c) = Unit {0}
 IsEarly error.OutOfMemory = Unit {0}
 IsEarly _ = ⊥
 
-early_kept : (call : Call) (e : Error) → IsEarly e → NoneKeptBack call (Err e)
-early_kept call (error.Stalled a b) early = absurd early
-early_kept call _ early = tt
+early_kept : (call : Call) (e : Error) → call.after ≡ call.before → IsEarly e → NoneKeptBack call (Err e)
+early_kept call (error.Stalled a b) same early = absurd early
+early_kept call (error.Tls c) same early = λ steady. ap (λ (l : LinkView). l.lulls) same
+early_kept call _ same early = tt
 
 -- it is answered over a link that is left alone, where it has its cause and all that must be refused is
 pub refuses : (config nonce : List ℕ) (scripts : List (List Command)) (turns : List ℕ) (limit : ℕ) (link : LinkView) (e : Error) → Tells link → IsEarly e →
@@ -78,7 +79,7 @@ refuses config nonce scripts turns limit link e tells early has must =
       cause = has;
       limit = none_given link.given link.taken limit _;
       sent = sent;
-      none_kept_back = early_kept call e early;
+      none_kept_back = early_kept call e refl early;
       must_end_well = must_all call (Err e) tells tells (continues_same link) sent has;
       must_refuse = must;
     }
@@ -92,6 +93,7 @@ lacks config nonce scripts turns limit link = record {
   text = λ c fault. record { answer = inr refl; untouched = refl };
   user = λ w. record { answer = inr refl; untouched = refl };
   nonce = λ w out. record { answer = inr refl; untouched = refl };
+  direct = λ w form. record { answer = inr refl; untouched = refl };
 }
 
 same_fault : (a b : Result Settled Cause) (c d : Cause) → a ≡ Err c → b ≡ Err d → a ≡ b → c ≡ d
@@ -107,6 +109,7 @@ faulty config nonce scripts turns limit link c fault = record {
   };
   user = λ w. absurd (no_fault config w.0 c w.1 fault);
   nonce = λ w out. absurd (no_fault config w.0 c w.1 fault);
+  direct = λ w form. absurd (no_fault config w.0 c w.1 fault);
 }
 
 -- by what reading the settings answered
@@ -147,12 +150,14 @@ start_refused config nonce scripts turns limit link s cause.NoUser tells means n
       text = λ d fault. absurd (no_fault config s d means fault);
       user = λ w. record { answer = inl refl; untouched = refl };
       nonce = λ w out. absurd (none_some w.0.user (user_of_said config w.0 s w.1 means ∙ none) w.2);
+      direct = λ w form. absurd (none_some w.0.user (user_of_said config w.0 s w.1 means ∙ none) w.2.0);
     })
 start_refused config nonce scripts turns limit link s cause.Nonce tells means why =
     refuses config nonce scripts turns limit link (error.Config cause.Nonce) tells tt ((s, means, why.0), why.1) (record {
       text = λ d fault. absurd (no_fault config s d means fault);
       user = λ w. absurd (none_some s.user (user_of_said config s w.0 means w.1 ∙ w.2) why.0);
       nonce = λ w out. record { answer = inl refl; untouched = refl };
+      direct = λ w form. absurd (true≢false (sym form ∙ why.1));
     })
 start_refused config nonce scripts turns limit link s _ tells means why = absurd why
 
@@ -160,11 +165,16 @@ start_refused config nonce scripts turns limit link s _ tells means why = absurd
 
 -- settings that name a user, and a nonce in form, are refused for nothing
 starts : {R : Type 0} (config : List ℕ) (settings : Settings) (nonce : List ℕ) (scripts : List (List Command)) (turns : List ℕ) (limit : ℕ) (before after : LinkView) (r : Result R Error) →
-    Means config settings → MayStart settings nonce (Ok tt) → MustRefuse {R = R} (call_of config nonce scripts turns limit before after) r
-starts config settings nonce scripts turns limit before after r means may = record {
+    Means config settings → MayStart settings nonce (Ok tt) →
+    ((settings.ssl_mode ≡ Require) × (settings.ssl_negotiation ≡ Direct) → RefusedFor {R = R} (error.Tls cause.Handshake) (call_of config nonce scripts turns limit before after) r) →
+    MustRefuse {R = R} (call_of config nonce scripts turns limit before after) r
+starts config settings nonce scripts turns limit before after r means may direct = record {
   text = λ d fault. absurd (no_fault config settings d means fault);
   user = λ w. absurd (none_some settings.user (user_of_said config settings w.0 means w.1 ∙ w.2) may.0);
   nonce = λ w out. absurd (true≢false (sym may.1 ∙ out));
+  direct = λ w form.
+      let same = means_one config settings w.0 means w.1 in
+      direct (ap (λ (x : Settings). x.ssl_mode) same ∙ w.2.1, ap (λ (x : Settings). x.ssl_negotiation) same ∙ w.2.2);
 }
 
 -- ---- it requires TLS
@@ -176,7 +186,7 @@ pub shakes : (config : List ℕ) (settings : Settings) (nonce : List ℕ) (scrip
 shakes config settings nonce scripts turns limit link means may choice tells =
     refuses config nonce scripts turns limit link (error.Tls cause.Handshake) tells tt
     (shakes_cause (call_of config nonce scripts turns limit link link) settings means (shakes_so settings choice) refl)
-    (starts {R = said.Report} config settings nonce scripts turns limit link link (Err (error.Tls cause.Handshake)) means may)
+    (starts {R = said.Report} config settings nonce scripts turns limit link link (Err (error.Tls cause.Handshake)) means may (λ must. record { answer = inl refl; untouched = refl }))
 
 -- the server was asked
 asks-in : (config : List ℕ) (settings : Settings) (nonce : List ℕ) (scripts : List (List Command)) (turns : List ℕ) (limit : ℕ) (before after : LinkView) (e : Error) (s : SslRequest) →
@@ -198,7 +208,7 @@ asks-in config settings nonce scripts turns limit before after e s means may mus
       sent = sent;
       none_kept_back = vain_kept call settings s e means vain;
       must_end_well = must_all call (Err e) told tells link sent causes;
-      must_refuse = starts {R = said.Report} config settings nonce scripts turns limit before after (Err e) means may;
+      must_refuse = starts {R = said.Report} config settings nonce scripts turns limit before after (Err e) means may (λ direct. absurd (let no : Direct ≡ Postgres = sym direct.1 ∙ must.1 in cc));
     }
 
 lacks-in : (config : List ℕ) (nonce : List ℕ) (scripts : List (List Command)) (turns : List ℕ) (limit : ℕ) (before after : LinkView) (e : Error) → e ≡ error.OutOfMemory → after ≡ before → Tells before →
@@ -251,7 +261,7 @@ plays config settings nonce scripts turns limit before after r means may plain t
       limit = keeps_limit call r (ended_within settings nonce scripts turns limit before after r played)
           (holds_all config settings nonce scripts turns limit before after r means fails) causes;
       sent = sent;
-      none_kept_back = asks_all config settings nonce scripts turns limit before after r means calm fails;
+      none_kept_back = asks_all config settings nonce scripts turns limit before after r means plain calm causes fails;
       must_end_well = must_all call r told tells link sent causes;
-      must_refuse = starts {R = said.Report} config settings nonce scripts turns limit before after (result_of r) means may;
+      must_refuse = starts {R = said.Report} config settings nonce scripts turns limit before after (result_of r) means may (λ direct. absurd (plain direct.0));
     }

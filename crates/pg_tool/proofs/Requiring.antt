@@ -7,7 +7,7 @@ use Rattle.pg_config.specs.Views.{settings_of, ssl_mode, ssl_negotiation}
 use Rattle.pg_config.specs.declared.config.Config.{Config}
 use Rattle.pg_config.specs.declared.modes.SslMode.{SslMode}
 use Rattle.pg_config.specs.declared.modes.SslNegotiation.{SslNegotiation}
-use Rattle.pg_promises.specs.Causes.{Call, HasCause, IsAwaited, IsStalled, MustAskForTls, NeedsNoTls, NoTlsFor, OfDialogue}
+use Rattle.pg_promises.specs.Causes.{Call, HasCause, IsAwaited, IsOfTls, IsStalled, MustAskForTls, NeedsNoTls, NoTlsFor, OfDialogue}
 use Rattle.pg_promises.specs.ConnectionStrings.{Means}
 use Rattle.pg_promises.specs.Promises.{IsFront, NoneKeptBack, SentInOrder}
 use Rattle.pg_spec.specs.Faults.{Cause, FrameFault, Handshake, Refused}
@@ -104,6 +104,7 @@ record Ended (begin now : LinkView) : Type 0 where
   pub given : Grew begin.given now.given got
   pub taken : Grew begin.taken now.taken sent
   pub front : IsFront sent ssl_request
+  pub one : length got ≤ 1
   pub shut : now.shut ≡ begin.shut
   pub goes : Continues begin now
 
@@ -114,6 +115,7 @@ failed-ended begin now s e f = record {
   given = f.given;
   taken = f.taken;
   front = (f.unsent, f.out);
+  one = f.one;
   shut = f.shut;
   goes = continues_grown begin now f.got f.sent f.given f.taken f.link;
 }
@@ -128,6 +130,7 @@ ends-ended begin now s (error.Stalled a b) h =
       given = grew.0;
       taken = grew.1;
       front = (s.bytes.unsent.items, h.asking.out);
+      one = omega arith;
       shut = rests.writing.shut ∙ h.asking.shut;
       goes = continues_then begin h.polled now (continues_grown begin h.polled [] h.asking.sent h.asking.given h.asking.taken h.asking.link) (continues_still h.polled now rests.bytes rests.keeps);
     }
@@ -142,6 +145,7 @@ vain-ended begin now s e (inl h) =
       given = a.given;
       taken = a.taken;
       front = ([], append-nil ssl_request);
+      one = omega arith;
       shut = a.shut;
       goes = continues_grown begin now (h.0 ∷ []) ssl_request a.given a.taken a.link;
     }
@@ -153,22 +157,31 @@ tls-cause : (x : Bool) → tls_error (if x then Shakes else Fails Refused) ≡ e
 tls-cause true = refl
 tls-cause false = refl
 
-of-tls : (call : Call) (x : Bool) (P : Cause → Type 0) → P (if x then Handshake else Refused) → OfDialogue call (λ s g t. (s.ssl_mode ≡ Require) × NoTlsFor (if x then Handshake else Refused) s.ssl_negotiation g t) →
-    HasCause call (error.Tls (if x then Handshake else Refused))
-of-tls call true P p h = (tt, h)
-of-tls call false P p h = (tt, h)
+-- the cause of such an error
+abbrev tls-of : Bool → Cause
+tls-of x = if x then Handshake else Refused
+
+is-of-tls : (x : Bool) → IsOfTls (tls-of x)
+is-of-tls true = tt
+is-of-tls false = tt
 
 -- the server's byte came
 byte-cause : (call : Call) (settings : Settings) (s : SslRequest) (b : ℕ) (e : Error) → Means call.config settings → MustAskForTls settings → Asked call.before call.after s b →
     e ≡ tls_error (choice_behind b) → HasCause call e
 byte-cause call settings s b e means must a is =
-    subst (λ (x : Error). HasCause call x) (sym (is ∙ tls-cause (b == byte "S")))
-    (of-tls call (b == byte "S") (λ c. Unit {0}) tt (
-      settings,
-      means,
-      grown call (b ∷ []) ssl_request (λ g t. (settings.ssl_mode ≡ Require) × NoTlsFor (if b == byte "S" then Handshake else Refused) settings.ssl_negotiation g t) a.given a.taken
-          (must.0, subst (λ (n : Negotiation). NoTlsFor (if b == byte "S" then Handshake else Refused) n (b ∷ []) ssl_request) (sym must.1) (refl, refl)),
-    ))
+    subst (λ (x : Error). HasCause call x) (sym (is ∙ tls-cause (b == byte "S"))) (
+      is-of-tls (b == byte "S"),
+      (
+        settings,
+        means,
+        (
+          must.0,
+          (λ postgres open_. a.flushed open_),
+          grown call (b ∷ []) ssl_request (λ g t. NoTlsFor (tls-of (b == byte "S")) settings.ssl_negotiation g t) a.given a.taken
+              (subst (λ (n : Negotiation). NoTlsFor (tls-of (b == byte "S")) n (b ∷ []) ssl_request) (sym must.1) (refl, refl)),
+        ),
+      ),
+    )
 
 -- nothing came for it
 stalled-cause : (call : Call) (settings : Settings) (s : SslRequest) (before after : ℕ) → Means call.config settings → MustAskForTls settings →
@@ -213,7 +226,7 @@ ends-cause call settings s _ means must limit f = failed-cause call settings s _
 
 pub vain_cause : (call : Call) (settings : Settings) (s : SslRequest) (e : Error) → Means call.config settings → MustAskForTls settings → s.bytes.max_bytes ≡ call.limit →
     AsksInVain call.before call.after s e → HasCause call e
-vain_cause call settings s e means must limit (inl h) = byte-cause call settings s h.0 e means must h.1 h.2
+vain_cause call settings s e means must limit (inl h) = byte-cause call settings s h.0 e means must h.1 h.3
 vain_cause call settings s e means must limit (inr ends) = ends-cause call settings s e means must limit ends
 
 -- ---- the limit
@@ -248,7 +261,7 @@ vain_sent call settings s e means must h =
       settings,
       means,
       grown call ended.got ended.sent (λ g t. SentInOrder call settings g t) ended.given ended.taken
-          (record { book = []; owners = All-nil (λ b. b.stamp.owner < length call.scripts); order = none-order call.scripts; front = inr (inl (must, ended.front)) }),
+          (record { book = []; owners = All-nil (λ b. b.stamp.owner < length call.scripts); order = none-order call.scripts; front = inr (inl (must, ended.front, ended.one)) }),
     )
 
 pub vain_open : (begin now : LinkView) (s : SslRequest) (e : Error) → AsksInVain begin now s e → LeavesOpen begin now e
@@ -272,10 +285,12 @@ not-stalled Shakes a b is = absurd cc
 not-stalled Asks a b is = absurd cc
 
 pub vain_kept : (call : Call) (settings : Settings) (s : SslRequest) (e : Error) → Means call.config settings → AsksInVain call.before call.after s e → NoneKeptBack call (Err e)
-vain_kept call settings s (error.Stalled a b) means (inl h) = absurd (not-stalled (choice_behind h.0) a b h.2)
+vain_kept call settings s (error.Stalled a b) means (inl h) = absurd (not-stalled (choice_behind h.0) a b h.3)
 vain_kept call settings s (error.Stalled a b) means (inr h) = λ steady plain.
     let grew = stopped-grew call.before call.after s a b h in
     (settings, means, grown call [] h.asking.sent _ grew.0 grew.1 (λ started. absurd (not-done (startup_frame (startup_parameters settings)) started.0 (dialogue (plain_login settings call.nonce) First (messages [])) refl started.1)))
+vain_kept call settings s (error.Tls c) means (inl h) = h.2.no_lull
+vain_kept call settings s (error.Tls c) means (inr h) = absurd h.fails
 vain_kept call settings s _ means h = tt
 
 -- ---- the handshake fails before a byte
@@ -287,19 +302,22 @@ shakes_cause call settings means must same = (
   (
     settings,
     means,
-    grown call [] [] (λ g t. (settings.ssl_mode ≡ Require) × NoTlsFor Handshake settings.ssl_negotiation g t)
-        (grew_same call.before.given call.after.given (ap (λ (l : LinkView). l.given) same)) (grew_same call.before.taken call.after.taken (ap (λ (l : LinkView). l.taken) same))
-        (must.0, subst (λ (n : Negotiation). NoTlsFor Handshake n [] []) (sym must.1) (refl, refl)),
+    (
+      must.0,
+      (λ postgres open_. absurd (let no : Direct ≡ Postgres = sym must.1 ∙ postgres in cc)),
+      grown call [] [] (λ g t. NoTlsFor Handshake settings.ssl_negotiation g t) (grew_same call.before.given call.after.given (ap (λ (l : LinkView). l.given) same))
+          (grew_same call.before.taken call.after.taken (ap (λ (l : LinkView). l.taken) same)) (subst (λ (n : Negotiation). NoTlsFor Handshake n [] []) (sym must.1) (refl, refl)),
+    ),
   ),
 )
 
 -- ---- the request is polled until it answers
 
 -- what a poll that ended it answered
-pub ask_answers : (begin now : LinkView) (s : SslRequest) (r : Result ℕ Error) → AskAnswers begin now s (Ready r) → AskEnds begin now s r
-ask_answers begin now s (Ok b) a = a
-ask_answers begin now s (Err (error.Stalled before after)) f = absurd f.fails
-ask_answers begin now s (Err _) f = f
+pub ask_answers : (begin now : LinkView) (s : SslRequest) (r : Result ℕ Error) → AskAnswers begin now s (Ready r) → StaysCalm begin now → AskEnds begin now s r
+ask_answers begin now s (Ok b) a calm = (a, calm)
+ask_answers begin now s (Err (error.Stalled before after)) f calm = absurd f.fails
+ask_answers begin now s (Err _) f calm = f
 
 -- behind a poll that moved nothing, a pause ended it
 pub ask_stops : (begin l a b : LinkView) (s : SslRequest) (waited : Bool) (e : Error) → Keeps begin l → Asking begin a s → s.bytes.given ≤ s.bytes.max_bytes → AsksOn s l a → MissesOne l a →

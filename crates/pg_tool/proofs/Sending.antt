@@ -1,8 +1,10 @@
 -- What was sent where a session failed, and how the link stands then.
 use Rattle.std.proofs.Common.{◌≡◌, ℕ, List, IfErr, Result, Ok, Err, inl, inr, refl, ap, ◌∙◌}
 use Rattle.std.specs.Prelude.{OnOk}
-use Rattle.pg_promises.specs.Causes.{Call, NeedsNoTls, OfDialogue}
+use Rattle.pg_promises.specs.Causes.{Call, HasCause, NeedsNoTls, OfDialogue}
 use Rattle.pg_promises.specs.ConnectionStrings.{Means}
+use Rattle.pg_promises.proofs.Strings.{means_one}
+use Rattle.pg_spec.specs.Faults.{Cause}
 use Rattle.pg_spec.specs.Settings.{Settings}
 use Rattle.pg_spec.specs.Links.{LinkView}
 use Rattle.pg_promises.specs.Promises.{NoneKeptBack, SentInOrder}
@@ -55,20 +57,27 @@ sends_all config settings nonce scripts turns limit before after (Err e) means p
 
 -- ---- where it ended well or stalled
 
-asks_by : (config : List ℕ) (settings : Settings) (nonce : List ℕ) (scripts : List (List Command)) (turns : List ℕ) (limit : ℕ) (before after : LinkView) (e : Error) → Means config settings →
-    SessionFails settings nonce scripts limit before after e → NoneKeptBack (call_of config nonce scripts turns limit before after) (Err e)
-asks_by config settings nonce scripts turns limit before after (error.Stalled a b) means (inl lacks) = absurd (let no : error.Stalled a b ≡ error.OutOfMemory = lacks.memory in cc)
-asks_by config settings nonce scripts turns limit before after (error.Stalled a b) means (inr (inl made)) = absurd made.0
-asks_by config settings nonce scripts turns limit before after (error.Stalled a b) means (inr (inr (inl start))) =
-    stopped-kept (call_of config nonce scripts turns limit before after) settings start.startup a b means start.ends
-asks_by config settings nonce scripts turns limit before after (error.Stalled a b) means (inr (inr (inr later))) =
-    broken-kept (call_of config nonce scripts turns limit before after) settings scripts (error.Stalled a b) means later.broken later.limited a b refl refl
-asks_by config settings nonce scripts turns limit before after _ means fails = tt
+-- settings that need no TLS give no error of it
+not_tls : (call : Call) (settings : Settings) (c : Cause) → Means call.config settings → NeedsNoTls settings → HasCause call (error.Tls c) → ⊥
+not_tls call settings c means plain h = plain (ap (λ (x : Settings). x.ssl_mode) (means_one call.config settings h.1.0 means h.1.1) ∙ h.1.2.0)
 
-pub asks_all : (config : List ℕ) (settings : Settings) (nonce : List ℕ) (scripts : List (List Command)) (turns : List ℕ) (limit : ℕ) (before after : LinkView) (r : Result Report Error) → Means config settings →
-    OnOk r (StaysCalm before after) → IfErr r (SessionFails settings nonce scripts limit before after) → NoneKeptBack (call_of config nonce scripts turns limit before after) (result_of r)
-asks_all config settings nonce scripts turns limit before after (Ok report) means calm fails = calm.no_lull
-asks_all config settings nonce scripts turns limit before after (Err e) means calm fails = asks_by config settings nonce scripts turns limit before after e means fails
+asks_by : (config : List ℕ) (settings : Settings) (nonce : List ℕ) (scripts : List (List Command)) (turns : List ℕ) (limit : ℕ) (before after : LinkView) (e : Error) → Means config settings → NeedsNoTls settings →
+    HasCause (call_of config nonce scripts turns limit before after) e → SessionFails settings nonce scripts limit before after e → NoneKeptBack (call_of config nonce scripts turns limit before after) (Err e)
+asks_by config settings nonce scripts turns limit before after (error.Stalled a b) means plain has (inl lacks) = absurd (let no : error.Stalled a b ≡ error.OutOfMemory = lacks.memory in cc)
+asks_by config settings nonce scripts turns limit before after (error.Stalled a b) means plain has (inr (inl made)) = absurd made.0
+asks_by config settings nonce scripts turns limit before after (error.Stalled a b) means plain has (inr (inr (inl start))) =
+    stopped-kept (call_of config nonce scripts turns limit before after) settings start.startup a b means start.ends
+asks_by config settings nonce scripts turns limit before after (error.Stalled a b) means plain has (inr (inr (inr later))) =
+    broken-kept (call_of config nonce scripts turns limit before after) settings scripts (error.Stalled a b) means later.broken later.limited a b refl refl
+asks_by config settings nonce scripts turns limit before after (error.Tls c) means plain has fails =
+    absurd (not_tls (call_of config nonce scripts turns limit before after) settings c means plain has)
+asks_by config settings nonce scripts turns limit before after _ means plain has fails = tt
+
+pub asks_all : (config : List ℕ) (settings : Settings) (nonce : List ℕ) (scripts : List (List Command)) (turns : List ℕ) (limit : ℕ) (before after : LinkView) (r : Result Report Error) → Means config settings → NeedsNoTls settings →
+    OnOk r (StaysCalm before after) → IfErr r (λ e. HasCause (call_of config nonce scripts turns limit before after) e) → IfErr r (SessionFails settings nonce scripts limit before after) →
+    NoneKeptBack (call_of config nonce scripts turns limit before after) (result_of r)
+asks_all config settings nonce scripts turns limit before after (Ok report) means plain calm has fails = calm.no_lull
+asks_all config settings nonce scripts turns limit before after (Err e) means plain calm has fails = asks_by config settings nonce scripts turns limit before after e means plain has fails
 
 -- ---- the writing side
 

@@ -11,7 +11,8 @@ use Rattle.pg_spec.specs.RawMessages.{bytes_left, is_async, is_parameter}
 use Rattle.pg_spec.specs.Sent.{turns_given}
 use Rattle.pg_promises.proofs.WorkedPlans.{only_first, replies_all}
 use Rattle.pg_promises.proofs.WorkedStrings.{means_a}
-use Rattle.pg_tool.specs.RunContract.{IsWellMade, call_of, new_link, plan_of}
+use Rattle.pg_tool.specs.RunContract.{IsWellMade, call_of, new_link}
+use Rattle.pg_gen.specs.Laws.{plan_of}
 
 valid : IsValid (call_of good_text (new_link good_text)) (only_user (codes "a")) (plan_of good_text)
 unfolding is_utf8 chars encode

@@ -43,15 +43,15 @@ pub record StopsAsking (begin now : LinkView) (s : SslRequest) (e : Error) : Typ
   pub promised : waited ≡ true → IsTrue link.promised
   pub fails : PauseFails link.quiet polled.quiet waited polled now e
 
--- how the request ends: by a byte, stalled behind a poll that moved nothing, or it failed
+-- how the request ends: by a byte, with no lull on a steady link, stalled behind a poll that moved nothing, or it failed
 abbrev pub AskEnds : (begin now : LinkView) → SslRequest → Result ℕ Error → Type 0
-AskEnds begin now s (Ok b) = Asked begin now s b
+AskEnds begin now s (Ok b) = Asked begin now s b × StaysCalm begin now
 AskEnds begin now s (Err (error.Stalled before after)) = StopsAsking begin now s (error.Stalled before after)
 AskEnds begin now s (Err e) = AskFailed begin now s e
 
 -- The server's byte came, and the handshake failed or TLS was refused; or no byte came.
 abbrev pub AsksInVain : (begin now : LinkView) → SslRequest → Error → Type 0
-AsksInVain begin now s e = ((b : ℕ) × Asked begin now s b × (e ≡ tls_error (choice_behind b))) ⊎ AskEnds begin now s (Err e)
+AsksInVain begin now s e = ((b : ℕ) × Asked begin now s b × StaysCalm begin now × (e ≡ tls_error (choice_behind b))) ⊎ AskEnds begin now s (Err e)
 
 -- the same under a limit of the bytes, unless memory lacked before it
 abbrev pub AsksWithin : (limit : ℕ) → (begin now : LinkView) → Error → Type 0

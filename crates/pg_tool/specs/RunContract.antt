@@ -1,12 +1,10 @@
 -- The contract of the program: what it writes, and its exit status.
-use Rattle.std.specs.Prelude.{◌≡◌, ◌≢◌, ℕ, ◌+◌, ◌<◌, ◌≤◌, ◌⊎◌, true, false, List, [], ◌++◌, length, Ok, Err, Option, Some, None, IfSome, codes, decimal, ⊤}
+use Rattle.std.specs.Prelude.{◌≡◌, ◌≢◌, ℕ, ◌<◌, ◌≤◌, ◌⊎◌, true, false, List, [], ◌++◌, length, Ok, Err, Option, Some, None, IfSome, codes, decimal, ⊤}
 use Rattle.std.specs.List.{concat}
 use Rattle.pg_promises.specs.Causes.{Call}
 use Rattle.pg_spec.specs.Faults.{OutOfMemory}
 use Rattle.pg_promises.specs.ConnectionStrings.{Means}
-use Rattle.pg_spec.specs.Links.{LinkView, Plan, Rose, Grew, course_of}
-use Rattle.pg_promises.specs.Promises.{AnswersRequests, AnswersStartup, IsValid, requests_in}
-use Rattle.pg_spec.specs.Sent.{turns_given}
+use Rattle.pg_spec.specs.Links.{LinkView, Rose, Grew, course_of}
 use Rattle.pg_spec.specs.Settings.{Settings}
 use Rattle.pg_spec.specs.ReportText.{report_text, error_text}
 use Rattle.pg_spec.specs.SessionText.{SessionText, IsSessionText, IsRefusedAt}
@@ -18,7 +16,12 @@ use Rattle.pg_text.specs.declared.command.Command.{Command}
 use Rattle.pg_text.specs.declared.report.Report.{Report}
 use Rattle.pg_tool.specs.SessionContract.{SessionContract, SessionResult}
 use Rattle.pg_tool.specs.Reading.{longest_text}
-use Rattle.pg_tool.specs.Words.{Asks, AsksOver, play}
+use Rattle.pg_gen.specs.Generated.{generated}
+use Rattle.pg_gen.specs.Laws as made
+use Rattle.pg_gen.specs.Laws.{plan_of}
+use Rattle.pg_gen.specs.Summaries.{summary_text}
+use Rattle.pg_tool.specs.Words.{AreOthers, Asks, IsGen, play}
+use Rattle.pg_tool.specs.declared.numbers.Numbers.{Numbers}
 use Rattle.pg_tool.specs.Writing as writing
 use Rattle.pg_tool.specs.declared.over.Over.{Over}
 use Rattle.pg_tool.specs.declared.over.Over.TheVariants as over
@@ -35,10 +38,6 @@ pub record Run : Type 0 where
   pub link_after : LinkView
   pub status : ℕ
   pub result : Option SessionResult
-
--- what a text's link will give
-abbrev pub plan_of : SessionText → Plan
-plan_of text = record { entries = text.plan; ends = text.ends; is_troubled = false }
 
 -- a link in memory, before its first call
 abbrev pub new_link : SessionText → LinkView
@@ -141,6 +140,27 @@ pub record PlayedSession (Is : SessionText → SessionResult → Type 0) (text :
   pub answered : Answered old new status result
   pub played : Is text result
 
+-- what is written of a generated session's result, and the status: its summary where it answered Ok, else nothing, since
+-- memory lacked
+abbrev pub SaysSummary : SinkView → SinkView → ℕ → SessionResult → Type 0
+SaysSummary old new status (Ok report) = EndsWith old new (summary_text report) 0 status
+SaysSummary old new status (Err failure) = (failure ≡ OutOfMemory) × WroteNothing old new status
+
+-- how writing a summary ended; where there is no report nothing is written, as where memory lacks
+abbrev pub WritesSummary : SinkView → SinkView → ℕ → SessionResult → Type 0
+WritesSummary old new status (Ok report) = Written old new (summary_text report) 0 status
+WritesSummary old new status (Err failure) = WroteNothing old new status
+
+-- a generated session's result was told
+pub record SummedUp (old new : SinkView) (status : ℕ) (result : SessionResult) : Type 0 where
+  pub says : SaysSummary old new status result
+  pub sink_failed : status ≡ 4 → Rose old.faults new.faults
+
+-- what a generated session came to: it was played over its own link and its result told, or memory lacked for it
+abbrev pub SumsUp : Numbers → SinkView → SinkView → ℕ → Option SessionResult → Type 0
+SumsUp x old new status None = WroteNothing old new status
+SumsUp x old new status (Some result) = SummedUp old new status result × IsPlayed (generated x.commands x.seed) result
+
 -- why a text is refused: its length, or the first line that breaks the rules
 abbrev pub IsRefused : List ℕ → Option ℕ → Type 0
 IsRefused text None = longest_text < length text
@@ -188,19 +208,27 @@ PlaysNothing run =
 
 -- what each exit status says
 abbrev pub StatusSays : Run → Option SessionResult → Type 0
-StatusSays run (Some result) = SaysResult run.sink_before run.sink_after run.status result
+StatusSays run (Some result) = ((which : Over) × Asks run.words which × SaysResult run.sink_before run.sink_after run.status result)
+    ⊎ ((x : Numbers) × IsGen run.words x × SaysSummary run.sink_before run.sink_after run.status result)
 -- no session was played: with other words the usage line is due, and nothing is read
-StatusSays run None = (AsksOver run.words None × (run.source_after ≡ run.source_before) × Ends run 2 usage)
+StatusSays run None = (AreOthers run.words × (run.source_after ≡ run.source_before) × Ends run 2 usage)
     ⊎ ((which : Over) × Asks run.words which × PlaysNothing run)
+    ⊎ ((x : Numbers) × IsGen run.words x × WroteNothing run.sink_before run.sink_after run.status)
 
--- The text's session is valid input, and its plan is what a server that conforms gives it: an answer to each frame of the
--- startup, and one to each request, however many of them were sent.
-pub record IsWellMade (text : SessionText) : Type 0 where
-  pub settings : Settings
-  pub means : Means text.config settings
-  pub valid : IsValid (call_of text (new_link text)) settings (plan_of text)
-  pub opens : AnswersStartup (call_of text (new_link text)) settings (plan_of text)
-  pub conforms : (taken : List ℕ) → turns_given taken ≤ opens.frames + requests_in text.scripts → AnswersRequests (plan_of text) opens.frames taken
+-- the session of a text, which is the source's where that tells its bytes, over the link that the words ask for
+abbrev pub PlaysText : Run → SessionResult → Type 0
+PlaysText run result = (which : Over) × Asks run.words which
+    × (bytes : List ℕ) × IfSome run.source_before.left (λ left. left ≡ bytes) × (length bytes ≤ longest_text)
+    × (text : SessionText) × IsSessionText bytes text × IsOver which run.link_before run.link_after text result
+
+-- a generated session, over its own link
+abbrev pub PlaysNumbers : Run → SessionResult → Type 0
+PlaysNumbers run result = (x : Numbers) × IsGen run.words x × IsPlayed (generated x.commands x.seed) result
+    × (run.source_after ≡ run.source_before) × (run.link_after ≡ run.link_before)
+
+-- the text's session is valid input, and its plan is what a server that conforms gives it
+abbrev pub IsWellMade : SessionText → Type 0
+IsWellMade text = made.IsWellMade (call_of text (new_link text)) text
 
 -- With `play` and such a text, where neither the source nor the sink failed, the session ended well, or memory lacked.
 abbrev pub MustPlay : Run → Type 0
@@ -213,12 +241,11 @@ pub record RunContract (run : Run) : Type 0 where
   pub status : StatusSays run run.result
   pub source_failed : run.status ≡ 3 → Rose run.source_before.faults run.source_after.faults
   pub sink_failed : run.status ≡ 4 → Rose run.sink_before.faults run.sink_after.faults
-  -- with `play` or `pipe`, there are bytes that are a session text, and the result is that session's, over the link that the
-  -- words ask for; they are the source's, where it tells them
-  pub session : IfSome run.result (λ result. (which : Over) × Asks run.words which
-      × (bytes : List ℕ) × IfSome run.source_before.left (λ left. left ≡ bytes) × (length bytes ≤ longest_text)
-      × (text : SessionText) × IsSessionText bytes text × IsOver which run.link_before run.link_after text result)
+  -- with `play` or `pipe` the result is that of a text's session, with `gen` that of a generated one
+  pub session : IfSome run.result (λ result. PlaysText run result ⊎ PlaysNumbers run result)
   -- without a session the link handed in isn't used
   pub link : run.result ≡ None → run.link_after ≡ run.link_before
   -- a text that is well made is played well
   pub must_play : MustPlay run
+  -- numbers in range are summed up, unless the sink fails or memory lacks
+  pub must_sum : (x : Numbers) → IsGen run.words x → (run.status ≡ 0) ⊎ ((run.status ≡ 4) ⊎ (run.status ≡ 5))

@@ -63,5 +63,5 @@ pub record SessionContract (call : Call) (result : SessionResult) : Type 0 where
   pub sent : SendsInOrder call result
   pub none_kept_back : NoneKeptBack call result
   pub must_end_well : MustEndWell call result
-  -- what is refused before any byte, exactly there: the string's first fault, no user, a nonce out of form, required TLS
+  -- what is refused before any byte, exactly there: the string's first fault, no user, a nonce out of form, TLS that begins at once
   pub must_refuse : MustRefuse call result

@@ -4,6 +4,7 @@
 mod asked;
 mod handle;
 mod laws;
+mod numbers;
 mod opening;
 mod over;
 mod play;

@@ -2,14 +2,17 @@
 
 ghost use Rattle.std.specs.Prelude.{◌≡◌, ◌<◌, ◌^◌, ℕ, List, None, Err, IfOk, IfSome, IsSome, map, option_map, string_bytes};
 ghost use Rattle.pg_text.specs.Sessions.{IsNew, session_of};
-ghost use Rattle.pg_tool.specs.RunContract.{Answered, IsOver, IsPiped, IsPlayed, PlayedSession, PlayedText, RefusedLine, RunContract, Written};
+ghost use Rattle.pg_gen.specs.Generated.{IsCount};
+ghost use Rattle.pg_tool.specs.RunContract.{Answered, IsOver, IsPiped, IsPlayed, PlayedSession, PlayedText, RefusedLine, RunContract, SumsUp, WritesSummary, Written};
 ghost use Rattle.pg_tool.specs.SessionContract.{result_of};
 
+use crate::numbers::{Numbers, asked_numbers};
 use crate::over::{Over, asked_link};
 use crate::reading::{ReadFault, read_all};
 use crate::session::run_session;
 use crate::writing::{WriteFault, write_all};
 use pg_errors::Error;
+use pg_gen::{gen_session, summary_text};
 use pg_text::{Report, Session, TextFault, error_text, report_text, session_text};
 use pg_types::{Blob, OutOfMemory};
 use pg_wire::{Link, Sink, Source};
@@ -30,6 +33,8 @@ pub struct Outcome {
 /// Runs the program: its words say what to do, the source has the session text, and the sink gets the
 /// report. With the one word `play` the text is played over its own link, and the link handed in isn't
 /// used; with `pipe` and two words more it is played over the link handed in, and its own isn't used.
+/// With `gen` and two numbers a generated session is played over its own link, neither the source nor the
+/// link handed in is used, and the sink gets what its report comes to.
 pub fn run<S: Source, K: Sink, L: Link>(
     alloc: Global,
     words: &[String],
@@ -49,6 +54,9 @@ pub fn run<S: Source, K: Sink, L: Link>(
       result = option_map result_of result.result;
     }) }
 {
+    if let Some(numbers) = asked_numbers(words) {
+        return sum_up(alloc, numbers, sink);
+    }
     let Some(over) = asked_link(words) else {
         return refuse(sink, USAGE.as_bytes());
     };
@@ -123,13 +131,11 @@ fn refuse_line<K: Sink>(alloc: Global, number: u64, sink: &mut K) -> Outcome
     }
 }
 
-/// Plays a session over its own link, and writes what it answered.
-fn play_session<K: Sink>(alloc: Global, session: Session, sink: &mut K) -> Outcome
+/// Plays a session over its own link.
+fn play_own(alloc: Global, session: Session) -> Result<Report, Error>
     requires limit { session.max_bytes < 2 ^ 63 }
     requires new { IsNew session }
-    ensures some { IsSome result.result }
-    ensures played { IfSome (option_map result_of result.result)
-        (PlayedSession IsPlayed (session_of session) (K.state sink.old) (K.state sink.new) result.status) }
+    ensures { IsPlayed (session_of session) (result_of result) }
 {
     let Session {
         config,
@@ -139,7 +145,7 @@ fn play_session<K: Sink>(alloc: Global, session: Session, sink: &mut K) -> Outco
         max_bytes,
         mut link,
     } = session;
-    let result = run_session(
+    run_session(
         alloc,
         config.as_str(),
         &scripts,
@@ -147,11 +153,48 @@ fn play_session<K: Sink>(alloc: Global, session: Session, sink: &mut K) -> Outco
         nonce.as_slice(),
         max_bytes,
         &mut link,
-    );
+    )
+}
+
+/// Plays a session over its own link, and writes what it answered.
+fn play_session<K: Sink>(alloc: Global, session: Session, sink: &mut K) -> Outcome
+    requires limit { session.max_bytes < 2 ^ 63 }
+    requires new { IsNew session }
+    ensures some { IsSome result.result }
+    ensures played { IfSome (option_map result_of result.result)
+        (PlayedSession IsPlayed (session_of session) (K.state sink.old) (K.state sink.new) result.status) }
+{
+    let result = play_own(alloc, session);
     let status = write_answer(alloc, &result, sink);
     Outcome {
         status,
         result: Some(result),
+    }
+}
+
+/// Plays a generated session over its own link, and writes what its report comes to.
+fn sum_up<K: Sink>(alloc: Global, numbers: Numbers, sink: &mut K) -> Outcome
+    requires count { IsCount numbers.commands }
+    ensures { SumsUp numbers (K.state sink.old) (K.state sink.new) result.status (option_map result_of result.result) }
+{
+    let Ok(session) = gen_session(alloc, numbers.commands, numbers.seed) else {
+        return without_session(5);
+    };
+    let result = play_own(alloc, session);
+    let status = write_summary(alloc, &result, sink);
+    Outcome {
+        status,
+        result: Some(result),
+    }
+}
+
+/// Writes what a report comes to, and gives the status. Where there is none, memory lacked.
+fn write_summary<K: Sink>(alloc: Global, answer: &Result<Report, Error>, sink: &mut K) -> u8
+    ensures { WritesSummary (K.state sink.old) (K.state sink.new) result (result_of answer.now) }
+{
+    match answer {
+        Ok(report) => write_text(sink, summary_text(alloc, report), 0),
+        Err(_) => 5,
     }
 }
 

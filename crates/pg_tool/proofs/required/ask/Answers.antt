@@ -8,7 +8,11 @@ use Rattle.pg_tool.proofs.required.ask.Goals as goal
 
 pub returns-in-Ready-clause-answer : goal.returns-in-Ready-clause-answer
 returns-in-Ready-clause-answer g c begin o calm =
-    ask_answers begin (g.L.Link.view c.poll.new.link) c.poll.new.self c.in-Ready.answer (c.in-Ready.ensures.answer begin (c.polls.invariant.asking begin o))
+    let i = g.L.Link.view c.args.link.now in
+    let k = g.L.Link.view c.polls.link in
+    let n = g.L.Link.view c.poll.new.link in
+    ask_answers begin n c.poll.new.self c.in-Ready.answer (c.in-Ready.ensures.answer begin (c.polls.invariant.asking begin o))
+    (calm_then begin i n calm (calm_then i k n c.polls.invariant.calm c.poll.ensures.no_lull))
 
 pub returns-in_err-waited-clause-answer : goal.returns-in_err-waited-clause-answer
 returns-in_err-waited-clause-answer g c begin o calm =

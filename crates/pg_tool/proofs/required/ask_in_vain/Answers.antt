@@ -11,11 +11,8 @@ ask-requires-clause-given g c =
 pub returns-in-Ok-ask : goal.returns-in-Ok-ask
 returns-in-Ok-ask g c =
     let begin = g.L.Link.view c.args.link.now in
-    inr (
-      c.ask.new.request,
-      c.ask.ensures.same ∙ c.in-Ok.ensures.limit,
-      inl (c.in-Ok-ask.byte, c.in-Ok-ask.ensures.answer begin (c.in-Ok.ensures.fresh begin) (calm_same begin), c.error_of.ensures ∙ ap tls_error c.after_byte.ensures),
-    )
+    let ends = c.in-Ok-ask.ensures.answer begin (c.in-Ok.ensures.fresh begin) (calm_same begin) in
+    inr (c.ask.new.request, c.ask.ensures.same ∙ c.in-Ok.ensures.limit, inl (c.in-Ok-ask.byte, ends.0, ends.1, c.error_of.ensures ∙ ap tls_error c.after_byte.ensures))
 
 pub returns : goal.returns
 returns g c =
