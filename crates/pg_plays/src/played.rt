@@ -1,26 +1,44 @@
 //! What the program gives: its status and its output.
 
-use pg_tool::run;
+use pg_tool::{Session, run, session_text};
 use pg_wire::{MemoryLink, MemorySink, MemorySource};
 use std::alloc::{AllocError, Global};
 use std::str;
 
+/// What stands behind the first word of the program: two names, or the numbers that the text says.
+fn behind<'a>(word: &str, text: &'a str) -> &'a str {
+    match word {
+        "pipe" => "FILE REPORT",
+        "gen" => match text.strip_suffix("\n") {
+            Some(numbers) => numbers,
+            None => text,
+        },
+        _ => "",
+    }
+}
+
 /// The words of the program.
-fn words_of(alloc: Global, word: &str) -> Result<Vec<String>, AllocError> {
+fn words_of(alloc: Global, word: &str, more: &str) -> Result<Vec<String>, AllocError> {
     let mut words = Vec::new(alloc);
     words.push(String::from_str(alloc, word)?)?;
+    if more.is_empty() {
+        return Ok(words);
+    }
+    for word in more.split(' ') {
+        words.push(String::from_str(alloc, word)?)?;
+    }
     Ok(words)
 }
 
-/// The status of the program for these words.
-fn status_of(
-    alloc: Global,
-    words: &[String],
-    source: &mut MemorySource,
-    sink: &mut MemorySink,
-) -> u8 {
-    let mut link = MemoryLink::new(alloc, Vec::new(alloc), 1, 1, false);
-    run(alloc, words, source, sink, &mut link).status
+/// The link that is handed in: that of the text, where it is a session's.
+fn link_of(alloc: Global, text: &str) -> MemoryLink {
+    match session_text(alloc, text.as_bytes()) {
+        Ok(session) => {
+            let Session { link, .. } = session;
+            link
+        }
+        Err(_) => MemoryLink::new(alloc, Vec::new(alloc), 1, 1, false),
+    }
 }
 
 fn tell_output(status: u8, written: &[u8], out: &mut String) -> Result<(), AllocError> {
@@ -31,15 +49,16 @@ fn tell_output(status: u8, written: &[u8], out: &mut String) -> Result<(), Alloc
     }
 }
 
-/// Runs the program over this input.
+/// Runs the program over this input and this link.
 fn tell_run(
     alloc: Global,
     words: &[String],
     source: &mut MemorySource,
+    link: &mut MemoryLink,
     out: &mut String,
 ) -> Result<(), AllocError> {
     let mut sink = MemorySink::new(alloc);
-    let status = status_of(alloc, words, source, &mut sink);
+    let status = run(alloc, words, source, &mut sink, link).status;
     tell_output(status, sink.written(), out)
 }
 
@@ -50,7 +69,8 @@ pub(crate) fn tell(
     text: &str,
     out: &mut String,
 ) -> Result<(), AllocError> {
-    let words = words_of(alloc, word)?;
+    let words = words_of(alloc, word, behind(word, text))?;
     let mut source = MemorySource::new(Vec::from_slice(alloc, text.as_bytes())?);
-    tell_run(alloc, words.as_slice(), &mut source, out)
+    let mut link = link_of(alloc, text);
+    tell_run(alloc, words.as_slice(), &mut source, &mut link, out)
 }
