@@ -1,0 +1,2 @@
+pub mod TlsSteps
+pub mod CancelSteps
