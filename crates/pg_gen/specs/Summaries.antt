@@ -48,5 +48,6 @@ summary r =
 abbrev pub number_line : List ℕ × ℕ → List ℕ
 number_line row = line (row.0 ∷ decimal row.1 ∷ [])
 
+-- the report's eight lines
 abbrev pub summary_text : Report → List ℕ
 summary_text r = flat_map number_line (summary r)

@@ -27,6 +27,7 @@ AsksOver words None = (words ≢ play) × (IsPipe words → ⊥)
 abbrev pub SpellNumbers : (commands seed : List ℕ) → Numbers → Type 0
 SpellNumbers commands seed x = IsNumber 100000 x.commands commands × (1 ≤ x.commands) × IsNumber 4294967295 x.seed seed
 
+-- the two texts spell these numbers, or none
 abbrev pub AreNumbers : (commands seed : List ℕ) → Option Numbers → Type 0
 AreNumbers commands seed (Some x) = SpellNumbers commands seed x
 AreNumbers commands seed None = (x : Numbers) → SpellNumbers commands seed x → ⊥
