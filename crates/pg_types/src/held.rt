@@ -6,9 +6,10 @@ use crate::OutOfMemory;
 use std::alloc::Global;
 use std::marker::Model;
 
-/// A value on the heap, seen as the value itself, so that a type may hold another.
+/// A value on the heap, seen as the value itself: so that a type may hold another, and so that what is rarely
+/// there takes the room of a pointer.
 #[derive(Debug, Drop)]
-pub(crate) struct Held<T> {
+pub struct Held<T> {
     inner: Box<T>,
 }
 
@@ -21,7 +22,8 @@ impl<T> Model for Held<T> {
 }
 
 impl<T> Held<T> {
-    pub(crate) fn get(&self) -> &T
+    /// The value.
+    pub fn get(&self) -> &T
         ensures { result.now ≡ self.now }
     {
         &self.inner
@@ -29,12 +31,21 @@ impl<T> Held<T> {
 }
 
 impl<T: Drop> Held<T> {
-    pub(crate) fn new(alloc: Global, value: T) -> Result<Held<T>, OutOfMemory>
+    /// This value, on the heap.
+    pub fn new(alloc: Global, value: T) -> Result<Held<T>, OutOfMemory>
         ensures { IfOk result (λ b. b ≡ value) }
     {
         Ok(Held {
             inner: Box::new(alloc, value)?,
         })
+    }
+
+    /// The value, to be kept.
+    pub fn into_inner(self) -> T
+        ensures { result ≡ self }
+    {
+        let Held { inner } = self;
+        Box::into_inner(inner)
     }
 }
 

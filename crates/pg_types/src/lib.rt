@@ -29,6 +29,7 @@ pub use blob::Blob;
 pub use fault::{RustType, ValueFault, WrongType};
 pub use format::{Format, IsNull};
 pub use from_sql::{FromSql, FromSqlOwned};
+pub use held::Held;
 pub use list::List;
 pub use memory::OutOfMemory;
 pub use oid::Oid;

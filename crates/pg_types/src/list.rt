@@ -1,7 +1,8 @@
 //! A list.
 
-ghost use Rattle.std.specs.Prelude.{◌≡◌, ◌++◌, ◌∷◌, [], length, MatchResult};
+ghost use Rattle.std.specs.Prelude.{◌≡◌, ◌++◌, ◌∷◌, [], length, IfOk, MatchResult};
 
+use crate::OutOfMemory;
 use std::alloc::{AllocFailed, Global};
 use std::marker::Model;
 
@@ -43,6 +44,15 @@ impl<T> List<T> {
         List {
             items: Vec::new(alloc),
         }
+    }
+
+    /// The list of nothing, with room for so many items.
+    pub fn with_room(alloc: Global, room: usize) -> Result<List<T>, OutOfMemory>
+        ensures { IfOk result (λ l. l ≡ []) }
+    {
+        Ok(List {
+            items: Vec::with_capacity(alloc, room)?,
+        })
     }
 
     /// The items.
