@@ -152,6 +152,7 @@ tells m = record {
   steady = λ steady. (due_in m, refl);
   no_fault = tt;
   no_end = tt;
+  ended = tt;
   counts = record {
     faults = none-fits;
     quiet = count-fits m.quiet;

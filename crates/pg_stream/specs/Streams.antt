@@ -114,6 +114,7 @@ tells link = record {
   steady = λ steady. absurd (false≢true steady);
   no_fault = tt;
   no_end = tt;
+  ended = tt;
   counts = record {
     faults = count-fits link.tally.faults;
     quiet = count-fits link.tally.quiet;

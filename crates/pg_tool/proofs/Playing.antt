@@ -1,5 +1,5 @@
 -- A session that was played over a link in memory.
-use Rattle.std.proofs.Common.{◌≡◌, ℕ, Bool, true, false, if◌then◌else◌, zero, suc, List, [], ◌∷◌, ◌++◌, take, drop, take-append-drop, append_assoc, Option, Some, None, IfOk, Result, Ok, Err, refl, sym, ap, subst, ◌∙◌}
+use Rattle.std.proofs.Common.{◌≡◌, ℕ, ◌&&◌, nat_le, Bool, true, false, if◌then◌else◌, zero, suc, List, [], ◌∷◌, ◌++◌, length, take, drop, take-append-drop, append_assoc, Option, Some, None, IfOk, Result, Ok, Err, refl, sym, ap, subst, ◌∙◌}
 use Rattle.std.specs.List.{concat}
 use Rattle.pg_promises.specs.Causes.{Call}
 use Rattle.pg_spec.specs.Links.{LinkView, Plan}
@@ -52,7 +52,7 @@ no_end false = refl
 
 -- the link of a new session is that of its text
 link_is : (s : Session) → IsNew s → link_of s.link ≡ new_link (session_of s)
-link_is s new = ap link_of new.link ∙ ap (λ (n : ℕ). record (new_link (session_of s)) { ends = n }) (no_end s.link.ends)
+link_is s new = ap link_of new.link ∙ ap (λ (n : ℕ). record (new_link (session_of s)) { ends = n }) (no_end (s.link.ends && nat_le (length (concat s.link.entries)) 0))
 
 -- the call of `run_session` for a session, with these texts and turns
 abbrev pub asked : (config nonce turns : List ℕ) → Session → LinkView → Call

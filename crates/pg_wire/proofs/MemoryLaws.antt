@@ -1,10 +1,10 @@
 -- What a link in memory does is what a link may do.
 use Rattle.std.proofs.Common.{◌≡◌, ℕ, zero, suc, ◌+◌, ◌≤◌, Bool, true, false, not, ◌||◌, ◌&&◌, List, [], ◌∷◌, ◌++◌, length, take, drop, Some, Result, Ok, Err, refl, sym, ap, subst, ◌∙◌, append_assoc, arith, if◌then◌else◌}
 use Rattle.std.specs.List.{concat}
-use Rattle.std.specs.Prelude.{◌==◌, is_ok, is_err}
+use Rattle.std.specs.Prelude.{◌==◌, is_ok, is_err, nat_le}
 use Rattle.std.proofs.Math.Seq.{drop-append_seam}
 use Rattle.std.proofs.lemmas.List.{length-append, length-take, drop-drop, take-append-drop}
-use Rattle.std.proofs.lemmas.Bool.{false≢true}
+use Rattle.std.proofs.lemmas.Bool.{false≢true, leb-true, le-leb, eqb-true}
 use Rattle.pg_spec.specs.Batches.{is_nothing}
 use Rattle.pg_spec.specs.Links.{Rose, next_count}
 use Rattle.pg_spec.specs.Sent.{turns_given}
@@ -13,7 +13,7 @@ use Rattle.pg_wire.specs.declared.link.LinkRead.{LinkRead}
 use Rattle.pg_wire.specs.declared.link.LinkRead.TheVariants as reads
 use Rattle.pg_wire.specs.Turning.{Counts}
 use Rattle.pg_wire.specs.declared.turning.Turning.{Turning}
-use Rattle.pg_wire.specs.Memory.{Memory, due_in, link_of, as_count, is_over, is_ready, GivesFront, Reads, KeepsItsPromise}
+use Rattle.pg_wire.specs.Memory.{Memory, due_in, link_of, as_count, is_over, is_ready, may_have_ended, GivesFront, Reads, KeepsItsPromise}
 
 -- ---- what is due
 
@@ -129,6 +129,20 @@ same-bytes m n given taken entries = record {
       ∙ ap (λ (l : List (List ℕ)). Some (drop (length m.given) (concat (take (turns_given m.taken) l)))) entries;
 }
 
+-- where it ends, what was given grows only
+ends-grow : (ends : Bool) (size given more n : ℕ) → given ≤ more → (if ends && nat_le size given then n else 0) ≤ (if ends && nat_le size more then n else 0)
+ends-grow false size given more n grows = omega arith
+ends-grow true size given more n grows = by (nat_le size given) (nat_le size more) refl refl
+  where
+    by : (a b : Bool) → nat_le size given ≡ a → nat_le size more ≡ b → (if a then n else 0) ≤ (if b then n else 0)
+    by false b before after = omega arith
+    by true true before after = omega arith
+    by true false before after = absurd (false≢true (sym after ∙ le-leb size more (omega (arith, leb-true size given before, grows))))
+
+ended-there : (ends : Bool) (size given : ℕ) → (ends && (given == size)) ≡ true → (ends && nat_le size given) ≡ true
+ended-there true size given over = let same = eqb-true given size over in le-leb size given (omega (arith, same))
+ended-there false size given over = over
+
 -- a read is one that a link may do
 pub read-answers : (m m' : Memory) (out : List ℕ) (answer : LinkRead) → KeepsItsPromise m → Reads m m' out answer →
     ReadAnswers (link_of m) (link_of m') out answer × Keeps (link_of m) (link_of m') × KeepsPromise (link_of m) (link_of m') (gave answer)
@@ -136,7 +150,15 @@ read-answers m m' out (reads.Got n) k g =
     let new : m' ≡ record m { given = m.given ++ take n (due_in m); promised = false } = g.memory in (
       (gives m m' out n g, ap (λ (x : Memory). x.promised) new),
       subst (λ (x : Memory). Keeps (link_of m) (link_of x)) (sym new) (record {
-        counts = record { faults = omega arith; quiet = omega arith; dry = omega arith; blocked = omega arith; lulls = omega arith; ends = omega arith };
+        counts = record {
+          faults = omega arith;
+          quiet = omega arith;
+          dry = omega arith;
+          blocked = omega arith;
+          lulls = omega arith;
+          ends = ends-grow m.ends (length (concat m.entries)) (length m.given) (length (m.given ++ take n (due_in m))) (as_count m.ended)
+              (omega (arith, length-append m.given (take n (due_in m))));
+        };
         plan = refl;
         course = λ bytes on. (on, refl);
         steady = λ steady. refl;
@@ -147,9 +169,10 @@ read-answers m m' out (reads.Got n) k g =
       record { kept = λ moved. absurd (false≢true (sym moved)); no_lull = λ steady. ap (λ (x : Memory). as_count x.lulls) new },
     )
 read-answers m m' out reads.End k (none, over, new) =
-    let before : (if m.ends then as_count m.ended else 0) ≡ as_count m.ended = ap (λ (b : Bool). if b then as_count m.ended else 0) (ends_there m.ends _ over) in
-    let after : (if m.ends then as_count (next_count m.ended) else 0) ≡ as_count (next_count m.ended)
-    = ap (λ (b : Bool). if b then as_count (next_count m.ended) else 0) (ends_there m.ends _ over) in
+    let here : may_have_ended m ≡ true = ended-there m.ends (length (concat m.entries)) (length m.given) over in
+    let before : (if may_have_ended m then as_count m.ended else 0) ≡ as_count m.ended = ap (λ (b : Bool). if b then as_count m.ended else 0) here in
+    let after : (if may_have_ended m then as_count (next_count m.ended) else 0) ≡ as_count (next_count m.ended)
+    = ap (λ (b : Bool). if b then as_count (next_count m.ended) else 0) here in
     subst (λ (x : Memory). ReadAnswers (link_of m) (link_of x) out reads.End × Keeps (link_of m) (link_of x) × KeepsPromise (link_of m) (link_of x) false) (sym new) (
       (
         omega (arith, before, after, rose m.ended),

@@ -1,7 +1,8 @@
 -- A link in memory: what it will give is known, it never fails, and no call is held back.
-use Rattle.std.specs.Prelude.{◌≡◌, ℕ, ◌-◌, ◌^◌, ◌<◌, ◌==◌, ◌||◌, ◌&&◌, Bool, true, false, not, List, [], ◌++◌, length, take, min, Some, refl, if◌then◌else◌}
-use Rattle.std.proofs.Common.{ap}
+use Rattle.std.specs.Prelude.{◌≡◌, ℕ, ◌-◌, ◌^◌, ◌≤◌, ◌<◌, nat_le, ◌==◌, ◌||◌, ◌&&◌, Bool, true, false, not, List, [], ◌++◌, length, take, min, Some, refl, if◌then◌else◌}
+use Rattle.std.proofs.Common.{ap, arith}
 use Rattle.std.proofs.Math.Nat.{min-le_right, lt-suc_self, zero-lt-suc, lt_of_le_of_lt}
+use Rattle.std.proofs.lemmas.Bool.{leb-true}
 use Rattle.std.specs.List.{concat}
 use Rattle.pg_spec.specs.Batches.{is_nothing}
 use Rattle.pg_spec.specs.Links.{Plan, LinkView, next_count, course_of, due_by}
@@ -49,6 +50,10 @@ due_in m = due_by (plan_of m) m.given m.taken
 abbrev pub as_count : ℕ → ℕ
 as_count n = min n (2 ^ 64 - 1)
 
+-- its input may have ended: all was given, and it ends there
+abbrev pub may_have_ended : Memory → Bool
+may_have_ended m = m.ends && nat_le (length (concat m.entries)) (length m.given)
+
 -- it tells all, and is steady
 abbrev pub link_of : Memory → LinkView
 link_of m = record {
@@ -66,7 +71,7 @@ link_of m = record {
   dry = as_count m.dry;
   blocked = 0;
   lulls = as_count m.lulls;
-  ends = if m.ends then as_count m.ended else 0;
+  ends = if may_have_ended m then as_count m.ended else 0;
 }
 
 -- all was given, and it ends there
@@ -125,9 +130,18 @@ none-fits = zero-lt-suc (2 ^ 64 - 1)
 count-fits : (n : ℕ) → as_count n < 2 ^ 64
 count-fits n = lt_of_le_of_lt (min-le_right n (2 ^ 64 - 1)) (lt-suc_self (2 ^ 64 - 1))
 
-ends-fit : (ends : Bool) (n : ℕ) → (if ends then as_count n else 0) < 2 ^ 64
+ends-fit : (ended : Bool) (n : ℕ) → (if ended then as_count n else 0) < 2 ^ 64
 ends-fit true n = count-fits n
 ends-fit false n = none-fits
+
+-- only where the plan has an end, behind the last entry
+ends-behind : (ends : Bool) (size given n : ℕ) → 0 < (if ends && nat_le size given then as_count n else 0) → size ≤ given
+ends-behind ends size given n some = behind ends (nat_le size given) some refl
+  where
+    behind : (ends all : Bool) → 0 < (if ends && all then as_count n else 0) → nat_le size given ≡ all → size ≤ given
+    behind true true some all = leb-true size given all
+    behind true false some all = omega (arith, some)
+    behind false all some is = omega (arith, some)
 
 -- what it tells fits together
 pub tells : (m : Memory) → Tells (link_of m)
@@ -135,13 +149,14 @@ tells m = record {
   by_plan = (refl, λ calm. refl);
   steady = λ steady. (due_in m, refl);
   no_fault = λ calm. refl;
-  no_end = λ never. ap (λ (ends : Bool). if ends then as_count m.ended else 0) never;
+  no_end = λ never. ap (λ (ends : Bool). if ends && nat_le (length (concat m.entries)) (length m.given) then as_count m.ended else 0) never;
+  ended = λ some. ends-behind m.ends (length (concat m.entries)) (length m.given) m.ended some;
   counts = record {
     faults = none-fits;
     quiet = count-fits m.quiet;
     dry = count-fits m.dry;
     blocked = none-fits;
     lulls = count-fits m.lulls;
-    ends = ends-fit m.ends m.ended;
+    ends = ends-fit (may_have_ended m) m.ended;
   };
 }
