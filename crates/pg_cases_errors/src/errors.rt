@@ -79,7 +79,10 @@ fn tell_error(
 /// The error of a call for these fields, or why they can't be read.
 fn error_of(alloc: Global, body: &ErrorResponseBody) -> Error {
     match DbError::parse(alloc, body) {
-        Ok(error) => Error::Db(error),
+        Ok(error) => match Error::db(alloc, error) {
+            Ok(error) => error,
+            Err(_) => Error::OutOfMemory,
+        },
         Err(error) => error,
     }
 }

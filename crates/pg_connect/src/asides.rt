@@ -147,7 +147,10 @@ fn meaning(alloc: Global, message: &Message) -> ConnectionFault
 {
     if let Message::ErrorResponse(body) = message {
         return match DbError::parse(alloc, body) {
-            Ok(error) => ConnectionFault::Unasked(Error::Db(error)),
+            Ok(error) => match Error::db(alloc, error) {
+                Ok(error) => ConnectionFault::Unasked(error),
+                Err(_) => ConnectionFault::OutOfMemory,
+            },
             Err(e) => match e {
                 Error::Parse(cause) => ConnectionFault::Unasked(Error::Parse(cause)),
                 _ => ConnectionFault::OutOfMemory,

@@ -1,7 +1,8 @@
 //! The error of every call.
 
-ghost use Rattle.std.specs.Prelude.{◌≡◌, option_map};
+ghost use Rattle.std.specs.Prelude.{◌≡◌, option_map, IfOk};
 ghost use Rattle.std.specs.Option.{option_copied};
+ghost use Rattle.pg_faults.specs.declared.error.Error.TheVariants as variant;
 ghost use Rattle.pg_faults.specs.Getters.{cause_in, kind_of, numbers_in, place_in, sql_state_in};
 ghost use Rattle.pg_faults.specs.Sources.{db_error_in, is_closed_error, source_in};
 
@@ -9,8 +10,8 @@ use crate::cause::Cause;
 use crate::db_error::DbError;
 use crate::error_kind::ErrorKind;
 use crate::sql_state::SqlState;
-use pg_types::{OutOfMemory, Text};
-use std::alloc::{AllocError, AllocFailed};
+use pg_types::{Held, OutOfMemory, Text};
+use std::alloc::{AllocError, AllocFailed, Global};
 use std::fmt;
 
 /// Why a call gives no value. Want of memory is never a cause of another.
@@ -35,8 +36,8 @@ pub enum Error {
     Parameters(usize, usize),
     /// The connection is closed.
     Closed,
-    /// An error of the server.
-    Db(DbError),
+    /// An error of the server, on the heap, so that an error takes little room.
+    Db(Held<DbError>),
     /// A message of the server that can't be read.
     Parse(Cause),
     /// A frame that can't be written.
@@ -71,12 +72,19 @@ pub enum Source {
 }
 
 impl Error {
+    /// An error of the server. It takes memory.
+    pub fn db(alloc: Global, error: DbError) -> Result<Error, OutOfMemory>
+        ensures { IfOk result (λ e. e ≡ variant.Db error) }
+    {
+        Ok(Error::Db(Held::new(alloc, error)?))
+    }
+
     /// The code of an error of the server.
     pub fn code(&self) -> Option<&SqlState>
         ensures { option_copied result ≡ option_map (λ e. e.code) (db_error_in self.now) }
     {
         match self {
-            Error::Db(error) => Some(error.code()),
+            Error::Db(error) => Some(error.get().code()),
             _ => None,
         }
     }
@@ -86,7 +94,7 @@ impl Error {
         ensures { option_copied result ≡ db_error_in self.now }
     {
         match self {
-            Error::Db(error) => Some(error),
+            Error::Db(error) => Some(error.get()),
             _ => None,
         }
     }
@@ -107,7 +115,7 @@ impl Error {
             Error::Tls(cause) => Some(Source::Cause(cause)),
             Error::ToSql(_, cause) => Some(Source::Cause(cause)),
             Error::FromSql(_, cause) => Some(Source::Cause(cause)),
-            Error::Db(error) => Some(Source::Db(error)),
+            Error::Db(error) => Some(Source::Db(error.into_inner())),
             Error::Parse(cause) => Some(Source::Cause(cause)),
             Error::Encode(cause) => Some(Source::Cause(cause)),
             Error::Authentication(cause) => Some(Source::Cause(cause)),
@@ -194,7 +202,7 @@ impl Error {
         ensures { option_map (λ state. state.now) result ≡ sql_state_in self.now }
     {
         match self {
-            Error::Db(error) => Some(error.code().code().as_bytes()),
+            Error::Db(error) => Some(error.get().code().code().as_bytes()),
             _ => None,
         }
     }

@@ -64,7 +64,10 @@ fn server_error(alloc: Global, body: &ErrorResponseBody) -> Error
     ensures { (l : startups.Login) → IsMove l (startups.Refuses (queries.server_error body.now.fields)) (Err result) }
 {
     match DbError::parse(alloc, body) {
-        Ok(error) => Error::Db(error),
+        Ok(error) => match Error::db(alloc, error) {
+            Ok(error) => error,
+            Err(_) => Error::OutOfMemory,
+        },
         Err(e) => e,
     }
 }

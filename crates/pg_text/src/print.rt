@@ -422,7 +422,7 @@ fn put_carried(alloc: Global, out: &mut String, error: &Error) -> Result<(), Out
         Error::Parameters(given, expected) => put_two(alloc, out, *given as u64, *expected as u64),
         Error::Db(error) => {
             put(out, " ")?;
-            put_db_error(alloc, out, error)
+            put_db_error(alloc, out, error.get())
         }
         Error::Stalled { before, after } => put_two(alloc, out, *before, *after),
         Error::LimitReached { given, limit } => put_two(alloc, out, *given, *limit),
