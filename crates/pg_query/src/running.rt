@@ -63,7 +63,12 @@ impl<S: Script> Running<S> {
     {
         match self.batch.next() {
             Ok(None) => Ok(None),
-            Ok(Some(message)) => Ok(Some(self.script.message(alloc, Ok(message))?)),
+            Ok(Some(message)) => {
+                let Ok(want) = self.script.message(alloc, Ok(message)) else {
+                    return Err(Error::OutOfMemory);
+                };
+                Ok(Some(want))
+            }
             Err(fault) => {
                 if is_want_of_memory(fault) {
                     return Err(Error::OutOfMemory);
@@ -251,6 +256,8 @@ impl<S: Script> Running<S> {
         loop {
             match self.pull(alloc) {
                 Ok(None) => return None,
+                // Most messages want another, and nothing is done for that.
+                Ok(Some(Want::Read)) => {}
                 Ok(Some(want)) => {
                     if let Some(answer) = self.settle(alloc, desk, stamp, want) {
                         return Some(answer);

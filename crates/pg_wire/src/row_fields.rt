@@ -155,6 +155,13 @@ impl RowDescriptionBody {
 }
 
 impl<'a> Fields<'a> {
+    /// How many columns the message says are left.
+    pub fn len(&self) -> usize
+        ensures { result ≡ self.now.count }
+    {
+        self.count as usize
+    }
+
     /// The next column, or None behind the last. Layout comes where bytes run out, and where bytes are
     /// left behind the last column, NotUtf8 where the name isn't UTF-8; what is left is then as before.
     pub fn next(&mut self) -> Result<Option<Field<'a>>, WireFault>
