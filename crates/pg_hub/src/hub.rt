@@ -107,7 +107,7 @@ fn booking_of(alloc: Global, stamp: Stamp, part: &Bytes) -> Result<Booking, OutO
     ensures { IfOk result (λ b. b ≡ record { stamp = stamp; parts = part.now ∷ [] }) }
 {
     let part = Blob::from_slice(alloc, part.as_slice())?;
-    let mut parts = List::empty(alloc);
+    let mut parts = List::with_room(alloc, 1)?;
     parts.push(part)?;
     Ok(Booking { stamp, parts })
 }
