@@ -1,4 +1,5 @@
 pub mod Texts
+pub mod Finding
 pub mod QuoteLaws
 pub mod WordLaws
 pub mod LineLaws

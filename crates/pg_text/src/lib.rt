@@ -22,3 +22,4 @@ pub use print::{error_text, report_text};
 pub use report::{Pair, Report};
 pub use scripts::Scripts;
 pub use session::{Session, TextFault};
+pub use word::number_of;

@@ -13,6 +13,7 @@ use crate::command::Command;
 use crate::line::{Line, read_line};
 use crate::scripts::Scripts;
 use crate::session::{Session, TextFault};
+use memchr::memchr;
 use pg_types::{Blob, List, OutOfMemory, Text};
 use pg_wire::MemoryLink;
 use std::alloc::Global;
@@ -85,7 +86,7 @@ fn feed_in(bytes: &[u8]) -> Option<usize>
         (EachIndex bytes.now (λ k. slice_index bytes.now k ≢ 10))
         (λ at. (at < length bytes.now) × (slice_index bytes.now at ≡ 10) × ((k : ℕ) → k < at → slice_index bytes.now k ≢ 10)) }
 {
-    bytes.iter().position(|byte| *byte == b'\n')
+    memchr(b'\n', bytes)
 }
 
 impl Draft {

@@ -59,7 +59,7 @@ fn put_work(alloc: Global, out: &mut String, report: &Report) -> Result<(), OutO
 {
     put_answers(alloc, out, report.answers.as_slice())?;
     put_book(alloc, out, report.book.as_slice())?;
-    put_trace(alloc, out, report.trace.as_slice())?;
+    put_trace(out, report.trace.as_slice())?;
     put_sent(alloc, out, report.sent.as_slice())
 }
 
@@ -197,9 +197,9 @@ fn put_answer(
     ensures { Adds (spec.answer_lines handle (command, answer_of answer.now)) out.old out.new result }
 {
     put(out, "answer ")?;
-    put_number(alloc, out, handle)?;
+    put_number(out, handle)?;
     put(out, " ")?;
-    put_number(alloc, out, command)?;
+    put_number(out, command)?;
     match answer {
         Answer::Messages(messages) => put_items(alloc, out, messages.as_slice()),
         Answer::Failed(error) => put_failed(alloc, out, error),
@@ -211,7 +211,7 @@ fn put_items(alloc: Global, out: &mut String, messages: &[SimpleMessage]) -> Res
     ensures { Adds (written.answered (said.Items (map item_of messages.now))) out.old out.new result }
 {
     put(out, " messages ")?;
-    put_number(alloc, out, messages.len() as u64)?;
+    put_number(out, messages.len() as u64)?;
     put(out, "\n")?;
     put_messages(alloc, out, messages)
 }
@@ -243,7 +243,7 @@ fn put_message(alloc: Global, out: &mut String, message: &SimpleMessage) -> Resu
     match message {
         SimpleMessage::Columns(names) => put_columns(alloc, out, names.as_slice()),
         SimpleMessage::Row(cells) => put_row(alloc, out, cells.as_slice()),
-        SimpleMessage::Complete(affected) => put_complete(alloc, out, *affected),
+        SimpleMessage::Complete(affected) => put_complete(out, *affected),
     }
 }
 
@@ -263,11 +263,11 @@ fn put_row(alloc: Global, out: &mut String, cells: &[Option<Blob>]) -> Result<()
     put(out, "\n")
 }
 
-fn put_complete(alloc: Global, out: &mut String, affected: u64) -> Result<(), OutOfMemory>
+fn put_complete(out: &mut String, affected: u64) -> Result<(), OutOfMemory>
     ensures { Adds (spec.item_line (simple.Complete affected)) out.old out.new result }
 {
     put(out, "complete ")?;
-    put_number(alloc, out, affected)?;
+    put_number(out, affected)?;
     put(out, "\n")
 }
 
@@ -320,28 +320,28 @@ fn put_booking(
     ensures { Adds (spec.book_line (number, booking_of booking.now)) out.old out.new result }
 {
     put(out, "book")?;
-    put_next(alloc, out, number)?;
-    put_stamp(alloc, out, &booking.stamp)?;
+    put_next(out, number)?;
+    put_stamp(out, &booking.stamp)?;
     put_parts(alloc, out, booking.parts.as_slice())?;
     put(out, "\n")
 }
 
 /// Owner, command and turn, each behind a space, and a space behind them.
-fn put_stamp(alloc: Global, out: &mut String, stamp: &Stamp) -> Result<(), OutOfMemory>
+fn put_stamp(out: &mut String, stamp: &Stamp) -> Result<(), OutOfMemory>
     ensures { Adds (written.stamp_words stamp.now) out.old out.new result }
 {
-    put_next(alloc, out, stamp.owner as u64)?;
-    put_next(alloc, out, stamp.command as u64)?;
-    put_next(alloc, out, stamp.turn)?;
+    put_next(out, stamp.owner as u64)?;
+    put_next(out, stamp.command as u64)?;
+    put_next(out, stamp.turn)?;
     put(out, " ")
 }
 
 /// A number behind a space.
-fn put_next(alloc: Global, out: &mut String, number: u64) -> Result<(), OutOfMemory>
+fn put_next(out: &mut String, number: u64) -> Result<(), OutOfMemory>
     ensures { Adds (32 ∷ decimal number) out.old out.new result }
 {
     put(out, " ")?;
-    put_number(alloc, out, number)
+    put_number(out, number)
 }
 
 fn put_parts(alloc: Global, out: &mut String, parts: &[Blob]) -> Result<(), OutOfMemory>
@@ -353,22 +353,22 @@ fn put_parts(alloc: Global, out: &mut String, parts: &[Blob]) -> Result<(), OutO
     Ok(())
 }
 
-fn put_trace(alloc: Global, out: &mut String, trace: &[TurnMark]) -> Result<(), OutOfMemory>
+fn put_trace(out: &mut String, trace: &[TurnMark]) -> Result<(), OutOfMemory>
     ensures { Adds (flat_map spec.turn_line trace.now) out.old out.new result }
 {
     for mark in trace {
-        put_turn(alloc, out, *mark)?;
+        put_turn(out, *mark)?;
     }
     Ok(())
 }
 
-fn put_turn(alloc: Global, out: &mut String, mark: TurnMark) -> Result<(), OutOfMemory>
+fn put_turn(out: &mut String, mark: TurnMark) -> Result<(), OutOfMemory>
     ensures { Adds (spec.turn_line mark) out.old out.new result }
 {
     put(out, "turn ")?;
-    put_number(alloc, out, mark.turn as u64)?;
+    put_number(out, mark.turn as u64)?;
     put(out, " ")?;
-    put_number(alloc, out, mark.delivered)?;
+    put_number(out, mark.delivered)?;
     put(out, "\n")
 }
 
@@ -413,27 +413,27 @@ fn put_carried(alloc: Global, out: &mut String, error: &Error) -> Result<(), Out
     ensures { Adds (written.words_behind (spec.failure_parts error.now)) out.old out.new result }
 {
     match error {
-        Error::ToSql(place, _) => put_next(alloc, out, *place as u64),
-        Error::FromSql(place, _) => put_next(alloc, out, *place as u64),
+        Error::ToSql(place, _) => put_next(out, *place as u64),
+        Error::FromSql(place, _) => put_next(out, *place as u64),
         Error::Column(column) => {
             put(out, " ")?;
             put_quoted(alloc, out, column.as_str().as_bytes())
         }
-        Error::Parameters(given, expected) => put_two(alloc, out, *given as u64, *expected as u64),
+        Error::Parameters(given, expected) => put_two(out, *given as u64, *expected as u64),
         Error::Db(error) => {
             put(out, " ")?;
             put_db_error(alloc, out, error.get())
         }
-        Error::Stalled { before, after } => put_two(alloc, out, *before, *after),
-        Error::LimitReached { given, limit } => put_two(alloc, out, *given, *limit),
+        Error::Stalled { before, after } => put_two(out, *before, *after),
+        Error::LimitReached { given, limit } => put_two(out, *given, *limit),
         _ => Ok(()),
     }
 }
 
 /// Two numbers, each behind a space.
-fn put_two(alloc: Global, out: &mut String, first: u64, second: u64) -> Result<(), OutOfMemory>
+fn put_two(out: &mut String, first: u64, second: u64) -> Result<(), OutOfMemory>
     ensures { Adds (32 ∷ decimal first ++ 32 ∷ decimal second) out.old out.new result }
 {
-    put_next(alloc, out, first)?;
-    put_next(alloc, out, second)
+    put_next(out, first)?;
+    put_next(out, second)
 }

@@ -5,6 +5,7 @@ ghost use Rattle.hex.specs.Hex.{encode_lower};
 ghost use Rattle.pg_spec.specs.ReportText.{signed, quoted, quoted_byte};
 ghost use Rattle.pg_text.specs.Written.{Adds};
 
+use itoa::Buffer;
 use pg_types::OutOfMemory;
 use std::alloc::Global;
 
@@ -16,11 +17,11 @@ pub(crate) fn put(out: &mut String, text: &str) -> Result<(), OutOfMemory>
 }
 
 /// Adds a number in decimal.
-pub(crate) fn put_number(alloc: Global, out: &mut String, number: u64) -> Result<(), OutOfMemory>
+pub(crate) fn put_number(out: &mut String, number: u64) -> Result<(), OutOfMemory>
     ensures { Adds (decimal number) out.old out.new result }
 {
-    let text = format!(in alloc; "{number}")?;
-    put(out, text.as_str())
+    let mut digits = Buffer::new();
+    put(out, digits.format(number))
 }
 
 /// Adds a number in decimal, with its sign where it is negative.

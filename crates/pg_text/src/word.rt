@@ -6,6 +6,7 @@ ghost use Rattle.pg_spec.specs.SessionText.{IsBytes, IsNumber, IsQuoted};
 ghost use Rattle.pg_text.specs.Words.{BeginsWithQuote, IsHexWord, IsWord, LeavesBehind, Means, Takes};
 
 use crate::quoted::{Quoted, read_quoted};
+use memchr::memchr;
 use pg_types::OutOfMemory;
 use std::alloc::Global;
 use std::marker::Model;
@@ -152,11 +153,11 @@ fn space_in(bytes: &[u8]) -> Option<usize>
         (EachIndex bytes.now (λ k. slice_index bytes.now k ≢ 32))
         (λ at. (at < length bytes.now) × (slice_index bytes.now at ≡ 32) × ((k : ℕ) → k < at → slice_index bytes.now k ≢ 32)) }
 {
-    bytes.iter().position(|byte| *byte == b' ')
+    memchr(b' ', bytes)
 }
 
-/// The number that decimal digits spell, of at most `most`.
-fn number_of(digits: &[u8], most: u64) -> Option<u64>
+/// The number that decimal digits spell, of at most `most`; None where they spell none.
+pub fn number_of(digits: &[u8], most: u64) -> Option<u64>
     ensures { Means (IsNumber most) digits.now result }
 {
     if !are_digits(digits) {

@@ -1,0 +1,5 @@
+use Rattle.pg_text.proofs.Finding.{first_byte}
+use Rattle.pg_text.proofs.word.space_in.Goals as goal
+
+pub returns : goal.returns
+returns c = first_byte _ c.args.bytes.now c.memchr.result c.memchr.ensures
