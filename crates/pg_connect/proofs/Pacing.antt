@@ -143,7 +143,7 @@ pub record PacedGoes {H : Type 0} (becomes : H → List Event → H → Type 0) 
 -- nothing yet
 pub paced-start : {H : Type 0} (becomes : H → List Event → H → Type 0) (h : H) → becomes h [] h → (s : Streams) (v : LinkView) → s.unread ≡ None → PacedGoes becomes h h s s v v
 paced-start becomes h stays s v read =
-    let goes = goes-quietly becomes h stays s s v v [] NoneFull (piece_none s s.buffer v v read refl (untouched_same v) (keeps_same v)) refl in
+    let goes = goes-quietly becomes h stays s s v v [] NoneFull (piece_none s s.buffer s.piece v v read refl (untouched_same v) (keeps_same v)) refl in
     let none = no_more s s v v goes.events [] goes.passes refl in
     record { goes = goes; paced = paced_none s goes.passes.got goes.events none; due = due_none v.due v.due goes.passes.got refl none }
 

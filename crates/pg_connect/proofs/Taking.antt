@@ -1,6 +1,6 @@
 -- What is taken off the front of the bytes.
-use Rattle.std.proofs.lemmas.List.{append-nil}
-use Rattle.std.proofs.Common.{◌≡◌, ℕ, ◌<◌, ◌+◌, Bool, true, false, not, List, [], ◌∷◌, ◌++◌, length, map, take, drop, Option, Some, None, Result, Ok, Err, refl, sym, ap, subst, ◌∙◌}
+use Rattle.std.proofs.lemmas.List.{append-nil, length-take}
+use Rattle.std.proofs.Common.{◌≡◌, ℕ, zero, suc, ◌≤◌, ◌<◌, ◌+◌, Bool, true, false, not, List, [], ◌∷◌, ◌++◌, length, map, take, drop, Option, Some, None, Result, Ok, Err, refl, sym, ap, subst, ◌∙◌, arith, Vec}
 use Rattle.std.specs.declared.alloc.Global.{Global}
 use Rattle.bytes.specs.declared.unique.BytesMut.{BytesMut}
 use Rattle.pg_spec.specs.Batches.{is_nothing}
@@ -106,31 +106,38 @@ not_true : (b : Bool) → not b ≡ true → b ≡ false
 not_true true e = absurd cc
 not_true false e = refl
 
+-- bytes that were written over the front of others, in front
+pub front_over : (n room : ℕ) (out more : List ℕ) → n ≤ length out → n ≤ room → take n (take room (out ++ more)) ≡ take n out
+front_over zero room out more fits within = refl
+front_over (suc n) room [] more fits within = absurd (omega (arith, fits))
+front_over (suc n) zero (x ∷ out) more fits within = absurd (omega (arith, within))
+front_over (suc n) (suc room) (x ∷ out) more fits within = ap (λ (l : List ℕ). x ∷ l) (front_over n room out more (omega (arith, fits)) (omega (arith, within)))
+
 -- the link gave a piece, and it was taken in
-pub piece_taken : (s t : Streams) (l m : LinkView) (out : List ℕ) (n : ℕ) → s.unread ≡ None → Gives l m out n → Keeps l m →
-    t.buffer.items ≡ s.buffer.items ++ take n out → t ≡ record s { buffer = t.buffer; given = s.given + length (take n out); moved = true } → TakesIn s t l m
-piece_taken s t l m out n read gives keeps buffer same =
+pub piece_taken : (s t : Streams) (p : Vec ℕ Global) (l m : LinkView) (out : List ℕ) (n : ℕ) → s.unread ≡ None → Gives l m out n → Keeps l m →
+    t.buffer.items ≡ s.buffer.items ++ take n out → t ≡ record s { buffer = t.buffer; piece = p; given = s.given + n; moved = true } → TakesIn s t l m
+piece_taken s t p l m out n read gives keeps buffer same =
     subst (λ (x : Streams). TakesIn s x l m) (sym same)
     (record {
-      passes = reads_piece s (record s { buffer = t.buffer; given = s.given + length (take n out); moved = true }) l m (take n out) read read gives.given gives.taken buffer
-          refl refl refl refl refl (record { unsent = refl; closing = refl; limit = refl; ended = refl; at_end = refl }) (not_true (is_nothing (take n out)) (some_taken n out gives.some gives.fits)) refl keeps;
+      passes = reads_piece s (record s { buffer = t.buffer; piece = p; given = s.given + n; moved = true }) l m (take n out) read read gives.given gives.taken buffer
+          refl refl refl (omega (arith, length-take n out, gives.fits)) refl (record { unsent = refl; closing = refl; limit = refl; ended = refl; at_end = refl }) (not_true (is_nothing (take n out)) (some_taken n out gives.some gives.fits)) refl keeps;
       buffer = buffer;
       due = due_front l.due m.due n (take n out) gives.front gives.due;
     })
 
 -- nothing was read: the bytes are as before, wherever they stand
-pub piece_none : (s : Streams) (b : BytesMut Global) (l m : LinkView) → s.unread ≡ None → b.items ≡ s.buffer.items → Untouched l m → Keeps l m →
-    Passes s (record s { buffer = b }) l m [] []
-piece_none s b l m read same bytes keeps =
-    reads_nothing s (record s { buffer = b }) l m read bytes
+pub piece_none : (s : Streams) (b : BytesMut Global) (p : Vec ℕ Global) (l m : LinkView) → s.unread ≡ None → b.items ≡ s.buffer.items → Untouched l m → Keeps l m →
+    Passes s (record s { buffer = b; piece = p }) l m [] []
+piece_none s b p l m read same bytes keeps =
+    reads_nothing s (record s { buffer = b; piece = p }) l m read bytes
     (record { buffer = same; unread = read; held = refl; delayed = refl; parameters = refl; given = refl; delivered = refl })
     (record { unsent = refl; closing = refl; limit = refl; ended = refl; at_end = refl }) refl keeps
 
 -- the same of a read
-pub piece_still : (s : Streams) (b : BytesMut Global) (l m : LinkView) → s.unread ≡ None → b.items ≡ s.buffer.items → Untouched l m → Keeps l m →
-    TakesIn s (record s { buffer = b }) l m
-piece_still s b l m read same bytes keeps = record {
-  passes = reads_nothing s (record s { buffer = b }) l m read bytes
+pub piece_still : (s : Streams) (b : BytesMut Global) (p : Vec ℕ Global) (l m : LinkView) → s.unread ≡ None → b.items ≡ s.buffer.items → Untouched l m → Keeps l m →
+    TakesIn s (record s { buffer = b; piece = p }) l m
+piece_still s b p l m read same bytes keeps = record {
+  passes = reads_nothing s (record s { buffer = b; piece = p }) l m read bytes
       (record { buffer = same; unread = read; held = refl; delayed = refl; parameters = refl; given = refl; delivered = refl })
       (record { unsent = refl; closing = refl; limit = refl; ended = refl; at_end = refl }) refl keeps;
   buffer = same ∙ sym (append-nil s.buffer.items);
@@ -138,10 +145,10 @@ piece_still s b l m read same bytes keeps = record {
 }
 
 -- the link gave its end
-pub piece_end : (s : Streams) (b : BytesMut Global) (l m : LinkView) → s.unread ≡ None → b.items ≡ s.buffer.items → SameBytes l m → Rose l.ends m.ends → Keeps l m →
-    TakesIn s (record s { buffer = b; moved = true; at_end = true }) l m
-piece_end s b l m read same bytes rose keeps = record {
-  passes = reads_end s (record s { buffer = b; moved = true; at_end = true }) l m read bytes
+pub piece_end : (s : Streams) (b : BytesMut Global) (p : Vec ℕ Global) (l m : LinkView) → s.unread ≡ None → b.items ≡ s.buffer.items → SameBytes l m → Rose l.ends m.ends → Keeps l m →
+    TakesIn s (record s { buffer = b; piece = p; moved = true; at_end = true }) l m
+piece_end s b p l m read same bytes rose keeps = record {
+  passes = reads_end s (record s { buffer = b; piece = p; moved = true; at_end = true }) l m read bytes
       (record { buffer = same; unread = read; held = refl; delayed = refl; parameters = refl; given = refl; delivered = refl })
       (record { unsent = refl; closing = refl; limit = refl; ended = refl }) refl refl rose keeps;
   buffer = same ∙ sym (append-nil s.buffer.items);

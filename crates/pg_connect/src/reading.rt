@@ -1,6 +1,6 @@
 //! The read step: messages come off the bytes of the link and are passed on.
 
-ghost use Rattle.std.specs.Prelude.{◌≡◌, ◌^◌, ◌<◌, ◌≤◌, ◌++◌, ◌+◌, [], true, None, Some, Ok, length, OnOk};
+ghost use Rattle.std.specs.Prelude.{◌≡◌, ◌^◌, ◌<◌, ◌≤◌, ◌++◌, ◌+◌, [], true, None, Some, Ok, length, take, OnOk};
 ghost use Rattle.pg_spec.specs.Batches.{is_batch};
 ghost use Rattle.pg_spec.specs.Links.{LinkView};
 ghost use Rattle.pg_connect.specs.Calm.{MissesNone, MissesOne, StaysCalm};
@@ -9,12 +9,32 @@ ghost use Rattle.pg_connect.specs.Reads.{IsUnasked, HandedOff, OffEnds, DeliverE
 
 use crate::asides::unasked;
 use crate::{ConnectionFault, Held, Off, ReadEnd, Step, Streams};
+use bytes::BytesMut;
 use pg_desk::{Deliver, Engine};
 use pg_wire::{BackendMessage, BackendMessages, Link, LinkRead, PostgresCodec, WireFault};
-use std::alloc::Global;
+use std::alloc::{AllocError, Global};
 
 /// How many bytes are read at once, at most.
 pub(crate) const PIECE: usize = 8192;
+
+/// How much room is made at once, in bytes. Batches share the buffer that they were cut off, so a full one is
+/// left to them and a new one is taken: a large one is renewed seldom.
+const ROOM: usize = 32_768;
+
+/// Makes room for a piece, where there is none: to read it into, and in the buffer.
+fn make_room(piece: &mut Vec<u8>, buffer: &mut BytesMut) -> Result<(), AllocError>
+    ensures items { buffer.new.items ≡ buffer.old.items }
+    ensures room { OnOk result (piece_size ≤ buffer.new.spare) }
+    ensures piece { OnOk result (length piece.new.items ≡ piece_size) }
+{
+    if piece.len() != PIECE {
+        piece.resize(PIECE, 0)?;
+    }
+    if buffer.capacity() - buffer.len() >= PIECE {
+        return Ok(());
+    }
+    buffer.reserve(ROOM)
+}
 
 impl Streams {
     /// Holds a batch until it can be delivered.
@@ -161,14 +181,15 @@ impl Streams {
     }
 
     /// Takes in a piece, for which there is room.
-    fn take_in(&mut self, piece: &[u8])
-        requires room { length piece.now ≤ self.old.buffer.spare }
-        requires fits { self.old.given + length piece.now < 2 ^ 64 }
-        ensures buffer { self.new.buffer.items ≡ self.old.buffer.items ++ piece.now }
-        ensures same { self.new ≡ record self.old { buffer = self.new.buffer; given = self.old.given + length piece.now; moved = true } }
+    fn take_in(&mut self, n: usize)
+        requires there { n ≤ length self.old.piece.items }
+        requires room { n ≤ self.old.buffer.spare }
+        requires fits { self.old.given + n < 2 ^ 64 }
+        ensures buffer { self.new.buffer.items ≡ self.old.buffer.items ++ take n self.old.piece.items }
+        ensures same { self.new ≡ record self.old { buffer = self.new.buffer; given = self.old.given + n; moved = true } }
     {
-        self.buffer.extend_reserved(piece);
-        self.given += piece.len() as u64;
+        self.buffer.extend_reserved(&self.piece[..n]);
+        self.given += n as u64;
         self.moved = true;
     }
 
@@ -191,11 +212,10 @@ impl Streams {
         ensures quiet { MissesOne (L.view link.old) (L.view link.new) }
         ensures ready { result ≡ Ok true → MissesNone (L.view link.old) (L.view link.new) }
     {
-        self.buffer.reserve(PIECE)?;
-        let mut piece = [0u8; PIECE];
-        match link.read(&mut piece) {
+        make_room(&mut self.piece, &mut self.buffer)?;
+        match link.read(self.piece.as_mut_slice()) {
             LinkRead::Got(n) => {
-                self.take_in(&piece[..n]);
+                self.take_in(n);
                 if self.given > self.max_bytes {
                     return Err(ConnectionFault::LimitReached {
                         given: self.given,

@@ -23,6 +23,8 @@ pub struct Held {
 pub struct Streams {
     /// Bytes that were given and not decoded.
     pub buffer: BytesMut,
+    /// Where a piece is read into. It is made with the first read.
+    pub piece: Vec<u8>,
     pub held: Option<Held>,
     /// A message that no request asked for, and that couldn't be read. Nothing is read after it.
     pub unread: Option<Message>,

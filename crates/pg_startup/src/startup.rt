@@ -89,7 +89,7 @@ impl<'a> Startup<'a> {
 
     /// What a startup that is done leaves: its frames, its process id and key, and the streams of a connection that goes on
     /// with the bytes that weren't decoded, the notices and the reports. It takes no memory.
-    pub fn into_streams(self) -> (Vec<u8>, (i32, i32), Streams)
+    pub fn into_streams(self, alloc: Global) -> (Vec<u8>, (i32, i32), Streams)
         ensures fresh { IsFresh self.entry result.0.items result.2 }
         ensures key { result.1 ≡ (self.entry.process_id, self.entry.secret_key) }
     {
@@ -113,6 +113,7 @@ impl<'a> Startup<'a> {
         } = bytes;
         let streams = Streams {
             buffer,
+            piece: Vec::new(alloc),
             held: None,
             unread: None,
             delayed,

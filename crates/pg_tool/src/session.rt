@@ -95,7 +95,7 @@ fn play_as<L: Link>(
     };
     let mut startup = Startup::new(alloc, login, 0, max_bytes)?;
     open(alloc, &mut startup, link)?;
-    let (opening, key, streams) = startup.into_streams();
+    let (opening, key, streams) = startup.into_streams(alloc);
     let mut play = Play::new(alloc, streams, scripts)?;
     play.run(alloc, link, scripts, turns)?;
     play.into_report(alloc, opening, key)

@@ -10,14 +10,14 @@ pub returns-in-None-clause-passes : goal.returns-in-None-clause-passes
 returns-in-None-clause-passes c = λ l. record {
   handed = [];
   is = refl;
-  passes = piece_none c.args.self.now c.args.self.now.buffer l l c.requires refl (untouched_same l) (keeps_same l);
+  passes = piece_none c.args.self.now c.args.self.now.buffer c.args.self.now.piece l l c.requires refl (untouched_same l) (keeps_same l);
 }
 
 pub returns-in-Some-Err-clause-passes : goal.returns-in-Some-Err-clause-passes
 returns-in-Some-Err-clause-passes c = λ l. record {
   handed = [];
   is = refl;
-  passes = piece_none c.args.self.now c.args.self.now.buffer l l c.requires refl (untouched_same l) (keeps_same l);
+  passes = piece_none c.args.self.now c.args.self.now.buffer c.args.self.now.piece l l c.requires refl (untouched_same l) (keeps_same l);
 }
 
 pub returns-in-Some-Ok-clause-passes : goal.returns-in-Some-Ok-clause-passes
