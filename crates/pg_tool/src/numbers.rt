@@ -1,12 +1,12 @@
 //! The numbers of a generated session, as the program's words spell them.
 
-ghost use Rattle.std.specs.Prelude.{◌≡◌, ◌↔◌, IsTrue, EachIndex, map, string_bytes, slice_index};
-ghost use Rattle.std.specs.Int.{IsInRange};
+ghost use Rattle.std.specs.Prelude.{map, string_bytes};
 ghost use Rattle.pg_spec.specs.SessionText.{IsNumber};
 ghost use Rattle.pg_text.specs.Words.{Means};
 ghost use Rattle.pg_tool.specs.Words.{AreNumbers, AreSpelled, AsksNumbers};
 
 use pg_gen::MOST_COMMANDS;
+use pg_text::number_of;
 
 /// How many commands a generated session has, and its seed.
 #[derive(Clone, Copy, Debug, PartialEq, Eq, Drop)]
@@ -40,10 +40,10 @@ fn spelled(word: &str, commands: &str, seed: &str) -> Option<Numbers>
 fn numbers_of(commands: &str, seed: &str) -> Option<Numbers>
     ensures { AreNumbers commands.now seed.now result }
 {
-    let Some(commands) = number_of(commands, MOST_COMMANDS) else {
+    let Some(commands) = small_number(commands, MOST_COMMANDS) else {
         return None;
     };
-    let Some(seed) = number_of(seed, u32::MAX) else {
+    let Some(seed) = small_number(seed, u32::MAX) else {
         return None;
     };
     if commands == 0 {
@@ -53,20 +53,11 @@ fn numbers_of(commands: &str, seed: &str) -> Option<Numbers>
 }
 
 /// The number that decimal digits spell, of at most `most`.
-fn number_of(digits: &str, most: u32) -> Option<u32>
+fn small_number(digits: &str, most: u32) -> Option<u32>
     ensures { Means (IsNumber most) digits.now result }
 {
-    if !are_digits(digits.as_bytes()) {
+    let Some(number) = number_of(digits.as_bytes(), most as u64) else {
         return None;
-    }
-    match digits.parse::<u32>() {
-        Ok(number) if number <= most => Some(number),
-        _ => None,
-    }
-}
-
-fn are_digits(bytes: &[u8]) -> bool
-    ensures { IsTrue result ↔ EachIndex bytes.now (λ k. IsInRange 48 57 (slice_index bytes.now k)) }
-{
-    bytes.iter().all(|byte| byte.is_ascii_digit())
+    };
+    Some(number as u32)
 }

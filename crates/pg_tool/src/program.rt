@@ -1,7 +1,8 @@
 //! The program around a session.
 
-ghost use Rattle.std.specs.Prelude.{◌≡◌, ◌<◌, ◌^◌, ℕ, List, None, Err, IfOk, IfSome, IsSome, map, option_map, string_bytes};
-ghost use Rattle.pg_text.specs.Sessions.{IsNew, session_of};
+ghost use Rattle.std.specs.Prelude.{◌≡◌, ◌↔◌, ◌<◌, ◌^◌, ℕ, List, None, Err, IfOk, IfSome, IsSome, length, map, option_map, string_bytes};
+ghost use Rattle.pg_text.specs.Sessions.{IsNew, ReadsText, session_of};
+ghost use Rattle.pg_text.specs.declared.session.TextFault.TheVariants as fault;
 ghost use Rattle.pg_gen.specs.Generated.{IsCount};
 ghost use Rattle.pg_tool.specs.RunContract.{Answered, IsOver, IsPiped, IsPlayed, PlayedSession, PlayedText, RefusedLine, RunContract, SumsUp, WritesSummary, Written};
 ghost use Rattle.pg_tool.specs.SessionContract.{result_of};
@@ -97,6 +98,14 @@ fn status_of<K: Sink>(sink: &mut K, text: &[u8], status: u8) -> u8
     }
 }
 
+/// The session of a text. The text is let go then, before the session is played.
+fn read_session(alloc: Global, text: Vec<u8>) -> Result<Session, TextFault>
+    ensures text { ReadsText text.items result }
+    ensures too_long { (result ≡ Err fault.TooLong) ↔ (67108864 < length text.items) }
+{
+    session_text(alloc, text.as_slice())
+}
+
 /// Plays a text, over its own link or the one that was handed in.
 fn play<K: Sink, L: Link>(
     alloc: Global,
@@ -109,7 +118,7 @@ fn play<K: Sink, L: Link>(
         result.status (option_map result_of result.result) }
     ensures unused { result.result ≡ None → L.view link.new ≡ L.view link.old }
 {
-    match session_text(alloc, text.as_slice()) {
+    match read_session(alloc, text) {
         Ok(session) => match over {
             Over::Own => play_session(alloc, session, sink),
             Over::Handed => pipe_session(alloc, session, sink, link),
