@@ -1,0 +1,121 @@
+-- The requests of a turn, by a legal list.
+use Rattle.std.proofs.Common.{◌≡◌, ℕ, ◌+◌, List, [], ◌∷◌, ◌++◌, length, map, Bool, true, false, if◌then◌else◌, Ok, Err, refl, sym, ap, subst, ◌∙◌, append_assoc}
+use Rattle.std.proofs.lemmas.List.{append-nil, length-append, map-append}
+use Rattle.pg_spec.specs.Book as said
+use Rattle.pg_spec.specs.declared.stamps.Stamp.{Stamp}
+use Rattle.pg_desk.specs.declared.event.Booking.{Booking}
+use Rattle.pg_desk.specs.declared.event.Take.TheVariants as taking
+use Rattle.pg_desk.specs.declared.event.Out.TheVariants as out
+use Rattle.pg_desk.specs.declared.event.Deliver.TheVariants as delivering
+use Rattle.pg_desk.specs.declared.event.Event.{Event}
+use Rattle.pg_desk.specs.declared.event.Event.TheVariants.{Book, Take as TakeEvent, HangUp, NextStatement, NextPortal, NextOut, Deliver as DeliverEvent, CloseRequests, Fail}
+use Rattle.pg_desk.specs.History.{State, after, after_all, Allows, IsLegal, leaves_event, kept}
+use Rattle.pg_query.specs.Dialogue.{Dialogue, Answer, Ask, Send, Leave, Read, HangUp as Hang, Call, Hear, Steps}
+use Rattle.pg_query.specs.Lives.{Deed}
+use Rattle.pg_query.specs.declared.desk_call.DeskCall.TheVariants as desk_call
+use Rattle.pg_core.specs.Courses.{Request, Who, stamp_of}
+use Rattle.pg_query.proofs.RequestLaws.{Leads}
+use Rattle.pg_core.specs.Deeds.{booked_by, requests_in}
+use Rattle.pg_core.specs.Lists.{events_of, state_behind}
+use Rattle.pg_core.specs.Trails.{AreNumbered, AllUnder, said_booking, BooksSo}
+
+-- a booking bears the stamp of its turn
+own-stamp : {T : Type 0} (stamp : Stamp) (d : Dialogue T) (id : ℕ) (given : Stamp) (part : List ℕ) (copying : Bool) (new : ℕ) (mid : Dialogue T) (n : ℕ) → Steps stamp d id (Book given part copying (Ok new)) mid n → given ≡ stamp
+own-stamp stamp (Answer r) id given part copying new mid n s = absurd s
+own-stamp stamp (Ask c p d) id given part copying new mid n s = s.0
+own-stamp stamp (Send p d) id given part copying new mid n s = s.0
+own-stamp stamp (Leave k d) id given part copying new mid n s = absurd s
+own-stamp stamp (Read cleanup decides next) id given part copying new mid n s = absurd s
+own-stamp stamp (Hang d) id given part copying new mid n s = absurd s
+own-stamp stamp (Call desk_call.NextStatement next) id given part copying new mid n s = absurd s.1
+own-stamp stamp (Call desk_call.NextPortal next) id given part copying new mid n s = absurd s.1
+own-stamp stamp (Hear next) id given part copying new mid n s = absurd s
+
+-- what an event books: one request, the next of the book, or none
+data Booked (s : State) (e : Event) : Type 0 where
+  One : (stamp : Stamp) (part : List ℕ) (copying : Bool) (new : ℕ) → e ≡ Book stamp part copying (Ok new) → Booked s e
+  None : booked_by e ≡ [] → (after s e).book ≡ s.book → Booked s e
+
+booked : (s : State) (e : Event) → Booked s e
+booked s (Book stamp part copying (Ok id)) = One stamp part copying id refl
+booked s (Book stamp part copying (Err f)) = None refl refl
+booked s (TakeEvent id (Ok (taking.Batch ms))) = None refl refl
+booked s (TakeEvent id (Ok taking.Empty)) = None refl refl
+booked s (TakeEvent id (Ok taking.Over)) = None refl refl
+booked s (TakeEvent id (Ok taking.Gone)) = None refl refl
+booked s (TakeEvent id (Err f)) = None refl refl
+booked s (HangUp id (Ok x)) = None refl refl
+booked s (HangUp id (Err f)) = None refl refl
+booked s (NextStatement (Ok n)) = None refl refl
+booked s (NextStatement (Err f)) = None refl refl
+booked s (NextPortal (Ok n)) = None refl refl
+booked s (NextPortal (Err f)) = None refl refl
+booked s (NextOut (Ok (out.Part part))) = None refl refl
+booked s (NextOut (Ok out.CopyWaits)) = None refl refl
+booked s (NextOut (Ok out.Nothing)) = None refl refl
+booked s (NextOut (Ok out.NoMore)) = None refl refl
+booked s (NextOut (Err f)) = None refl refl
+booked s (DeliverEvent batch complete delivering.Taken) = None refl refl
+booked s (DeliverEvent batch complete (delivering.Full back)) = None refl refl
+booked s (DeliverEvent batch complete (delivering.NoRequest back)) = None refl refl
+booked s (DeliverEvent batch complete (delivering.OutOfMemory back)) = None refl refl
+booked s (CloseRequests (Ok x)) = None refl refl
+booked s (CloseRequests (Err f)) = None refl refl
+booked s (Fail (Ok x)) = None refl refl
+booked s (Fail (Err f)) = None refl refl
+
+-- an event that a stored list leaves out books nothing
+left-out-books : (e : Event) → leaves_event e ≡ false → booked_by e ≡ []
+left-out-books (Book stamp part copying (Ok id)) h = absurd cc
+left-out-books e h = refl
+
+module _ {T : Type 0} (who : Who) (turn : ℕ) (stamp : Stamp) (same : stamp ≡ stamp_of who turn) (q : Dialogue T) (end : ℕ) where
+  -- none in front
+  none-first : (s t : State) (a : Deed) (ds : List Deed) (final : State) → booked_by a.event ≡ [] → t.book ≡ s.book →
+      AreNumbered who turn (length t.book) (requests_in ds) × (map said_booking final.book ≡ map said_booking t.book ++ map (λ r. r.booking) (requests_in ds)) →
+      AreNumbered who turn (length s.book) (requests_in (a ∷ ds)) × (map said_booking final.book ≡ map said_booking s.book ++ map (λ r. r.booking) (requests_in (a ∷ ds)))
+  none-first s t a ds final none book (numbered, grew) =
+      let rs : requests_in (a ∷ ds) ≡ requests_in ds = ap (λ (l : List Request). l ++ requests_in ds) none in (
+        subst (λ (l : List Request). AreNumbered who turn (length s.book) l) (sym rs) (subst (λ (b : List Booking). AreNumbered who turn (length b) (requests_in ds)) book numbered),
+        grew ∙ ap (λ (b : List Booking). map said_booking b ++ map (λ r. r.booking) (requests_in ds)) book ∙ ap (λ (l : List Request). map said_booking s.book ++ map (λ r. r.booking) l) (sym rs),
+      )
+
+  -- one in front
+  one-first : (s : State) (given : Stamp) (part : List ℕ) (copying : Bool) (new : ℕ) (ds : List Deed) (final : State) → given ≡ stamp → new ≡ length s.book →
+      AreNumbered who turn (length (after s (Book given part copying (Ok new))).book) (requests_in ds)
+      × (map said_booking final.book ≡ map said_booking (after s (Book given part copying (Ok new))).book ++ map (λ r. r.booking) (requests_in ds)) →
+      AreNumbered who turn (length s.book) (booked_by (Book given part copying (Ok new)) ++ requests_in ds)
+      × (map said_booking final.book ≡ map said_booking s.book ++ map (λ r. r.booking) (booked_by (Book given part copying (Ok new)) ++ requests_in ds))
+  one-first s given part copying new ds final is number (numbered, grew) =
+      let b : Booking = record { stamp = given; parts = part ∷ [] } in
+      let size : length (s.book ++ b ∷ []) ≡ length s.book + 1 = length-append s.book (b ∷ []) in (
+        (number, is ∙ same, subst (λ (n : ℕ). AreNumbered who turn n (requests_in ds)) size numbered),
+        grew ∙ ap (λ (l : List said.Booking). l ++ map (λ r. r.booking) (requests_in ds)) (map-append said_booking s.book (b ∷ []))
+            ∙ append_assoc (map said_booking s.book) (said_booking b ∷ []) (map (λ r. r.booking) (requests_in ds)),
+      )
+
+  books-on : (ds : List Deed) (d : Dialogue T) (id : ℕ) (s : State) → AllUnder stamp ds → Leads d id ds q end → IsLegal s (kept (events_of ds)) →
+      AreNumbered who turn (length s.book) (requests_in ds) × (map said_booking (state_behind s ds).book ≡ map said_booking s.book ++ map (λ r. r.booking) (requests_in ds))
+  books-on [] d id s under l legal = (tt, sym (append-nil (map said_booking s.book)))
+  books-on (a ∷ ds) d id s under (mid, n, step, l) legal = by (leaves_event a.event) refl legal (λ t legal'. books-on ds mid n t under.1 l legal')
+    where
+      one : (e : Event) → Steps a.stamp d id e mid n → Allows s e → (final : State) → Booked s e →
+          AreNumbered who turn (length (after s e).book) (requests_in ds) × (map said_booking final.book ≡ map said_booking (after s e).book ++ map (λ r. r.booking) (requests_in ds)) →
+          AreNumbered who turn (length s.book) (booked_by e ++ requests_in ds) × (map said_booking final.book ≡ map said_booking s.book ++ map (λ r. r.booking) (booked_by e ++ requests_in ds))
+      one e st allows final (One given part copying new is) h = subst
+          (λ (x : Event). Steps a.stamp d id x mid n → Allows s x → AreNumbered who turn (length (after s x).book) (requests_in ds) × (map said_booking final.book ≡ map said_booking (after s x).book ++ map (λ r. r.booking) (requests_in ds)) →
+          AreNumbered who turn (length s.book) (booked_by x ++ requests_in ds) × (map said_booking final.book ≡ map said_booking s.book ++ map (λ r. r.booking) (booked_by x ++ requests_in ds)))
+          (sym is)
+          (λ st allows h. one-first s given part copying new ds final (own-stamp a.stamp d id given part copying new mid n st ∙ under.0) allows.1 h) st allows h
+      one e st allows final (None none book) h = none-first s (after s e) (record { stamp = a.stamp; event = e }) ds final none book h
+
+      by : (b : Bool) → leaves_event a.event ≡ b → IsLegal s (if b then a.event ∷ kept (events_of ds) else kept (events_of ds)) →
+          ((t : State) → IsLegal t (kept (events_of ds)) → AreNumbered who turn (length t.book) (requests_in ds) × (map said_booking (state_behind t ds).book ≡ map said_booking t.book ++ map (λ r. r.booking) (requests_in ds))) →
+          AreNumbered who turn (length s.book) (requests_in (a ∷ ds))
+          × (map said_booking (after_all s (if b then a.event ∷ kept (events_of ds) else kept (events_of ds))).book ≡ map said_booking s.book ++ map (λ r. r.booking) (requests_in (a ∷ ds)))
+      by true e (allows, legal) ih = one a.event step allows (after_all (after s a.event) (kept (events_of ds))) (booked s a.event) (ih (after s a.event) legal)
+      by false e legal ih = none-first s s a ds (after_all s (kept (events_of ds))) (left-out-books a.event e) refl (ih s legal)
+
+pub books-so : {T : Type 0} (who : Who) (turn : ℕ) (stamp : Stamp) → stamp ≡ stamp_of who turn → (d : Dialogue T) (id : ℕ) (ds : List Deed) (q : Dialogue T) (end : ℕ) (s : State) → AllUnder stamp ds →
+    Leads d id ds q end → IsLegal s (kept (events_of ds)) → BooksSo who turn s ds
+books-so who turn stamp same d id ds q end s under l legal = let h = books-on who turn stamp same q end ds d id s under l legal in record { numbered = h.0; book = h.1 }

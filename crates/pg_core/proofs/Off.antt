@@ -1,0 +1,116 @@
+-- What a command does leaves the requests of others alone.
+use Rattle.std.proofs.Common.{◌≡◌, ◌≢◌, inl, inr, ℕ, ◌<◌, ◌==◌, List, [], ◌∷◌, length, Bool, false, Result, Ok, Err, refl, sym, ap, subst, ◌∙◌, arith}
+use Rattle.std.proofs.lemmas.Bool.Decides.{nat_tests}
+use Rattle.std.proofs.lemmas.List.{length-append}
+use Rattle.pg_spec.specs.declared.stamps.Stamp.{Stamp}
+use Rattle.pg_desk.specs.declared.event.DeskFault.{DeskFault}
+use Rattle.pg_desk.specs.declared.event.Take.TheVariants as taking
+use Rattle.pg_desk.specs.declared.event.Event.{Event}
+use Rattle.pg_desk.specs.declared.event.Event.TheVariants.{Book, Take as TakeEvent, HangUp, NextStatement, NextPortal}
+use Rattle.pg_desk.specs.History.{State, after, Allows, IsLegal}
+use Rattle.pg_query.specs.Dialogue as code
+use Rattle.pg_query.specs.Dialogue.{Dialogue, Answer, feed, after_reply, Told, Steps}
+use Rattle.pg_query.specs.Lives.{Deed}
+use Rattle.pg_query.specs.declared.desk_call.DeskCall.{DeskCall}
+use Rattle.pg_query.specs.declared.desk_call.DeskCall.TheVariants as desk_call
+use Rattle.pg_query.specs.declared.desk_call.Reply.{Reply}
+use Rattle.pg_query.proofs.RequestLaws.{Leads}
+use Rattle.pg_core.specs.Lists.{events_of, Spares, SparesAll}
+use Rattle.pg_core.specs.Runs.{ReadsNothing}
+use Rattle.pg_core.specs.Times.{IsSane, IsOff, IsNoHangUp, HangsUpNone}
+use Rattle.pg_core.proofs.Gone.{sane-fed}
+
+pub off-other : {T : Type 0} (k : ℕ) (d : Dialogue T) (id : ℕ) → IsSane d → id ≢ k → IsOff k d id
+off-other k (code.Answer r) id sane h = tt
+off-other k (code.Ask c p d) id sane h = sane
+off-other k (code.Send p d) id sane h = (sane, inr h)
+off-other k (code.Leave sent d) id sane h = absurd sane
+off-other k (code.Read cleanup decides next) id sane h = (sane, h)
+off-other k (code.HangUp d) id sane h = (sane.1, h)
+off-other k (code.Call q next) id sane h = (sane, inr h)
+off-other k (code.Hear next) id sane h = tt
+
+pub off-none : {T : Type 0} (k : ℕ) (d : Dialogue T) (id : ℕ) → IsSane d → ReadsNothing d → IsOff k d id
+off-none k (code.Answer r) id sane h = tt
+off-none k (code.Ask c p d) id sane h = sane
+off-none k (code.Send p d) id sane h = (sane, inl h)
+off-none k (code.Leave sent d) id sane h = absurd sane
+off-none k (code.Read cleanup decides next) id sane h = absurd h
+off-none k (code.HangUp d) id sane h = absurd h
+off-none k (code.Call q next) id sane h = (sane, inl h)
+off-none k (code.Hear next) id sane h = tt
+
+other-than : (which k : ℕ) → which ≢ k → (which == k) ≡ false
+other-than which k h = grind (arith, nat_tests)
+
+-- one event leaves request k alone, and leads to where it is off
+record Off-on {T : Type 0} (k : ℕ) (s : State) (e : Event) (d' : Dialogue T) (id' : ℕ) : Type 0 where
+  off : IsOff k d' id'
+  spares : Spares (λ j. j == k) e
+  hangs : IsNoHangUp k e
+  booked : k < length (after s e).book
+
+off-as : {T : Type 0} (k : ℕ) (s : State) (e : Event) (d d' : Dialogue T) (id id' : ℕ) → d' ≡ d → id' ≡ id → IsOff k d id → Spares (λ j. j == k) e → IsNoHangUp k e → k < length (after s e).book → Off-on k s e d' id'
+off-as {T} k s e d d' id id' is same off spares hangs booked = record {
+  off = subst (λ (x : Dialogue T). IsOff k x id') (sym is) (subst (λ (j : ℕ). IsOff k d j) (sym same) off);
+  spares = spares;
+  hangs = hangs;
+  booked = booked;
+}
+
+more-booked : (k : ℕ) (s : State) (given : Stamp) (part : List ℕ) (copying : Bool) (new : ℕ) → k < length s.book → k < length (after s (Book given part copying (Ok new))).book
+more-booked k s given part copying new lt = let e = length-append s.book (record { stamp = given; parts = part ∷ [] } ∷ []) in omega (arith, lt, e)
+
+new-other : (k new : ℕ) (s : State) → new ≡ length s.book → k < length s.book → new ≢ k
+new-other k new s is lt = λ same. (let e : new ≡ k = same in omega (arith, is, lt, e))
+
+data Quiet (k : ℕ) (s : State) (e : Event) : Type 0 where
+  Is : Spares (λ j. j == k) e → IsNoHangUp k e → (after s e).book ≡ s.book → Quiet k s e
+
+quiet : (k : ℕ) (s : State) (q : DeskCall) (e : Event) (r : Result Reply DeskFault) → Told q e r → Quiet k s e
+quiet k s desk_call.NextStatement (NextStatement (Ok n)) r h = Is tt tt refl
+quiet k s desk_call.NextStatement (NextStatement (Err f)) r h = Is tt tt refl
+quiet k s desk_call.NextPortal (NextPortal (Ok n)) r h = Is tt tt refl
+quiet k s desk_call.NextPortal (NextPortal (Err f)) r h = Is tt tt refl
+quiet k s q e r h = absurd h
+
+call-off : {T : Type 0} (k : ℕ) (s : State) (q : DeskCall) (next : Reply → Dialogue T) (id : ℕ) (e : Event) (r : Result Reply DeskFault) (d' : Dialogue T) (id' : ℕ) → IsOff k (code.Call q next) id → k < length s.book → Quiet k s e → d' ≡ after_reply r next → id' ≡ id → Off-on k s e d' id'
+call-off k s q next id e (Ok r) d' id' (sane, inl h) lt (Is a b book) is same = off-as k s e (next r) d' id id' is same (off-none k (next r) id (sane r) (h r)) a b (let n = ap length book in omega (arith, lt, n))
+call-off k s q next id e (Ok r) d' id' (sane, inr h) lt (Is a b book) is same = off-as k s e (next r) d' id id' is same (off-other k (next r) id (sane r) h) a b (let n = ap length book in omega (arith, lt, n))
+call-off k s q next id e (Err f) d' id' off lt (Is a b book) is same = off-as k s e (Answer _) d' id id' is same tt a b (let n = ap length book in omega (arith, lt, n))
+
+one-off : {T : Type 0} (k : ℕ) (s : State) (stamp : Stamp) (d : Dialogue T) (id : ℕ) (e : Event) (d' : Dialogue T) (id' : ℕ) → IsOff k d id → k < length s.book → Allows s e → Steps stamp d id e d' id' → Off-on k s e d' id'
+one-off k s stamp (code.Answer r) id e d' id' off lt a st = absurd st
+one-off k s stamp (code.Ask c p d) id (Book given part copying (Ok new)) d' id' off lt a st =
+    off-as k s (Book given part copying (Ok new)) d d' new id' st.3 st.4 (off-other k d new off (new-other k new s a.1 lt)) tt tt (more-booked k s given part copying new lt)
+one-off k s stamp (code.Ask c p d) id (Book given part copying (Err f)) d' id' off lt a st = off-as k s (Book given part copying (Err f)) (Answer _) d' id id' st.3 st.4 tt tt tt lt
+one-off k s stamp (code.Ask c p d) id e d' id' off lt a st = absurd st
+one-off k s stamp (code.Send p d) id (Book given part copying (Ok new)) d' id' off lt a st =
+    off-as k s (Book given part copying (Ok new)) (code.Leave new d) d' id id' st.3 st.4 (off.0, new-other k new s a.1 lt, off.1) tt tt (more-booked k s given part copying new lt)
+one-off k s stamp (code.Send p d) id (Book given part copying (Err f)) d' id' off lt a st = off-as k s (Book given part copying (Err f)) (Answer _) d' id id' st.3 st.4 tt tt tt lt
+one-off k s stamp (code.Send p d) id e d' id' off lt a st = absurd st
+one-off k s stamp (code.Leave sent d) id (HangUp which (Ok x)) d' id' (sane, apart, inl h) lt a st = off-as k s (HangUp which (Ok x)) d d' id id' st.1 st.2 (off-none k d id sane h) tt (λ same. apart (sym st.0 ∙ same)) lt
+one-off k s stamp (code.Leave sent d) id (HangUp which (Ok x)) d' id' (sane, apart, inr h) lt a st = off-as k s (HangUp which (Ok x)) d d' id id' st.1 st.2 (off-other k d id sane h) tt (λ same. apart (sym st.0 ∙ same)) lt
+one-off k s stamp (code.Leave sent d) id (HangUp which (Err f)) d' id' off lt a st = off-as k s (HangUp which (Err f)) (Answer _) d' id id' st.1 st.2 tt tt tt lt
+one-off k s stamp (code.Leave sent d) id e d' id' off lt a st = absurd st
+one-off k s stamp (code.Read cleanup decides next) id (TakeEvent which (Ok (taking.Batch ms))) d' id' (sane, h) lt a st =
+    off-as k s (TakeEvent which (Ok (taking.Batch ms))) (feed ms (code.Read cleanup decides next)) d' id id' st.1 st.2
+    (off-other k (feed ms (code.Read cleanup decides next)) id (sane-fed ms (code.Read cleanup decides next) sane) h) (other-than which k (λ same. h (sym st.0 ∙ same))) tt lt
+one-off k s stamp (code.Read cleanup decides next) id (TakeEvent which (Ok taking.Empty)) d' id' off lt a st = off-as k s (TakeEvent which (Ok taking.Empty)) (code.Read cleanup decides next) d' id id' st.1 st.2 off tt tt lt
+one-off k s stamp (code.Read cleanup decides next) id (TakeEvent which (Ok taking.Over)) d' id' off lt a st = off-as k s (TakeEvent which (Ok taking.Over)) (Answer _) d' id id' st.1 st.2 tt tt tt lt
+one-off k s stamp (code.Read cleanup decides next) id (TakeEvent which (Ok taking.Gone)) d' id' off lt a st = off-as k s (TakeEvent which (Ok taking.Gone)) (code.HangUp (Answer _)) d' id id' st.1 st.2 (tt, off.1) tt tt lt
+one-off k s stamp (code.Read cleanup decides next) id (TakeEvent which (Err f)) d' id' off lt a st = off-as k s (TakeEvent which (Err f)) (Answer _) d' id id' st.1 st.2 tt tt tt lt
+one-off k s stamp (code.Read cleanup decides next) id e d' id' off lt a st = absurd st
+one-off k s stamp (code.HangUp d) id (HangUp which (Ok x)) d' id' (sane, h) lt a st = off-as k s (HangUp which (Ok x)) d d' id id' st.1 st.2 (off-other k d id sane h) tt (λ same. h (sym st.0 ∙ same)) lt
+one-off k s stamp (code.HangUp d) id (HangUp which (Err f)) d' id' off lt a st = off-as k s (HangUp which (Err f)) (Answer _) d' id id' st.1 st.2 tt tt tt lt
+one-off k s stamp (code.HangUp d) id e d' id' off lt a st = absurd st
+one-off k s stamp (code.Call q next) id e d' id' off lt a (r, told, is, same) = call-off k s q next id e r d' id' off lt (quiet k s q e r told) is same
+one-off k s stamp (code.Hear next) id e d' id' off lt a st = absurd st
+
+pub left-alone : {T : Type 0} (k : ℕ) (s : State) (d : Dialogue T) (id : ℕ) (ds : List Deed) (q : Dialogue T) (end : ℕ) → IsOff k d id → k < length s.book → IsLegal s (events_of ds) → Leads d id ds q end →
+    SparesAll k ds × HangsUpNone k ds
+left-alone k s d id [] q end off lt legal l = (tt, tt)
+left-alone k s d id (a ∷ ds) q end off lt legal (mid, n, st, l) =
+    let o = one-off k s a.stamp d id a.event mid n off lt legal.0 st in
+    let h = left-alone k (after s a.event) mid n ds q end o.off o.booked legal.1 l in
+    ((o.spares, h.0), (o.hangs, h.1))

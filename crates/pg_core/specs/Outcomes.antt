@@ -1,0 +1,51 @@
+-- The outcome of a command's life, without turns.
+use Rattle.std.specs.Prelude.{◌≡◌, ◌⊎◌, ℕ, List, [], ◌++◌, map, false, Some, Result, Err}
+use Rattle.pg_spec.specs.RawMessages.{RawMessage}
+use Rattle.pg_faults.specs.declared.error.Error.{Error}
+use Rattle.pg_faults.specs.declared.error.Error.TheVariants.{Closed, OutOfMemory}
+use Rattle.pg_query.specs.Dialogue as code
+use Rattle.pg_query.specs.Lives.{Deed}
+use Rattle.pg_query.specs.declared.desk_call.DeskCall.{DeskCall}
+use Rattle.pg_query.specs.declared.desk_call.Reply.{Reply}
+use Rattle.pg_core.specs.Courses.{Asked, Request, Met, outcome_of}
+use Rattle.pg_core.specs.Dialogues.{Dialogue, Answers, Asks, Sends, Reads, Calls}
+use Rattle.pg_core.specs.Deeds.{requests_in, asked_in, EndsRefused}
+
+-- what a dialogue asks and answers, with no word on hanging up and refusals; its errors are answers too
+abbrev pub asked : {T : Type 0} → code.Dialogue T → Dialogue DeskCall Reply (Result T Error)
+asked (code.Answer r) = Answers r
+asked (code.Ask copying part d) = Asks copying part (asked d)
+asked (code.Send part d) = Sends part (asked d)
+asked (code.Leave id d) = asked d
+asked (code.Read cleanup decides next) = Reads decides (λ ms. asked (next ms))
+asked (code.HangUp d) = asked d
+asked (code.Call q next) = Calls q (λ r. asked (next r))
+asked (code.Hear next) = Reads (λ ms. false) (λ ms. Answers (Err Closed))
+
+-- what it met: what came of its requests, and what it was told
+abbrev pub met_by : (came : ℕ → List RawMessage) → List Request → List (Asked DeskCall Reply) → Met Reply
+met_by came rs qs = record { replies = map (λ r. came r.number) rs; told = map (λ a. a.reply) qs }
+
+-- the parts of each request
+abbrev pub parts_in : List Request → List (List (List ℕ))
+parts_in rs = map (λ r. r.booking.parts) rs
+
+-- what was asked, without what was told
+abbrev pub questions_in : List (Asked DeskCall Reply) → List DeskCall
+questions_in qs = map (λ a. a.question) qs
+
+-- What its deeds booked and asked is the outcome of its dialogue on what it met, with this answer.
+pub record IsOutcome {T : Type 0} (came : ℕ → List RawMessage) (d : code.Dialogue T) (ds : List Deed) (r : Result T Error) : Type 0 where
+  pub left : List RawMessage
+  pub is : outcome_of (asked d) (met_by came (requests_in ds) (asked_in ds))
+      ≡ record { parts = []; requests = parts_in (requests_in ds); asked = questions_in (asked_in ds); answer = Some r; left = left }
+
+-- What its deeds booked is a front of that, and what they asked is all of it.
+pub record IsUnderWay {T : Type 0} (came : ℕ → List RawMessage) (d : code.Dialogue T) (ds : List Deed) : Type 0 where
+  pub more : List (List (List ℕ))
+  pub requests : parts_in (requests_in ds) ++ more ≡ (outcome_of (asked d) (met_by came (requests_in ds) (asked_in ds))).requests
+  pub asked : questions_in (asked_in ds) ≡ (outcome_of (asked d) (met_by came (requests_in ds) (asked_in ds))).asked
+
+-- A life that ended in this answer: it is the outcome, or the desk refused or memory lacked, and then what was done is the front of it.
+abbrev pub LivesSo : {T : Type 0} → (came : ℕ → List RawMessage) → code.Dialogue T → List Deed → code.Dialogue T → Result T Error → Type 0
+LivesSo came d ds q r = IsUnderWay came d ds × (IsOutcome came d ds r ⊎ (EndsRefused ds q × (q ≡ code.Answer r)) ⊎ (r ≡ Err OutOfMemory))
