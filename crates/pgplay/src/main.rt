@@ -3,12 +3,14 @@
 
 mod opened;
 
+ghost use Rattle.std.specs.Prelude.{◌≡◌};
+
 use crate::opened::Opened;
 use pg_stream::StreamLink;
-use pg_tool::run;
+use pg_tool::{Outcome, run};
 use pg_wire::{MemoryLink, ReadSource, WriteSink};
 use std::process::ExitCode;
-use std::{env, fs, io};
+use std::{env, fs, io, mem};
 
 /// The status of want of memory.
 const OUT_OF_MEMORY: u8 = 5;
@@ -22,13 +24,23 @@ fn words(rt: &HostRuntime) -> io::Result<Vec<String>> {
     Ok(words)
 }
 
+/// The status. The program ends behind it, so what the session answered isn't let go piece by piece.
+fn status_of(outcome: Outcome) -> u8
+    ensures { result ≡ outcome.status }
+{
+    let status = outcome.status;
+    mem::forget(outcome);
+    status
+}
+
 /// A session text on standard input, its report on standard output; its link is its own.
 fn play(rt: &HostRuntime, words: &[String]) -> u8 {
     let alloc = rt.alloc();
     let mut source = ReadSource::new(rt.reader());
     let mut sink = WriteSink::new(io::writer(rt));
     let mut link = MemoryLink::new(alloc, Vec::new(alloc), 1, 1, false);
-    run(alloc, words, &mut source, &mut sink, &mut link).status
+    let outcome = run(alloc, words, &mut source, &mut sink, &mut link);
+    status_of(outcome)
 }
 
 /// A session text in a file, its report in another, which is made or emptied; its link is standard input and output.
@@ -43,7 +55,10 @@ fn pipe(rt: &HostRuntime, words: &[String], file: &str, report: &str) -> u8 {
         Err(_) => Opened::Missing(0),
     };
     match StreamLink::new(alloc, rt.reader(), io::writer(rt)) {
-        Ok(mut link) => run(alloc, words, &mut source, &mut sink, &mut link).status,
+        Ok(mut link) => {
+            let outcome = run(alloc, words, &mut source, &mut sink, &mut link);
+            status_of(outcome)
+        }
         Err(_) => OUT_OF_MEMORY,
     }
 }
