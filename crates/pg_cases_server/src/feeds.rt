@@ -8,7 +8,7 @@ use pg_types::Blob;
 use std::alloc::{AllocError, Global};
 
 /// AuthenticationOk and ReadyForQuery.
-const STARTUP: &[u8] = b"R\0\0\0\x08\0\0\0\0Z\0\0\0\x05I";
+pub(crate) const STARTUP: &[u8] = b"R\0\0\0\x08\0\0\0\0Z\0\0\0\x05I";
 
 /// What is said to one piece, and the fault.
 fn tell_piece(

@@ -3,6 +3,7 @@
 
 mod feeds;
 mod frames;
+mod links;
 
 use pg_cases::words::text_at;
 use std::alloc::{AllocError, Global};
@@ -12,6 +13,7 @@ use std::io;
 fn tell(alloc: Global, words: &[Vec<u8>], out: &mut String) -> Result<(), AllocError> {
     match text_at(words, 0) {
         "frame" => frames::tell(alloc, words, out),
+        "link" => links::tell(alloc, words, out),
         _ => feeds::tell(alloc, words, out),
     }
 }

@@ -1,10 +1,10 @@
 -- What stands in front, and the bytes behind it: how it is found doesn't depend on what follows.
-use Rattle.std.proofs.Common.{◌≡◌, ℕ, ◌-◌, ◌≤◌, Bool, true, false, not, List, [], ◌∷◌, ◌++◌, Option, Some, None, Result, Ok, Err, refl, sym, ap, subst, ◌∙◌, cond, arith, length, take, drop, append_assoc}
+use Rattle.std.proofs.Common.{◌≡◌, ℕ, ◌+◌, ◌-◌, ◌≤◌, Bool, true, false, not, List, [], ◌∷◌, ◌++◌, Option, Some, None, Result, Ok, Err, refl, sym, ap, subst, ◌∙◌, cond, arith, length, take, drop, append_assoc}
 use Rattle.std.specs.Prelude.{nat_le, ◌==◌, if◌then◌else◌}
 use Rattle.std.specs.Int.{w32, from_be_bytes}
 use Rattle.std.specs.Option.{option_and_then}
 use Rattle.std.proofs.lemmas.Bool.{leb-true}
-use Rattle.std.proofs.lemmas.List.{take-append-drop, length-take-le, length-append}
+use Rattle.std.proofs.lemmas.List.{take-append-drop, length-take-le, length-append, drop_at}
 use Rattle.std.proofs.lemmas.Option.{option_and_then_some, some_pair_parts, cond_some}
 use Rattle.pg_faults.specs.declared.fault.WireFault.{WireFault}
 use Rattle.pg_faults.specs.declared.fault.WireFault.TheVariants.{BadLength, Layout}
@@ -53,10 +53,10 @@ number_at-behind s n rest e =
     option_and_then_some (λ (d : List ℕ × List ℕ). Some (from_be_bytes w32 d.0, d.1)) (bytes_at 4 s) (n, rest) e (λ d at made.
     subst (λ (r : List ℕ). IsBehind s r 4) (some_pair_parts (from_be_bytes w32 d.0) n d.1 rest made).1 (bytes_at-behind 4 s d.0 d.1 at))
 
-abbrev finish : ℕ → ℕ → List ℕ → List ℕ → Option (RawMessage × List ℕ)
+abbrev pub finish : ℕ → ℕ → List ℕ → List ℕ → Option (RawMessage × List ℕ)
 finish tag n body rest = cond (raw.is_length n) (Some (record { tag = tag; body = body }, rest)) None
 
-message_at-behind : (s : List ℕ) (m : RawMessage) (rest : List ℕ) → message_at s ≡ Some (m, rest) → IsBehind s rest 1
+pub message_at-behind : (s : List ℕ) (m : RawMessage) (rest : List ℕ) → message_at s ≡ Some (m, rest) → IsBehind s rest 1
 message_at-behind [] m rest e = absurd cc
 message_at-behind (tag ∷ s) m rest e =
     option_and_then_some (λ (n : ℕ × List ℕ). bytes_at (n.0 - 4) n.1 >>= λ body. finish tag n.0 body.0 body.1) (number_at w32 s) (m, rest) e (λ n at later.
@@ -66,10 +66,23 @@ message_at-behind (tag ∷ s) m rest e =
     subst (λ (p : RawMessage × List ℕ). IsBehind (tag ∷ s) p.1 1) parts.1
     (record { gone = tag ∷ all.gone; some = omega arith; is = ap (λ (x : List ℕ). tag ∷ x) all.is })))
 
+-- what stands behind some bytes, by how many they are
+pub record IsLeft (s rest : List ℕ) : Type 0 where
+  pub fits : length rest ≤ length s
+  pub is : rest ≡ drop (length s - length rest) s
+
+pub left_behind : (s rest : List ℕ) (k : ℕ) → IsBehind s rest k → IsLeft s rest
+left_behind s rest k behind =
+    let size : length behind.gone + length rest ≡ length s = sym (length-append behind.gone rest) ∙ ap length behind.is in
+    let skip : length s - length rest ≡ length behind.gone = omega (arith, size) in record {
+      fits = omega (arith, size);
+      is = sym (ap (λ (n : ℕ). drop n s) skip ∙ ap (drop (length behind.gone)) (sym behind.is) ∙ drop_at behind.gone rest (length behind.gone) refl);
+    }
+
 -- ---- the opening frames
 
 -- What was found leaves bytes that stand behind others, and is found whatever follows.
-abbrev Known : (s b : List ℕ) → InFront → InFront → Type 0
+abbrev pub Known : (s b : List ℕ) → InFront → InFront → Type 0
 Known s b opening.Short later = Unit {0}
 Known s b (opening.Ssl rest) later = IsBehind s rest 1 × (later ≡ opening.Ssl (rest ++ b))
 Known s b (opening.Starts rest) later = IsBehind s rest 1 × (later ≡ opening.Starts (rest ++ b))
@@ -102,7 +115,7 @@ cancelling-known s b body =
       | Some p ↦ λ e. ap (λ (o : Option (List ℕ × List ℕ)). elim o [ None ↦ opening.Short | Some p ↦ opening.Breaks faults.Cancel ]) (bytes_at-Reader 8 body p.0 p.1 b e)
     ] refl
 
-opening_by-known : (s b : List ℕ) (n code : ℕ) (body : List ℕ) → IsBehind s body 1 → Known s b (opening_by n code body) (opening_by n code (body ++ b))
+pub opening_by-known : (s b : List ℕ) (n code : ℕ) (body : List ℕ) → IsBehind s body 1 → Known s b (opening_by n code body) (opening_by n code (body ++ b))
 opening_by-known s b n code body is = by_tests (code == 80877103) (n == 8) (code == 80877102) (n == 16) (code == 196608)
   where
     bad : InFront
@@ -121,7 +134,7 @@ opening_by-known s b n code body is = by_tests (code == 80877103) (n == 8) (code
     by_tests false eight false sixteen true = starting-known s b n body is
     by_tests false eight false sixteen false = refl
 
-opening_behind-known : (s b : List ℕ) (n : ℕ) (bytes : List ℕ) → IsBehind s bytes 1 → Known s b (opening_behind n bytes) (opening_behind n (bytes ++ b))
+pub opening_behind-known : (s b : List ℕ) (n : ℕ) (bytes : List ℕ) → IsBehind s bytes 1 → Known s b (opening_behind n bytes) (opening_behind n (bytes ++ b))
 opening_behind-known s b n bytes is =
     elim (number_at w32 bytes) as (λ o. number_at w32 bytes ≡ o → Known s b (by_code o) (opening_behind n (bytes ++ b))) [
       | None ↦ λ e. tt
@@ -133,7 +146,7 @@ opening_behind-known s b n bytes is =
     by_code : Option (ℕ × List ℕ) → InFront
     by_code o = elim o [ None ↦ opening.Short | Some code ↦ opening_by n code.0 code.1 ]
 
-opening-known : (s b : List ℕ) → Known s b (opening_in_front s) (opening_in_front (s ++ b))
+pub opening-known : (s b : List ℕ) → Known s b (opening_in_front s) (opening_in_front (s ++ b))
 opening-known s b =
     elim (number_at w32 s) as (λ o. number_at w32 s ≡ o → Known s b (by_length o) (opening_in_front (s ++ b))) [
       | None ↦ λ e. tt
@@ -149,6 +162,63 @@ opening-known s b =
         Known s b (cond t (opening_behind n rest) (opening.Breaks (faults.BadFrame BadLength))) (cond t (opening_behind n (rest ++ b)) (opening.Breaks (faults.BadFrame BadLength)))
     by_test true n rest is = opening_behind-known s b n rest is
     by_test false n rest is = refl
+
+-- what was answered there leaves bytes that stand behind others
+pub opened-behind : {S : Type 0} (at : Standing S) (s said : List ℕ) (next : Standing S) (rest : List ℕ) → opened at (opening_in_front s) ≡ Says said next rest → IsBehind s rest 1
+opened-behind {S = S} at s said next rest e = by_front (opening_in_front s) (opening-known s []) e
+  where
+    rest_of : Front S → List ℕ
+    rest_of Waits = []
+    rest_of (Says said next rest) = rest
+    rest_of (Stops fault) = []
+
+    by_front : (x : InFront) → Known s [] x (opening_in_front (s ++ [])) → opened at x ≡ Says said next rest → IsBehind s rest 1
+    by_front opening.Short k e = absurd cc
+    by_front (opening.Ssl r) k e = subst (λ (b : List ℕ). IsBehind s b 1) (ap rest_of e) k.0
+    by_front (opening.Starts r) k e = subst (λ (b : List ℕ). IsBehind s b 1) (ap rest_of e) k.0
+    by_front (opening.Breaks fault) k e = absurd cc
+
+-- no effect is met there
+abbrev pub NoEffect : InFront → Type 0
+NoEffect (opening.Breaks (faults.BadEffect n)) = ⊥
+NoEffect other = Unit {0}
+
+pub opening-NoEffect : (s : List ℕ) → NoEffect (opening_in_front s)
+opening-NoEffect s = by_length (number_at w32 s)
+  where
+    by_parameters : (o : Option (List ℕ × List ℕ)) → NoEffect (elim o [ None ↦ opening.Short | Some p ↦ if is_parameters p.0 then opening.Starts p.1 else opening.Breaks (faults.BadFrame Layout) ])
+    by_parameters None = tt
+    by_parameters (Some p) = by_test (is_parameters p.0)
+      where
+        by_test : (t : Bool) → NoEffect (cond t (opening.Starts p.1) (opening.Breaks (faults.BadFrame Layout)))
+        by_test true = tt
+        by_test false = tt
+
+    by_rest : (o : Option (List ℕ × List ℕ)) → NoEffect (elim o [ None ↦ opening.Short | Some rest ↦ opening.Breaks faults.Cancel ])
+    by_rest None = tt
+    by_rest (Some rest) = tt
+
+    by_tests : (n code : ℕ) (body : List ℕ) (ssl eight cancel sixteen version : Bool) →
+        NoEffect (cond ssl (cond eight (opening.Ssl body) (opening.Breaks (faults.BadFrame BadLength)))
+        (cond cancel (cond sixteen (cancelling body) (opening.Breaks (faults.BadFrame BadLength))) (cond version (starting n body) (opening.Breaks (faults.Version code)))))
+    by_tests n code body true true cancel sixteen version = tt
+    by_tests n code body true false cancel sixteen version = tt
+    by_tests n code body false eight true true version = by_rest (bytes_at 8 body)
+    by_tests n code body false eight true false version = tt
+    by_tests n code body false eight false sixteen true = by_parameters (bytes_at (n - 8) body)
+    by_tests n code body false eight false sixteen false = tt
+
+    by_code : (n : ℕ) (o : Option (ℕ × List ℕ)) → NoEffect (elim o [ None ↦ opening.Short | Some code ↦ opening_by n code.0 code.1 ])
+    by_code n None = tt
+    by_code n (Some c) = by_tests n c.0 c.1 (c.0 == 80877103) (n == 8) (c.0 == 80877102) (n == 16) (c.0 == 196608)
+
+    by_range : (t : Bool) (n : ℕ) (bytes : List ℕ) → NoEffect (cond t (opening_behind n bytes) (opening.Breaks (faults.BadFrame BadLength)))
+    by_range true n bytes = by_code n (number_at w32 bytes)
+    by_range false n bytes = tt
+
+    by_length : (o : Option (ℕ × List ℕ)) → NoEffect (elim o [ None ↦ opening.Short | Some n ↦ if is_length n.0 then opening_behind n.0 n.1 else opening.Breaks (faults.BadFrame BadLength) ])
+    by_length None = tt
+    by_length (Some n) = by_range (is_length n.0) n.0 n.1
 
 -- ---- whatever stands in front
 

@@ -6,7 +6,11 @@ pub mod StartupLaws
 pub mod AnswerLaws
 pub mod ServeLaws
 pub mod CutLaws
+pub mod AloneLaws
 pub mod HearingLaws
+pub mod SettledLaws
 pub mod FeedingLaws
 pub mod ServedLaws
 pub mod EchoLaws
+pub mod TrafficLaws
+pub mod LinkLaws

@@ -1,10 +1,14 @@
 pub mod Answers
+pub mod Copies
+pub mod Crossings
 pub mod Echoes
 pub mod Frames
 pub mod Handlers
 pub mod Hearing
 pub mod Openings
 pub mod Readings
+pub mod ServerLinks
 pub mod Servers
+pub mod Settled
 pub mod Standings
 pub mod Startups

@@ -1,5 +1,7 @@
 -- What a server says to the bytes that it is fed with.
-use Rattle.std.specs.Prelude.{◌≡◌, ℕ, true, false, List, [], ◌++◌, Some, None, Result, Ok, Err}
+use Rattle.std.specs.Prelude.{◌≡◌, ℕ, ◌<◌, true, false, List, [], ◌++◌, length, Option, Some, None, Result, Ok, Err}
+use Rattle.pg_server.specs.declared.answer.Answer.{Answer}
+use Rattle.pg_server.specs.Answers.{answer_bytes}
 use Rattle.pg_server.specs.declared.fault.ServerFault.{ServerFault}
 use Rattle.pg_server.specs.declared.fault.ServerFault.TheVariants as faults
 use Rattle.pg_server.specs.declared.server.Server.{Server}
@@ -7,7 +9,7 @@ use Rattle.pg_server.specs.declared.session.Stage.{Stage}
 use Rattle.pg_server.specs.declared.session.Stage.TheVariants.{Over}
 use Rattle.pg_server.specs.Handlers.{Step}
 use Rattle.pg_server.specs.Hearing.{Said, said_to, IsFront}
-use Rattle.pg_server.specs.Standings.{Standing, unfed, standing_of}
+use Rattle.pg_server.specs.Standings.{Standing, Front, Waits, Says, Stops, unfed, standing_of}
 use Rattle.pg_server.specs.Startups.{is_startup}
 
 -- what a server holds: where it stands, and the bytes that aren't a whole frame yet
@@ -50,3 +52,13 @@ FeedsAt step old new bytes out later (Err fault) stage = Takes step old new byte
 -- what a call that is handed these bytes makes of it, by where the connection stood
 abbrev pub Feeds : {S : Type 0} → Step S → (old new : Heard S) → (bytes out later : List ℕ) → Result (Unit {0}) ServerFault → Type 0
 Feeds step old new bytes out later r = FeedsAt step old new bytes out later r old.standing.stage
+
+-- Bytes were taken up to the end of the first frame that is whole by them, and so many of them weren't taken. After a fault it
+-- stands as before; but it is over where an effect may not be given.
+abbrev pub TakesFront : {S : Type 0} → Front S → (old new : Heard S) → (bytes : List ℕ) → Result (Option (Answer × ℕ)) ServerFault → Type 0
+TakesFront found old new bytes (Ok None) = (found ≡ Waits) × (new ≡ record old { left = old.left ++ bytes })
+TakesFront found old new bytes (Ok (Some said)) =
+    (rest : List ℕ) × (found ≡ Says (answer_bytes said.0) new.standing rest) × (said.1 ≡ length rest) × (said.1 < length bytes) × (new.left ≡ [])
+TakesFront found old new bytes (Err faults.OutOfMemory) = new ≡ old
+TakesFront found old new bytes (Err (faults.BadEffect n)) = (found ≡ Stops (faults.BadEffect n)) × (new.standing.stage ≡ Over)
+TakesFront found old new bytes (Err fault) = (found ≡ Stops fault) × (new ≡ old)

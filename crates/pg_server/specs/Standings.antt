@@ -1,5 +1,5 @@
 -- Where a server stands, and what the bytes in front of it do.
-use Rattle.std.specs.Prelude.{◌≡◌, ℕ, Bool, true, false, not, ◌&&◌, List, [], ◌∷◌, ◌++◌, Option, Some, None, Result, Ok, Err, if◌then◌else◌}
+use Rattle.std.specs.Prelude.{◌≡◌, ℕ, ◌-◌, ◌≤◌, Bool, true, false, not, ◌&&◌, List, [], ◌∷◌, ◌++◌, length, drop, Option, Some, None, Result, Ok, Err, if◌then◌else◌}
 use Rattle.std.specs.Borrow.{Bor}
 use Rattle.std.specs.Str.{byte}
 use Rattle.pg_faults.specs.declared.fault.WireFault.{WireFault}
@@ -115,13 +115,13 @@ standing_of state session = record {
   startup = session.startup;
 }
 
--- The frame was answered, or its effect may not be given. Where memory lacks the server is as before.
+-- The frame was answered, or its effect may not be given, and the server is over. Where memory lacks it is as before.
 abbrev pub Answers : {S : Type 0} → Step S → (old new : Standing S) → RawMessage → ClientFrame → Result Answer ServerFault → Type 0
 Answers step old new raw frame (Ok answer) =
     (is_broken step old raw frame ≡ false) × (answer_bytes answer ≡ spoken (replied step old raw).reply)
     × (new ≡ record old { state = (replied step old raw).next.state; mode = (replied step old raw).next.mode })
 Answers step old new raw frame (Err faults.OutOfMemory) = new ≡ old
-Answers step old new raw frame (Err (faults.BadEffect n)) = (n ≡ old.answered) × (is_broken step old raw frame ≡ true)
+Answers step old new raw frame (Err (faults.BadEffect n)) = (n ≡ old.answered) × (is_broken step old raw frame ≡ true) × (new.stage ≡ stages.Over)
 Answers step old new raw frame (Err fault) = ⊥
 
 -- A whole frame was read and has this answer, or one of the two can't be had.
@@ -132,12 +132,14 @@ Asks step old new raw (Err (faults.BadFrame fault)) = (frame_or_fault raw ≡ Er
 Asks step old new raw (Err (faults.BadEffect n)) = (frame : ClientFrame) × (frame_or_fault raw ≡ Ok frame) × Answers step old new raw frame (Err (faults.BadEffect n))
 Asks step old new raw (Err fault) = ⊥
 
--- A whole frame was answered, and these bytes are behind it. After a fault `out` is as before.
-abbrev pub Serves : {S : Type 0} → Step S → (old new : Standing S) → RawMessage → (rest out later : List ℕ) → Result (Bor (List ℕ)) ServerFault → Type 0
-Serves step old new raw rest out later (Ok behind) =
-    (said : List ℕ) × (reading step old raw rest (frame_or_fault raw) ≡ Says said new behind.now) × (later ≡ out ++ said)
-Serves step old new raw rest out later (Err faults.OutOfMemory) = later ≡ out
-Serves step old new raw rest out later (Err fault) = (reading step old raw rest (frame_or_fault raw) ≡ Stops fault) × (later ≡ out)
+-- What stands in front was answered, and so many bytes are behind it. After a fault the server is as before; but it is over where
+-- an effect may not be given.
+abbrev pub Steps : {S : Type 0} → Front S → (old new : Standing S) → (bytes : List ℕ) → Result (Option (Answer × ℕ)) ServerFault → Type 0
+Steps found old new bytes (Ok None) = (found ≡ Waits) × (new ≡ old)
+Steps found old new bytes (Ok (Some said)) = (said.1 ≤ length bytes) × (found ≡ Says (answer_bytes said.0) new (drop (length bytes - said.1) bytes))
+Steps found old new bytes (Err faults.OutOfMemory) = new ≡ old
+Steps found old new bytes (Err (faults.BadEffect n)) = (found ≡ Stops (faults.BadEffect n)) × (new.stage ≡ stages.Over)
+Steps found old new bytes (Err fault) = (found ≡ Stops fault) × (new ≡ old)
 
 -- What stands in front was done: `out` got what is said. After a fault it is as before.
 abbrev pub Does : {S : Type 0} → Front S → (old new : Standing S) → (out later : List ℕ) → Result (Option (Bor (List ℕ))) ServerFault → Type 0

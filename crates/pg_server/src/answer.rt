@@ -1,11 +1,13 @@
 //! What is said to a frame.
 
-ghost use Rattle.std.specs.Prelude.{◌≡◌, ◌++◌, MatchResult};
+ghost use Rattle.std.specs.Prelude.{◌≡◌, ◌++◌, [], IfOk, MatchResult, if◌then◌else◌};
+ghost use Rattle.pg_serving.specs.Steps.{ready_bytes};
 ghost use Rattle.pg_server.specs.Answers.{asks, answer_bytes, sounds};
 
 use bytes::BytesMut;
 use pg_serving::{Tags, Turn, may_answer};
 use pg_types::{Blob, OutOfMemory};
+use std::alloc::Global;
 
 /// ReadyForQuery, idle.
 const READY: [u8; 6] = [b'Z', 0, 0, 0, 5, b'I'];
@@ -15,6 +17,26 @@ const READY: [u8; 6] = [b'Z', 0, 0, 0, 5, b'I'];
 pub(crate) struct Answer {
     pub reply: Blob,
     pub ready: bool,
+}
+
+/// ReadyForQuery, or nothing.
+pub(crate) fn ready(says: bool) -> &'static [u8]
+    ensures { result.now ≡ (if says then ready_bytes else []) }
+{
+    if says { &READY } else { &[] }
+}
+
+/// These bytes as an answer.
+pub(crate) fn copied(alloc: Global, bytes: &[u8]) -> Result<Answer, OutOfMemory>
+    ensures { IfOk result (λ answer. answer_bytes answer ≡ bytes.now) }
+{
+    match Blob::from_slice(alloc, bytes) {
+        Ok(reply) => Ok(Answer {
+            reply,
+            ready: false,
+        }),
+        Err(_) => Err(OutOfMemory),
+    }
 }
 
 /// The handler is asked in this turn.

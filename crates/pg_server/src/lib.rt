@@ -14,8 +14,10 @@ mod opening;
 mod parsing;
 mod reading;
 mod server;
+mod server_link;
 mod session;
 mod startup;
+mod traffic;
 
 pub use echo::Echo;
 pub use fault::ServerFault;
@@ -23,3 +25,4 @@ pub use frame::Frame;
 pub use handler::{Effect, Handler};
 pub use laws::{a_server_says_what_the_rules_say, cuttings_of_what_is_fed};
 pub use server::Server;
+pub use server_link::ServerLink;

@@ -1,7 +1,9 @@
 //! A server that a handler answers for, fed with the bytes of a client.
 
-ghost use Rattle.pg_server.specs.Servers.{heard_of, Makes, Takes, Feeds};
+ghost use Rattle.std.specs.Prelude.{◌≡◌, true};
+ghost use Rattle.pg_server.specs.Settled.{is_settled};
 
+use crate::answer::Answer;
 use crate::fault::ServerFault;
 use crate::handler::Handler;
 use crate::session::Session;
@@ -17,9 +19,12 @@ pub struct Server<H> {
     session: Session<H>,
     /// What was fed and isn't a whole frame yet.
     left: BytesMut,
+    ghost settled: { is_settled session.stage left.items ≡ true },
 }
 
 impl<H: Handler + Drop> Server<H> {
+    ghost use Rattle.pg_server.specs.Servers.{heard_of, Makes};
+
     /// A server that hasn't been fed. `startup` is what it says to the startup frame. BadStartup comes exactly where that
     /// isn't AuthenticationOk, then BackendKeyData, ParameterStatus and NoticeResponse in any number, then ReadyForQuery.
     /// It takes no memory.
@@ -37,23 +42,9 @@ impl<H: Handler + Drop> Server<H> {
 }
 
 impl<H: Handler> Server<H> {
-    /// Takes the bytes and answers all that is whole by them.
-    fn take_in(&mut self, bytes: &[u8], out: &mut BytesMut) -> Result<(), ServerFault>
-        ensures { Takes H.step (heard_of H.state self.old) (heard_of H.state self.new) bytes.now out.old.items out.new.items result }
-    {
-        if self.left.extend_from_slice(bytes).is_err() {
-            return Err(ServerFault::OutOfMemory);
-        }
-        match self.session.hear(self.left.as_slice(), out) {
-            Ok(left) => {
-                let cut = self.left.len() - left;
-                self.left.advance(cut);
-                Ok(())
-            }
-            Err(fault) => Err(fault),
-        }
-    }
-
+    ghost use Rattle.std.specs.Prelude.{◌++◌};
+    ghost use Rattle.pg_server.specs.Standings.{front};
+    ghost use Rattle.pg_server.specs.Servers.{heard_of, Feeds, TakesFront};
     /// Takes these bytes of the client, and appends what is said to all frames that are whole by them. The session is over
     /// behind a fault: what was said to the frames before stays in `out`, and each later call is Ended. So is one behind
     /// Terminate. Want of memory comes as a fault too; what stands in `out` then is a front of what is said.
@@ -63,10 +54,40 @@ impl<H: Handler> Server<H> {
         if self.session.is_over() {
             return Err(ServerFault::Ended);
         }
-        match self.take_in(bytes, out) {
-            Ok(()) => Ok(()),
+        if self.left.extend_from_slice(bytes).is_err() {
+            self.session.end();
+            return Err(ServerFault::OutOfMemory);
+        }
+        match self.session.hear(self.left.as_slice(), out) {
+            Ok(left) => {
+                let cut = self.left.len() - left;
+                self.left.advance(cut);
+                Ok(())
+            }
             Err(fault) => {
                 self.session.end();
+                Err(fault)
+            }
+        }
+    }
+
+    /// Takes these bytes up to the end of the first frame that is whole by them. What is said to it, and how many of the bytes
+    /// weren't taken; None where no frame is whole by them. After a fault all is as before; but behind BadEffect it is over.
+    pub(crate) fn take_up(&mut self, bytes: &[u8]) -> Result<Option<(Answer, usize)>, ServerFault>
+        ensures { TakesFront (front H.step (heard_of H.state self.old).standing ((heard_of H.state self.old).left ++ bytes.now)) (heard_of H.state self.old) (heard_of H.state self.new) bytes.now result }
+    {
+        let len = self.left.len();
+        if self.left.extend_from_slice(bytes).is_err() {
+            return Err(ServerFault::OutOfMemory);
+        }
+        match self.session.step(self.left.as_slice()) {
+            Ok(Some(said)) => {
+                self.left.clear();
+                Ok(Some(said))
+            }
+            Ok(None) => Ok(None),
+            Err(fault) => {
+                self.left.truncate(len);
                 Err(fault)
             }
         }

@@ -8,9 +8,9 @@ ghost use Rattle.pg_server.specs.declared.session.Stage.TheVariants as stage;
 ghost use Rattle.pg_server.specs.Frames.{frame_view, frame_or_fault};
 ghost use Rattle.pg_server.specs.Openings.{opening_in_front};
 ghost use Rattle.pg_server.specs.Hearing.{Hears};
-ghost use Rattle.pg_server.specs.Standings.{standing_of, serving_of, unfed, behind_frame, Answers, Asks, Serves, Does, front, opened};
+ghost use Rattle.pg_server.specs.Standings.{standing_of, serving_of, unfed, behind_frame, Answers, Asks, Steps, Does, front, opened, reading};
 
-use crate::answer::{Answer, asks, is_sound, put};
+use crate::answer::{Answer, asks, copied, is_sound, put};
 use crate::fault::ServerFault;
 use crate::frame::{Frame, whole_frame};
 use crate::handler::Handler;
@@ -79,7 +79,8 @@ impl<H: Handler> Session<H> {
         self.stage = Stage::Over;
     }
 
-    /// What a frame of this tag is answered. The handler is asked where the rules say so.
+    /// What a frame of this tag is answered. The handler is asked where the rules say so. It is over where the effect may
+    /// not be given.
     fn answer(&mut self, tag: u8, frame: &Frame) -> Result<Answer, ServerFault>
         ensures { (raw : RawMessage) → raw.tag ≡ tag → frame_or_fault raw ≡ Ok (frame_view frame.now) →
             Answers H.step (standing_of H.state self.old) (standing_of H.state self.new) raw (frame_view frame.now) result }
@@ -98,6 +99,7 @@ impl<H: Handler> Session<H> {
         };
         let tags = tags_of(effect.reply.as_slice());
         if !is_sound(tags, tag, effect.opens) {
+            self.stage = Stage::Over;
             return Err(ServerFault::BadEffect(self.answered));
         }
         self.mode = mode_behind(turn, tags.error, effect.opens);
@@ -132,51 +134,55 @@ impl<H: Handler> Session<H> {
         };
     }
 
-    /// Answers the frame of the first `n` bytes.
-    fn serve<'a>(
-        &mut self,
-        bytes: &'a [u8],
-        n: usize,
-        out: &mut BytesMut,
-    ) -> Result<&'a [u8], ServerFault>
+    /// Answers the frame of the first `n` bytes. How many bytes stand behind it.
+    fn serve(&mut self, bytes: &[u8], n: usize) -> Result<Option<(Answer, usize)>, ServerFault>
         requires { IsWhole bytes.now n }
-        ensures { Serves H.step (standing_of H.state self.old) (standing_of H.state self.new) (message_of_bytes n bytes.now) (drop n bytes.now) out.old.items out.new.items result }
+        ensures { Steps (reading H.step (standing_of H.state self.old) (message_of_bytes n bytes.now) (drop n bytes.now) (frame_or_fault (message_of_bytes n bytes.now))) (standing_of H.state self.old) (standing_of H.state self.new) bytes.now result }
     {
-        let answer = match self.ask(bytes, n) {
-            Ok(answer) => answer,
-            Err(fault) => return Err(fault),
-        };
-        match put(&answer, out) {
-            Ok(()) => {
+        match self.ask(bytes, n) {
+            Ok(answer) => {
                 self.pass(bytes[0]);
-                Ok(&bytes[n..])
+                Ok(Some((answer, bytes.len() - n)))
             }
-            Err(_) => Err(ServerFault::OutOfMemory),
+            Err(fault) => Err(fault),
         }
     }
 
-    /// Answers what stands in front before the startup frame came.
-    fn open<'a>(
-        &mut self,
-        bytes: &'a [u8],
-        out: &mut BytesMut,
-    ) -> Result<Option<&'a [u8]>, ServerFault>
-        ensures { Does (opened (standing_of H.state self.old) (opening_in_front bytes.now)) (standing_of H.state self.old) (standing_of H.state self.new) out.old.items out.new.items result }
+    /// Answers what stands in front before the startup frame came. How many bytes stand behind it.
+    fn open(&mut self, bytes: &[u8]) -> Result<Option<(Answer, usize)>, ServerFault>
+        ensures { Steps (opened (standing_of H.state self.old) (opening_in_front bytes.now)) (standing_of H.state self.old) (standing_of H.state self.new) bytes.now result }
     {
         match in_front(bytes) {
             Opening::Short => Ok(None),
-            Opening::Ssl(rest) => match out.extend_from_slice(b"N") {
-                Ok(()) => Ok(Some(rest)),
+            Opening::Ssl(rest) => match copied(self.alloc, b"N") {
+                Ok(answer) => Ok(Some((answer, rest.len()))),
                 Err(_) => Err(ServerFault::OutOfMemory),
             },
-            Opening::Starts(rest) => match out.extend_from_slice(self.startup.as_slice()) {
-                Ok(()) => {
+            Opening::Starts(rest) => match copied(self.alloc, self.startup.as_slice()) {
+                Ok(answer) => {
                     self.stage = Stage::Serves;
-                    Ok(Some(rest))
+                    Ok(Some((answer, rest.len())))
                 }
                 Err(_) => Err(ServerFault::OutOfMemory),
             },
             Opening::Breaks(fault) => Err(fault),
+        }
+    }
+
+    /// Answers what stands in front. The answer, and how many bytes stand behind what was answered; None: more bytes have
+    /// to come. After a fault it stands as before; but behind BadEffect it is over.
+    pub fn step(&mut self, bytes: &[u8]) -> Result<Option<(Answer, usize)>, ServerFault>
+        ensures { Steps (front H.step (standing_of H.state self.old) bytes.now) (standing_of H.state self.old) (standing_of H.state self.new) bytes.now result }
+    {
+        match self.stage {
+            Stage::Opening => self.open(bytes),
+            Stage::Serves => match front_message(bytes) {
+                Found::Whole(n) => self.serve(bytes, n),
+                Found::Short => Ok(None),
+                Found::Bad => Err(ServerFault::BadFrame(WireFault::BadLength)),
+            },
+            Stage::Over if bytes.is_empty() => Ok(None),
+            Stage::Over => Err(ServerFault::Ended),
         }
     }
 
@@ -189,18 +195,14 @@ impl<H: Handler> Session<H> {
     ) -> Result<Option<&'a [u8]>, ServerFault>
         ensures { Does (front H.step (standing_of H.state self.old) bytes.now) (standing_of H.state self.old) (standing_of H.state self.new) out.old.items out.new.items result }
     {
-        match self.stage {
-            Stage::Opening => self.open(bytes, out),
-            Stage::Serves => match front_message(bytes) {
-                Found::Whole(n) => match self.serve(bytes, n, out) {
-                    Ok(rest) => Ok(Some(rest)),
-                    Err(fault) => Err(fault),
-                },
-                Found::Short => Ok(None),
-                Found::Bad => Err(ServerFault::BadFrame(WireFault::BadLength)),
-            },
-            Stage::Over if bytes.is_empty() => Ok(None),
-            Stage::Over => Err(ServerFault::Ended),
+        let (answer, left) = match self.step(bytes) {
+            Ok(Some(said)) => said,
+            Ok(None) => return Ok(None),
+            Err(fault) => return Err(fault),
+        };
+        match put(&answer, out) {
+            Ok(()) => Ok(Some(&bytes[bytes.len() - left..])),
+            Err(_) => Err(ServerFault::OutOfMemory),
         }
     }
 

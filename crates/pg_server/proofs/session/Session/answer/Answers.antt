@@ -24,6 +24,7 @@ returns-then-not-is_sound g c raw tag read =
           (c.turn_of-turn.ensures ∙ ap (λ (k : Kind). turn c.args.self.now.mode k) (c.kind_of.ensures ∙ ap kind_by_tag (sym tag)))
           (sym c.asks.ensures ∙ c.if-not-asks.false) c.in-Ok.ensures seen.are seen.again
           (ap (λ (t : ℕ). sounds c.tags_of-tags.result t c.in-Ok.effect.opens) tag ∙ sym c.is_sound.ensures ∙ c.if-not-is_sound.true),
+      refl,
     )
 
 pub returns : goal.returns
