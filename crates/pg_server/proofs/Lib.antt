@@ -14,3 +14,4 @@ pub mod ServedLaws
 pub mod EchoLaws
 pub mod TrafficLaws
 pub mod LinkLaws
+pub mod ParsedLaws

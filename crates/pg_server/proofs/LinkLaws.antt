@@ -397,7 +397,7 @@ stopped-TakesIn {S = S} old mid new bytes found fault r offer same takes stops =
     back : took_less mid.crossed (length bytes) ≡ old.crossed
     back = ap (λ (c : Crossed). took_less c (length bytes)) offer ∙ kept_none old.crossed bytes
 
-    refused : (f : ServerFault) → RefusesBy (Some f) (Stops f) → (found ≡ Stops f) × (mid.heard ≡ old.heard) →
+    refused : (f : ServerFault) → RefusesBy {S = S} (Some f) (Stops f) → (found ≡ Stops f) × (mid.heard ≡ old.heard) →
         (r ≡ writes.Failed) × (new ≡ record mid { crossed = failed (took_less mid.crossed (length bytes)); fault = Some f }) → TakesIn old new bytes found r
     refused f by (found_is, heard_is) (r_is, new_is) =
         let all : new ≡ record old { crossed = failed old.crossed; fault = Some f }

@@ -6,6 +6,7 @@ pub mod Frames
 pub mod Handlers
 pub mod Hearing
 pub mod Openings
+pub mod Parsed
 pub mod Readings
 pub mod ServerLinks
 pub mod Servers

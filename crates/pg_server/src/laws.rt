@@ -1,14 +1,17 @@
 //! What a server of these rules says, as laws. Each body does nothing.
 
-ghost use Rattle.std.specs.Prelude.{◌≡◌, ℕ, List, ◌++◌, ◌∷◌, [], Some, None};
+ghost use Rattle.std.specs.Prelude.{◌≡◌, ℕ, List, ◌++◌, ◌∷◌, [], true, false, Some, None};
 ghost use Rattle.std.specs.Str.{byte};
+ghost use Rattle.pg_spec.specs.ClientFrames.{ClientFrame, client_frame_at};
 ghost use Rattle.pg_spec.specs.RawMessages.{messages};
 ghost use Rattle.pg_serving.specs.Serving.{served};
 ghost use Rattle.pg_serving.specs.Sessions.{begun, spoken};
 ghost use Rattle.pg_server.specs.declared.fault.ServerFault.{ServerFault};
+ghost use Rattle.pg_server.specs.Frames.{is_text};
 ghost use Rattle.pg_server.specs.Handlers.{Step, service_of};
 ghost use Rattle.pg_server.specs.Hearing.{before, said_to};
 ghost use Rattle.pg_server.specs.Openings.{Short, Ssl, Starts, opening_in_front};
+ghost use Rattle.pg_server.specs.Parsed.{IsReadAs, is_answer};
 ghost use Rattle.pg_server.specs.Servers.{Heard, fed_with};
 ghost use Rattle.pg_server.specs.Standings.{unfed};
 
@@ -32,4 +35,11 @@ pub fn a_server_says_what_the_rules_say<S>()
         (said_to step (unfed state startup) bytes).said ≡ startup ++ spoken (served (service_of step) (begun state) (messages rest)).reply }
     ensures waits { (step : Step S) (state : S) (startup bytes : List ℕ) → opening_in_front bytes ≡ Short →
         (said_to step (unfed state startup) bytes).said ≡ [] }
+{}
+
+/// A frame that is laid out in front of some bytes, as the writers of frames write them, is what reading them gives, where
+/// its texts are UTF-8. An answer to a request for authentication is read as none.
+pub fn what_is_laid_out_is_read()
+    ensures { (bytes rest : List ℕ) (frame : ClientFrame) → client_frame_at bytes ≡ Some (frame, rest) → is_answer frame ≡ false → is_text frame ≡ true →
+        IsReadAs bytes rest frame }
 {}

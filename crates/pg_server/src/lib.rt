@@ -23,6 +23,8 @@ pub use echo::Echo;
 pub use fault::ServerFault;
 pub use frame::Frame;
 pub use handler::{Effect, Handler};
-pub use laws::{a_server_says_what_the_rules_say, cuttings_of_what_is_fed};
+pub use laws::{
+    a_server_says_what_the_rules_say, cuttings_of_what_is_fed, what_is_laid_out_is_read,
+};
 pub use server::Server;
 pub use server_link::ServerLink;
