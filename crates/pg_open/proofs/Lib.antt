@@ -1,2 +1,4 @@
 pub mod TlsSteps
 pub mod CancelSteps
+pub mod OpenSteps
+pub mod OpenWaits

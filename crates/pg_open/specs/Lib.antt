@@ -1,2 +1,3 @@
 pub mod Choosing
 pub mod Cancelling
+pub mod Opening

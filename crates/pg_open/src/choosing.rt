@@ -5,7 +5,7 @@ ghost use Rattle.futures.specs.Poll.{OnPending};
 ghost use Rattle.pg_startup.specs.SslRequests.{Asked};
 ghost use Rattle.pg_startup.specs.declared.ssl_request.SslRequest.{SslRequest as Request};
 ghost use Rattle.pg_tls.specs.declared.choice.TlsChoice.TheVariants as choices;
-ghost use Rattle.pg_open.specs.Choosing.{IsAsked, IsBegun, IsOpen, StandsAt, TlsAnswers, Waits, WaitsOn, Chose, first_of, known, limit_of};
+ghost use Rattle.pg_open.specs.Choosing.{IsAsked, IsBegun, IsOpen, StandsAt, TlsAnswers, Waits, WaitsOn, Chose, first_of, known, limit_of, quiet_of};
 
 use crate::{ConnectTls, NO_LIMIT, Question, Stage, StreamOf, TlsSettings};
 use futures::task::Poll;
@@ -43,6 +43,7 @@ pub fn connect_tls<L: Link + Drop, T: TlsConnect<L> + Drop>(
 impl<L: Link + Drop, T: TlsConnect<L> + Drop> ConnectTls<L, T> {
     /// Like `connect_tls`, with a limit on the bytes that the link may give.
     pub fn new(link: L, tls: T, settings: TlsSettings) -> ConnectTls<L, T>
+        ensures fresh { result.stage ≡ Stage.Fresh link tls }
         ensures stands { StandsAt (known L.view T.connects T.begins T.Future.polled) result.settings link tls result.asked result.stage }
         ensures open { IsOpen result.stage }
         ensures settings { result.settings ≡ settings }
@@ -212,6 +213,19 @@ impl<L: Link + Drop, T: TlsConnect<L> + Drop> ConnectTls<L, T> {
             Stage::Fresh(link, _) => link.wait(),
             Stage::Asking(question) => question.link.wait(),
             _ => LinkWait::Ready,
+        }
+    }
+
+    /// How often a call of the link wasn't ready. While a handshake has the link, how often before it.
+    pub fn quiet(&self) -> u64
+        requires open { IsOpen self.now.stage }
+        ensures { quiet_of L.view self.now.stage ≡ Some result }
+    {
+        match &self.stage {
+            Stage::Fresh(link, _) => link.quiet(),
+            Stage::Asking(question) => question.link.quiet(),
+            Stage::Shaking(_, quiet) => *quiet,
+            Stage::Over(_) => 0,
         }
     }
 }
