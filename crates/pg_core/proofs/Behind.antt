@@ -1,68 +1,112 @@
 -- One command behind another is a command that the core takes.
-use Rattle.std.proofs.Common.{List, Result}
+use Rattle.std.proofs.Common.{◌≡◌, List, Result, Err}
 use Rattle.pg_faults.specs.declared.error.Error.{Error}
-use Rattle.pg_query.specs.Dialogue.{Dialogue, Answer, Ask, Send, Leave, Read, HangUp, Call, Hear}
+use Rattle.pg_faults.specs.declared.error.Error.TheVariants.{OutOfMemory}
+use Rattle.pg_query.specs.Dialogue.{Dialogue, Answer, Ask, Send, Leave, Read, Put, Finish, Close, HangUp, Call, Hear}
 use Rattle.pg_core.specs.Behind.{behind}
 use Rattle.pg_query.specs.declared.desk_call.Cleanup.{Cleanup}
 use Rattle.pg_core.specs.Runs.{IsTidy, ReadsNothing}
-use Rattle.pg_core.specs.Times.{ReadsNo, IsSane, IsInTime, IsCommand}
+use Rattle.pg_core.specs.Times.{ReadsNo, IsSane, IsInTime, IsCommand, LacksMemory, IsFaithful}
 
 module _ {A T : Type 0} (extra : List Cleanup) (f : Result A Error → Dialogue T) (later : (r : Result A Error) → IsCommand (f r)) where
   nothing-behind : (d : Dialogue A) → ReadsNothing d → ReadsNothing (behind extra d f)
   nothing-behind (Answer r) h = (later r).nothing
   nothing-behind (Ask c p d) h = tt
-  nothing-behind (Send p d) h = nothing-behind d h
+  nothing-behind (Send p refused d) h = (λ e. nothing-behind (refused e) (h.0 e), nothing-behind d h.1)
   nothing-behind (Leave k d) h = nothing-behind d h
   nothing-behind (Read cleanup decides next) h = absurd h
+  nothing-behind (Put cleanup p d) h = absurd h
+  nothing-behind (Finish p d) h = absurd h
+  nothing-behind (Close p d) h = absurd h
   nothing-behind (HangUp d) h = absurd h
-  nothing-behind (Call q next) h = λ r. nothing-behind (next r) (h r)
+  nothing-behind (Call q refused next) h = (λ e. nothing-behind (refused e) (h.0 e), λ r. nothing-behind (next r) (h.1 r))
   nothing-behind (Hear next) h = absurd h
 
   no-behind : (d : Dialogue A) → ReadsNo d → ReadsNo (behind extra d f)
   no-behind (Answer r) h = (later r).reads_no
   no-behind (Ask c p d) h = tt
-  no-behind (Send p d) h = no-behind d h
+  no-behind (Send p refused d) h = (λ e. no-behind (refused e) (h.0 e), no-behind d h.1)
   no-behind (Leave k d) h = no-behind d h
   no-behind (Read cleanup decides next) h = absurd h
+  no-behind (Put cleanup p d) h = absurd h
+  no-behind (Finish p d) h = absurd h
+  no-behind (Close p d) h = absurd h
   no-behind (HangUp d) h = no-behind d h
-  no-behind (Call q next) h = λ r. no-behind (next r) (h r)
+  no-behind (Call q refused next) h = (λ e. no-behind (refused e) (h.0 e), λ r. no-behind (next r) (h.1 r))
   no-behind (Hear next) h = tt
 
   tidy-behind : (d : Dialogue A) → IsTidy d → IsTidy (behind extra d f)
   tidy-behind (Answer r) h = (later r).tidy
   tidy-behind (Ask c p d) h = tidy-behind d h
-  tidy-behind (Send p d) h = tidy-behind d h
+  tidy-behind (Send p refused d) h = (λ e. tidy-behind (refused e) (h.0 e), tidy-behind d h.1)
   tidy-behind (Leave k d) h = tidy-behind d h
   tidy-behind (Read cleanup decides next) h = λ ms e. tidy-behind (next ms) (h ms e)
+  tidy-behind (Put cleanup p d) h = absurd h
+  tidy-behind (Finish p d) h = absurd h
+  tidy-behind (Close p d) h = absurd h
   tidy-behind (HangUp d) h = (nothing-behind d h.0, tidy-behind d h.1)
-  tidy-behind (Call q next) h = λ r. tidy-behind (next r) (h r)
+  tidy-behind (Call q refused next) h = (λ e. tidy-behind (refused e) (h.0 e), λ r. tidy-behind (next r) (h.1 r))
   tidy-behind (Hear next) h = tt
 
   sane-behind : (d : Dialogue A) → IsSane d → IsSane (behind extra d f)
   sane-behind (Answer r) h = (later r).sane
   sane-behind (Ask c p d) h = sane-behind d h
-  sane-behind (Send p d) h = sane-behind d h
+  sane-behind (Send p refused d) h = (λ e. sane-behind (refused e) (h.0 e), sane-behind d h.1)
   sane-behind (Leave k d) h = absurd h
   sane-behind (Read cleanup decides next) h = λ ms e. sane-behind (next ms) (h ms e)
+  sane-behind (Put cleanup p d) h = absurd h
+  sane-behind (Finish p d) h = absurd h
+  sane-behind (Close p d) h = absurd h
   sane-behind (HangUp d) h = (no-behind d h.0, sane-behind d h.1)
-  sane-behind (Call q next) h = λ r. sane-behind (next r) (h r)
+  sane-behind (Call q refused next) h = (λ e. sane-behind (refused e) (h.0 e), λ r. sane-behind (next r) (h.1 r))
   sane-behind (Hear next) h = tt
 
   time-behind : (d : Dialogue A) → IsInTime d → IsInTime (behind extra d f)
   time-behind (Answer r) h = (later r).in_time
   time-behind (Ask c p d) h = time-behind d h
-  time-behind (Send p d) h = time-behind d h
+  time-behind (Send p refused d) h = (λ e. time-behind (refused e) (h.0 e), time-behind d h.1)
   time-behind (Leave k d) h = time-behind d h
   time-behind (Read cleanup decides next) h = (h.0, λ ms e. (λ any. no-behind (next ms) ((h.1 ms e).0 any), time-behind (next ms) (h.1 ms e).1))
+  time-behind (Put cleanup p d) h = absurd h
+  time-behind (Finish p d) h = absurd h
+  time-behind (Close p d) h = absurd h
   time-behind (HangUp d) h = time-behind d h
-  time-behind (Call q next) h = λ r. time-behind (next r) (h r)
+  time-behind (Call q refused next) h = (λ e. time-behind (refused e) (h.0 e), λ r. time-behind (next r) (h.1 r))
   time-behind (Hear next) h = tt
 
-  pub command-behind : (d : Dialogue A) → IsCommand d → IsCommand (behind extra d f)
-  command-behind d h = record {
+  -- where memory lacked the second isn't begun
+  lacks-behind : ((r : Result A Error) → r ≡ Err OutOfMemory → LacksMemory (f r)) → (d : Dialogue A) → LacksMemory d → LacksMemory (behind extra d f)
+  lacks-behind g (Answer r) h = g r h
+  lacks-behind g (Send p refused d) h = (lacks-behind g (refused OutOfMemory) h.0, lacks-behind g d h.1)
+  lacks-behind g (Leave k d) h = lacks-behind g d h
+  lacks-behind g (HangUp d) h = lacks-behind g d h
+  lacks-behind g (Ask c p d) h = absurd h
+  lacks-behind g (Read cleanup decides next) h = absurd h
+  lacks-behind g (Put cleanup p d) h = absurd h
+  lacks-behind g (Finish p d) h = absurd h
+  lacks-behind g (Close p d) h = absurd h
+  lacks-behind g (Call q refused next) h = absurd h
+  lacks-behind g (Hear next) h = absurd h
+
+  faithful-behind : ((r : Result A Error) → r ≡ Err OutOfMemory → LacksMemory (f r)) → (d : Dialogue A) → IsFaithful d → IsFaithful (behind extra d f)
+  faithful-behind g (Answer r) h = (later r).faithful
+  faithful-behind g (Ask c p d) h = faithful-behind g d h
+  faithful-behind g (Send p refused d) h = (lacks-behind g (refused OutOfMemory) h.0, faithful-behind g d h.1)
+  faithful-behind g (Leave k d) h = faithful-behind g d h
+  faithful-behind g (Read cleanup decides next) h = λ ms. faithful-behind g (next ms) (h ms)
+  faithful-behind g (Put cleanup p d) h = absurd h
+  faithful-behind g (Finish p d) h = absurd h
+  faithful-behind g (Close p d) h = absurd h
+  faithful-behind g (HangUp d) h = faithful-behind g d h
+  faithful-behind g (Call q refused next) h = (lacks-behind g (refused OutOfMemory) h.0, λ r. faithful-behind g (next r) (h.1 r))
+  faithful-behind g (Hear next) h = tt
+
+  pub command-behind : ((r : Result A Error) → r ≡ Err OutOfMemory → LacksMemory (f r)) → (d : Dialogue A) → IsCommand d → IsCommand (behind extra d f)
+  command-behind g d h = record {
     tidy = tidy-behind d h.tidy;
     nothing = nothing-behind d h.nothing;
     sane = sane-behind d h.sane;
     reads_no = no-behind d h.reads_no;
     in_time = time-behind d h.in_time;
+    faithful = faithful-behind g d h.faithful;
   }

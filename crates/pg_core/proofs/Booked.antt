@@ -10,12 +10,13 @@ use Rattle.pg_desk.specs.declared.event.Deliver.TheVariants as delivering
 use Rattle.pg_desk.specs.declared.event.Event.{Event}
 use Rattle.pg_desk.specs.declared.event.Event.TheVariants.{Book, Take as TakeEvent, HangUp, NextStatement, NextPortal, NextOut, Deliver as DeliverEvent, CloseRequests, Fail}
 use Rattle.pg_desk.specs.History.{State, after, after_all, Allows, IsLegal, leaves_event, kept}
-use Rattle.pg_query.specs.Dialogue.{Dialogue, Answer, Ask, Send, Leave, Read, HangUp as Hang, Call, Hear, Steps}
+use Rattle.pg_query.specs.Dialogue.{Dialogue, Answer, Ask, Send, Leave, Read, Put, Finish, Close, HangUp as Hang, Call, Hear, Steps}
 use Rattle.pg_query.specs.Lives.{Deed}
 use Rattle.pg_query.specs.declared.desk_call.DeskCall.TheVariants as desk_call
 use Rattle.pg_core.specs.Courses.{Request, Who, stamp_of}
 use Rattle.pg_query.proofs.RequestLaws.{Leads}
-use Rattle.pg_core.specs.Deeds.{booked_by, requests_in}
+use Rattle.pg_core.specs.Deeds.{booked_by, bookings_in, granted, requests_in}
+use Rattle.pg_core.proofs.Granted.{granted-append}
 use Rattle.pg_core.specs.Lists.{events_of, state_behind}
 use Rattle.pg_core.specs.Trails.{AreNumbered, AllUnder, said_booking, BooksSo}
 
@@ -23,18 +24,21 @@ use Rattle.pg_core.specs.Trails.{AreNumbered, AllUnder, said_booking, BooksSo}
 own-stamp : {T : Type 0} (stamp : Stamp) (d : Dialogue T) (id : ℕ) (given : Stamp) (part : List ℕ) (copying : Bool) (new : ℕ) (mid : Dialogue T) (n : ℕ) → Steps stamp d id (Book given part copying (Ok new)) mid n → given ≡ stamp
 own-stamp stamp (Answer r) id given part copying new mid n s = absurd s
 own-stamp stamp (Ask c p d) id given part copying new mid n s = s.0
-own-stamp stamp (Send p d) id given part copying new mid n s = s.0
+own-stamp stamp (Send p refused d) id given part copying new mid n s = s.0
 own-stamp stamp (Leave k d) id given part copying new mid n s = absurd s
 own-stamp stamp (Read cleanup decides next) id given part copying new mid n s = absurd s
+own-stamp stamp (Put cleanup p d) id given part copying new mid n s = absurd s
+own-stamp stamp (Finish p d) id given part copying new mid n s = absurd s
+own-stamp stamp (Close p d) id given part copying new mid n s = absurd s
 own-stamp stamp (Hang d) id given part copying new mid n s = absurd s
-own-stamp stamp (Call desk_call.NextStatement next) id given part copying new mid n s = absurd s.1
-own-stamp stamp (Call desk_call.NextPortal next) id given part copying new mid n s = absurd s.1
+own-stamp stamp (Call desk_call.NextStatement refused next) id given part copying new mid n s = absurd s.1
+own-stamp stamp (Call desk_call.NextPortal refused next) id given part copying new mid n s = absurd s.1
 own-stamp stamp (Hear next) id given part copying new mid n s = absurd s
 
 -- what an event books: one request, the next of the book, or none
 data Booked (s : State) (e : Event) : Type 0 where
   One : (stamp : Stamp) (part : List ℕ) (copying : Bool) (new : ℕ) → e ≡ Book stamp part copying (Ok new) → Booked s e
-  None : booked_by e ≡ [] → (after s e).book ≡ s.book → Booked s e
+  None : granted (booked_by e) ≡ [] → (after s e).book ≡ s.book → Booked s e
 
 booked : (s : State) (e : Event) → Booked s e
 booked s (Book stamp part copying (Ok id)) = One stamp part copying id refl
@@ -65,17 +69,18 @@ booked s (Fail (Ok x)) = None refl refl
 booked s (Fail (Err f)) = None refl refl
 
 -- an event that a stored list leaves out books nothing
-left-out-books : (e : Event) → leaves_event e ≡ false → booked_by e ≡ []
+left-out-books : (e : Event) → leaves_event e ≡ false → granted (booked_by e) ≡ []
 left-out-books (Book stamp part copying (Ok id)) h = absurd cc
+left-out-books (Book stamp part copying (Err f)) h = refl
 left-out-books e h = refl
 
 module _ {T : Type 0} (who : Who) (turn : ℕ) (stamp : Stamp) (same : stamp ≡ stamp_of who turn) (q : Dialogue T) (end : ℕ) where
   -- none in front
-  none-first : (s t : State) (a : Deed) (ds : List Deed) (final : State) → booked_by a.event ≡ [] → t.book ≡ s.book →
+  none-first : (s t : State) (a : Deed) (ds : List Deed) (final : State) → granted (booked_by a.event) ≡ [] → t.book ≡ s.book →
       AreNumbered who turn (length t.book) (requests_in ds) × (map said_booking final.book ≡ map said_booking t.book ++ map (λ r. r.booking) (requests_in ds)) →
       AreNumbered who turn (length s.book) (requests_in (a ∷ ds)) × (map said_booking final.book ≡ map said_booking s.book ++ map (λ r. r.booking) (requests_in (a ∷ ds)))
   none-first s t a ds final none book (numbered, grew) =
-      let rs : requests_in (a ∷ ds) ≡ requests_in ds = ap (λ (l : List Request). l ++ requests_in ds) none in (
+      let rs : requests_in (a ∷ ds) ≡ requests_in ds = granted-append (booked_by a.event) (bookings_in ds) ∙ ap (λ (l : List Request). l ++ requests_in ds) none in (
         subst (λ (l : List Request). AreNumbered who turn (length s.book) l) (sym rs) (subst (λ (b : List Booking). AreNumbered who turn (length b) (requests_in ds)) book numbered),
         grew ∙ ap (λ (b : List Booking). map said_booking b ++ map (λ r. r.booking) (requests_in ds)) book ∙ ap (λ (l : List Request). map said_booking s.book ++ map (λ r. r.booking) l) (sym rs),
       )
@@ -84,8 +89,8 @@ module _ {T : Type 0} (who : Who) (turn : ℕ) (stamp : Stamp) (same : stamp ≡
   one-first : (s : State) (given : Stamp) (part : List ℕ) (copying : Bool) (new : ℕ) (ds : List Deed) (final : State) → given ≡ stamp → new ≡ length s.book →
       AreNumbered who turn (length (after s (Book given part copying (Ok new))).book) (requests_in ds)
       × (map said_booking final.book ≡ map said_booking (after s (Book given part copying (Ok new))).book ++ map (λ r. r.booking) (requests_in ds)) →
-      AreNumbered who turn (length s.book) (booked_by (Book given part copying (Ok new)) ++ requests_in ds)
-      × (map said_booking final.book ≡ map said_booking s.book ++ map (λ r. r.booking) (booked_by (Book given part copying (Ok new)) ++ requests_in ds))
+      AreNumbered who turn (length s.book) (granted (booked_by (Book given part copying (Ok new)) ++ bookings_in ds))
+      × (map said_booking final.book ≡ map said_booking s.book ++ map (λ r. r.booking) (granted (booked_by (Book given part copying (Ok new)) ++ bookings_in ds)))
   one-first s given part copying new ds final is number (numbered, grew) =
       let b : Booking = record { stamp = given; parts = part ∷ [] } in
       let size : length (s.book ++ b ∷ []) ≡ length s.book + 1 = length-append s.book (b ∷ []) in (
@@ -101,10 +106,10 @@ module _ {T : Type 0} (who : Who) (turn : ℕ) (stamp : Stamp) (same : stamp ≡
     where
       one : (e : Event) → Steps a.stamp d id e mid n → Allows s e → (final : State) → Booked s e →
           AreNumbered who turn (length (after s e).book) (requests_in ds) × (map said_booking final.book ≡ map said_booking (after s e).book ++ map (λ r. r.booking) (requests_in ds)) →
-          AreNumbered who turn (length s.book) (booked_by e ++ requests_in ds) × (map said_booking final.book ≡ map said_booking s.book ++ map (λ r. r.booking) (booked_by e ++ requests_in ds))
+          AreNumbered who turn (length s.book) (granted (booked_by e ++ bookings_in ds)) × (map said_booking final.book ≡ map said_booking s.book ++ map (λ r. r.booking) (granted (booked_by e ++ bookings_in ds)))
       one e st allows final (One given part copying new is) h = subst
           (λ (x : Event). Steps a.stamp d id x mid n → Allows s x → AreNumbered who turn (length (after s x).book) (requests_in ds) × (map said_booking final.book ≡ map said_booking (after s x).book ++ map (λ r. r.booking) (requests_in ds)) →
-          AreNumbered who turn (length s.book) (booked_by x ++ requests_in ds) × (map said_booking final.book ≡ map said_booking s.book ++ map (λ r. r.booking) (booked_by x ++ requests_in ds)))
+          AreNumbered who turn (length s.book) (granted (booked_by x ++ bookings_in ds)) × (map said_booking final.book ≡ map said_booking s.book ++ map (λ r. r.booking) (granted (booked_by x ++ bookings_in ds))))
           (sym is)
           (λ st allows h. one-first s given part copying new ds final (own-stamp a.stamp d id given part copying new mid n st ∙ under.0) allows.1 h) st allows h
       one e st allows final (None none book) h = none-first s (after s e) (record { stamp = a.stamp; event = e }) ds final none book h

@@ -16,7 +16,8 @@ use Rattle.pg_query.specs.declared.desk_call.DeskCall.TheVariants as desk_call
 use Rattle.pg_query.specs.declared.desk_call.Reply.{Reply}
 use Rattle.pg_query.specs.declared.desk_call.Reply.TheVariants as reply
 use Rattle.pg_core.specs.Courses.{Asked, Who, stamp_of}
-use Rattle.pg_core.specs.Deeds.{told_by, asked_in}
+use Rattle.pg_core.specs.Deeds.{told_by, answers_in, granted, asked_in}
+use Rattle.pg_core.proofs.Granted.{granted-append}
 use Rattle.pg_core.specs.Lists.{events_of, state_behind}
 use Rattle.pg_core.specs.Trails.{AllUnder, AreToldIn}
 use Rattle.pg_core.specs.Counters.{statements_in, portals_in, number_to, tells, Counts, ToldSo}
@@ -119,8 +120,8 @@ portal-spent before s is h = record {
 
 -- what an event tells: one question, or none
 data Says (stamp : Stamp) (s : State) (e : Event) : Type 0 where
-  One : (q : DeskCall) (r : Reply) → told_by stamp e ≡ record { stamp = stamp; question = q; reply = r } ∷ [] → ((before : List DeskCall) → Counts before s → Draws before (after s e) q r) → Says stamp s e
-  None : told_by stamp e ≡ [] → ((before : List DeskCall) → Counts before s → Counts before (after s e)) → Says stamp s e
+  One : (q : DeskCall) (r : Reply) → granted (told_by stamp e) ≡ record { stamp = stamp; question = q; reply = r } ∷ [] → ((before : List DeskCall) → Counts before s → Draws before (after s e) q r) → Says stamp s e
+  None : granted (told_by stamp e) ≡ [] → ((before : List DeskCall) → Counts before s → Counts before (after s e)) → Says stamp s e
 
 says : (stamp : Stamp) (s : State) (e : Event) → Allows s e → Says stamp s e
 says stamp s (Book given part copying (Ok id)) a = None refl (λ before h. record { statements = h.statements; portals = h.portals })
@@ -154,7 +155,7 @@ says stamp s (CloseRequests (Err f)) a = None refl (λ before h. record { statem
 says stamp s (Fail (Ok x)) a = None refl (λ before h. record { statements = h.statements; portals = h.portals })
 says stamp s (Fail (Err f)) a = None refl (λ before h. record { statements = h.statements; portals = h.portals })
 
-left-out-tells : (stamp : Stamp) (e : Event) → leaves_event e ≡ false → told_by stamp e ≡ []
+left-out-tells : (stamp : Stamp) (e : Event) → leaves_event e ≡ false → granted (told_by stamp e) ≡ []
 left-out-tells stamp (Book given part copying (Ok id)) h = refl
 left-out-tells stamp (Book given part copying (Err f)) h = refl
 left-out-tells stamp (TakeEvent id (Ok (taking.Batch ms))) h = refl
@@ -192,10 +193,10 @@ module _ (who : Who) (turn : ℕ) (stamp : Stamp) (same : stamp ≡ stamp_of who
   told-on [] before s under legal h = (tt, subst (λ (qs : List DeskCall). Counts qs s) (sym (append-nil before)) h)
   told-on (a ∷ ds) before s under legal h = by (leaves_event a.event) refl legal (λ t before' legal' h'. told-on ds before' t under.1 legal' h')
     where
-      quiet : (final : State) → told_by a.stamp a.event ≡ [] → AreToldIn tells who turn before (asked_in ds) × Counts (before ++ map (λ a. a.question) (asked_in ds)) final →
+      quiet : (final : State) → granted (told_by a.stamp a.event) ≡ [] → AreToldIn tells who turn before (asked_in ds) × Counts (before ++ map (λ a. a.question) (asked_in ds)) final →
           AreToldIn tells who turn before (asked_in (a ∷ ds)) × Counts (before ++ map (λ a. a.question) (asked_in (a ∷ ds))) final
       quiet final none r = subst (λ (qs : List (Asked DeskCall Reply)). AreToldIn tells who turn before qs × Counts (before ++ map (λ a. a.question) qs) final)
-          (sym (ap (λ (l : List (Asked DeskCall Reply)). l ++ asked_in ds) none)) r
+          (sym (granted-append (told_by a.stamp a.event) (answers_in ds) ∙ ap (λ (l : List (Asked DeskCall Reply)). l ++ asked_in ds) none)) r
 
       one : (final : State) → Says a.stamp s a.event → ((before' : List DeskCall) → Counts before' (after s a.event) → AreToldIn tells who turn before' (asked_in ds) × Counts (before' ++ map (λ a. a.question) (asked_in ds)) final) →
           AreToldIn tells who turn before (asked_in (a ∷ ds)) × Counts (before ++ map (λ a. a.question) (asked_in (a ∷ ds))) final
@@ -205,7 +206,7 @@ module _ (who : Who) (turn : ℕ) (stamp : Stamp) (same : stamp ≡ stamp_of who
           let x : Asked DeskCall Reply = record { stamp = a.stamp; question = q; reply = reply } in
           let k = r (before ++ q ∷ []) d.counts in
           subst (λ (qs : List (Asked DeskCall Reply)). AreToldIn tells who turn before qs × Counts (before ++ map (λ a. a.question) qs) final)
-          (sym (ap (λ (l : List (Asked DeskCall Reply)). l ++ asked_in ds) is))
+          (sym (granted-append (told_by a.stamp a.event) (answers_in ds) ∙ ap (λ (l : List (Asked DeskCall Reply)). l ++ asked_in ds) is))
           ((under.0 ∙ same, d.tells_so, k.0), subst (λ (qs : List DeskCall). Counts qs final) (append_assoc before (q ∷ []) (map (λ a. a.question) (asked_in ds))) k.1)
 
       by : (b : Bool) → leaves_event a.event ≡ b → IsLegal s (if b then a.event ∷ kept (events_of ds) else kept (events_of ds)) →

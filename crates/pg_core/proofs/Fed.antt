@@ -6,7 +6,7 @@ use Rattle.pg_faults.specs.declared.error.Error.{Error}
 use Rattle.pg_query.specs.declared.desk_call.Cleanup.{Cleanup}
 use Rattle.pg_query.specs.declared.desk_call.DeskCall.{DeskCall}
 use Rattle.pg_query.specs.declared.desk_call.Reply.{Reply}
-use Rattle.pg_query.specs.Dialogue.{Dialogue, Answer, Ask, Send, Leave, Read, HangUp, Call, Hear, feed, feed_one}
+use Rattle.pg_query.specs.Dialogue.{Dialogue, Answer, Ask, Send, Leave, Read, Put, Finish, Close, HangUp, Call, Hear, feed, feed_one}
 use Rattle.pg_core.specs.Dialogues.{decided_after}
 use Rattle.pg_core.specs.Runs.{ReadsNothing}
 
@@ -18,9 +18,9 @@ pub feed-ask : {T : Type 0} (ms : List RawMessage) (copying : Bool) (part : List
 feed-ask [] copying part d = refl
 feed-ask (m ∷ ms) copying part d = feed-ask ms copying part d
 
-pub feed-send : {T : Type 0} (ms : List RawMessage) (part : List ℕ) (d : Dialogue T) → feed ms (Send part d) ≡ Send part (feed ms d)
-feed-send [] part d = refl
-feed-send (m ∷ ms) part d = feed-send ms part (feed_one m d)
+pub feed-send : {T : Type 0} (ms : List RawMessage) (part : List ℕ) (refused : Error → Dialogue T) (d : Dialogue T) → feed ms (Send part refused d) ≡ Send part (λ e. feed ms (refused e)) (feed ms d)
+feed-send [] part refused d = refl
+feed-send (m ∷ ms) part refused d = feed-send ms part (λ e. feed_one m (refused e)) (feed_one m d)
 
 pub feed-leave : {T : Type 0} (ms : List RawMessage) (id : ℕ) (d : Dialogue T) → feed ms (Leave id d) ≡ Leave id (feed ms d)
 feed-leave [] id d = refl
@@ -30,9 +30,9 @@ pub feed-hang-up : {T : Type 0} (ms : List RawMessage) (d : Dialogue T) → feed
 feed-hang-up [] d = refl
 feed-hang-up (m ∷ ms) d = feed-hang-up ms d
 
-pub feed-call : {T : Type 0} (ms : List RawMessage) (q : DeskCall) (next : Reply → Dialogue T) → feed ms (Call q next) ≡ Call q (λ r. feed ms (next r))
-feed-call [] q next = refl
-feed-call (m ∷ ms) q next = feed-call ms q (λ r. feed_one m (next r))
+pub feed-call : {T : Type 0} (ms : List RawMessage) (q : DeskCall) (refused : Error → Dialogue T) (next : Reply → Dialogue T) → feed ms (Call q refused next) ≡ Call q (λ e. feed ms (refused e)) (λ r. feed ms (next r))
+feed-call [] q refused next = refl
+feed-call (m ∷ ms) q refused next = feed-call ms q (λ e. feed_one m (refused e)) (λ r. feed_one m (next r))
 
 pub feed-hear : {T : Type 0} (ms : List RawMessage) (next : Reply → Dialogue T) → feed ms (Hear next) ≡ Hear (λ r. feed ms (next r))
 feed-hear [] next = refl
@@ -110,9 +110,12 @@ front-decides decides (m ∷ ms) k e = by (decides (m ∷ [])) refl (decided_aft
 pub feed-nothing : {T : Type 0} (ms : List RawMessage) (d : Dialogue T) → ReadsNothing d → feed ms d ≡ d
 feed-nothing ms (Answer r) h = feed-answer ms r
 feed-nothing ms (Ask copying part d) h = feed-ask ms copying part d
-feed-nothing ms (Send part d) h = feed-send ms part d ∙ ap (Send part) (feed-nothing ms d h)
+feed-nothing ms (Send part refused d) h = feed-send ms part refused d ∙ (λ i. Send part (λ e. feed-nothing ms (refused e) (h.0 e) i) (feed-nothing ms d h.1 i))
 feed-nothing ms (Leave id d) h = feed-leave ms id d ∙ ap (Leave id) (feed-nothing ms d h)
 feed-nothing ms (Read cleanup decides next) h = absurd h
+feed-nothing ms (Put cleanup part d) h = absurd h
+feed-nothing ms (Finish part d) h = absurd h
+feed-nothing ms (Close part d) h = absurd h
 feed-nothing ms (HangUp d) h = absurd h
-feed-nothing ms (Call q next) h = feed-call ms q next ∙ (λ i. Call q (λ r. feed-nothing ms (next r) (h r) i))
+feed-nothing ms (Call q refused next) h = feed-call ms q refused next ∙ (λ i. Call q (λ e. feed-nothing ms (refused e) (h.0 e) i) (λ r. feed-nothing ms (next r) (h.1 r) i))
 feed-nothing ms (Hear next) h = absurd h

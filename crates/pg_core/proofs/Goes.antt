@@ -1,12 +1,12 @@
 -- One turn of a command: the function of what came is that of the session.
-use Rattle.std.proofs.Common.{◌≡◌, inl, inr, ℕ, zero, suc, ◌+◌, ◌-◌, ◌≤◌, nat_le, List, [], ◌∷◌, ◌++◌, length, take, drop, Bool, true, false, if◌then◌else◌, Option, Some, None, Result, refl, sym, ap, subst, ◌∙◌, arith}
+use Rattle.std.proofs.Common.{◌≡◌, inl, inr, ℕ, zero, suc, ◌+◌, ◌-◌, ◌≤◌, nat_le, List, [], ◌∷◌, ◌++◌, length, take, drop, Bool, true, false, if◌then◌else◌, Option, Some, None, Result, Ok, Err, refl, sym, ap, subst, ◌∙◌, arith}
 use Rattle.std.proofs.lemmas.Bool.Decides.{nat_tests}
 use Rattle.std.proofs.lemmas.List.{take-append-drop, drop-take, length-drop}
 use Rattle.std.proofs.Math.Seq.{drop-nil}
 use Rattle.pg_spec.specs.declared.stamps.Stamp.{Stamp}
 use Rattle.pg_spec.specs.RawMessages.{RawMessage}
 use Rattle.pg_faults.specs.declared.error.Error.{Error}
-use Rattle.pg_query.specs.Dialogue.{Dialogue, Answer, Ask, Send, Leave, Read, HangUp, Call, Hear}
+use Rattle.pg_query.specs.Dialogue.{Dialogue, Answer, Ask, Send, Leave, Read, Put, Finish, Close, HangUp, Call, Hear}
 use Rattle.pg_query.specs.declared.desk_call.Cleanup.{Cleanup}
 use Rattle.pg_query.specs.declared.desk_call.DeskCall.{DeskCall}
 use Rattle.pg_query.specs.declared.desk_call.Reply.{Reply}
@@ -15,6 +15,7 @@ use Rattle.pg_core.specs.Dialogues.{decided_after}
 use Rattle.pg_core.specs.Courses.{Asked, Course, Request, Point, unread, reply_to, delivered_to, Who, stamp_of}
 use Rattle.pg_core.proofs.Walk.{Step, goes, stands, is_delivered}
 use Rattle.pg_core.specs.Runs.{Ran, of_request, stays, run, of_question}
+use Rattle.pg_core.specs.Deeds.{granted, AreGranted}
 use Rattle.pg_core.specs.Outcomes.{asked}
 use Rattle.pg_core.specs.Trails.{point_of, CameBy, AreNumbered, AreToldIn, IsSettled}
 use Rattle.pg_core.proofs.Fed.{still-decides, front-decides}
@@ -85,10 +86,10 @@ abbrev asks_plain : {T : Type 0} → Asked DeskCall Reply → Plain T → Plain 
 asks_plain a s = record s { asked = a ∷ s.asked }
 
 module _ {T : Type 0} (tells : List DeskCall → DeskCall → Reply) (course : Course DeskCall Reply) (who : Who) (turn : ℕ) (came : ℕ → List RawMessage) (is_came : CameBy course turn came) (room : ℕ) where
-  abbrev Goes-so : ℕ → List DeskCall → Option ℕ → ℕ → Dialogue T → List Request → List (Asked DeskCall Reply) → Type 0
+  abbrev Goes-so : ℕ → List DeskCall → Option ℕ → ℕ → Dialogue T → List (Result Request Error) → List (Result (Asked DeskCall Reply) Error) → Type 0
   Goes-so number before at n d rs qs = plain (goes tells course who number before (Here turn at n) (asked d) room) ≡ step_of turn (run came at n d rs qs)
 
-  abbrev chosen : Option ℕ → ℕ → List Cleanup → (List RawMessage → Bool) → (List RawMessage → Dialogue T) → List Request → List (Asked DeskCall Reply) → Option ℕ → Ran T
+  abbrev chosen : Option ℕ → ℕ → List Cleanup → (List RawMessage → Bool) → (List RawMessage → Dialogue T) → List (Result Request Error) → List (Result (Asked DeskCall Reply) Error) → Option ℕ → Ran T
   chosen at n cleanup decides next rs qs o = elim o [ None ↦ stays at n (Read cleanup decides next) | Some k ↦ run came at (n + k) (next (take k (drop n (of_request came at)))) rs qs ]
 
   abbrev said_so : ℕ → List DeskCall → Option ℕ → ℕ → (List RawMessage → Bool) → (List RawMessage → Dialogue T) → Option ℕ → Step DeskCall Reply (Result T Error)
@@ -100,10 +101,10 @@ module _ {T : Type 0} (tells : List DeskCall → DeskCall → Reply) (course : C
   ]
 
   -- a reading of a request
-  reads-so : (number : ℕ) (before : List DeskCall) (k n : ℕ) (cleanup : List Cleanup) (decides : List RawMessage → Bool) (next : List RawMessage → Dialogue T) (rs : List Request) (qs : List (Asked DeskCall Reply)) →
+  reads-so : (number : ℕ) (before : List DeskCall) (k n : ℕ) (cleanup : List Cleanup) (decides : List RawMessage → Bool) (next : List RawMessage → Dialogue T) (rs : List (Result Request Error)) (qs : List (Result (Asked DeskCall Reply) Error)) →
       n ≤ length (came k) →
-      ((ms : List RawMessage) (m : ℕ) → m ≤ length (came k) → (run came (Some k) m (next ms) rs qs).asked ≡ qs → IsSettled (run came (Some k) m (next ms) rs qs).left → Goes-so number before (Some k) m (next ms) rs qs) →
-      (run came (Some k) n (Read cleanup decides next) rs qs).asked ≡ qs → IsSettled (run came (Some k) n (Read cleanup decides next) rs qs).left →
+      ((ms : List RawMessage) (m : ℕ) → m ≤ length (came k) → (run came (Some k) m (next ms) rs qs).asked ≡ granted qs → IsSettled (run came (Some k) m (next ms) rs qs).left → Goes-so number before (Some k) m (next ms) rs qs) →
+      (run came (Some k) n (Read cleanup decides next) rs qs).asked ≡ granted qs → IsSettled (run came (Some k) n (Read cleanup decides next) rs qs).left →
       Goes-so number before (Some k) n (Read cleanup decides next) rs qs
   reads-so number before k n cleanup decides next rs qs within ih same settled = by (decided_after decides (drop n (came k))) refl same settled
     where
@@ -123,7 +124,7 @@ module _ {T : Type 0} (tells : List DeskCall → DeskCall → Reply) (course : C
       f : Fronts decides (drop n xs) (m - n)
       f = fronts decides (drop n xs) (m - n)
 
-      by : (o : Option ℕ) → decided_after decides (drop n (came k)) ≡ o → (chosen (Some k) n cleanup decides next rs qs o).asked ≡ qs → IsSettled (chosen (Some k) n cleanup decides next rs qs o).left →
+      by : (o : Option ℕ) → decided_after decides (drop n (came k)) ≡ o → (chosen (Some k) n cleanup decides next rs qs o).asked ≡ granted qs → IsSettled (chosen (Some k) n cleanup decides next rs qs o).left →
           plain (said_so number before (Some k) n decides next (decided_after decides (drop n xs))) ≡ step_of turn (chosen (Some k) n cleanup decides next rs qs (decided_after decides (drop n (came k))))
       by (Some j) e same settled =
           let h = f.front j (ap (decided_after decides) (sym cut) ∙ e) in
@@ -154,42 +155,51 @@ module _ {T : Type 0} (tells : List DeskCall → DeskCall → Reply) (course : C
           whole None d = refl
           whole (Some j) d = late j (nat_le (n + j) m) d refl
 
-  pub goes-so : (number : ℕ) (before : List DeskCall) (at : Option ℕ) (n : ℕ) (d : Dialogue T) (rs : List Request) (qs : List (Asked DeskCall Reply)) → n ≤ length (of_request came at) →
-      AreNumbered who turn number rs → AreToldIn tells who turn before qs → (run came at n d rs qs).asked ≡ qs → IsSettled (run came at n d rs qs).left → Goes-so number before at n d rs qs
-  goes-so number before at n (Answer r) rs qs within numbered told same settled = refl
-  goes-so number before at n (Ask copying part d) [] qs within numbered told same (inl h) = absurd h
-  goes-so number before at n (Ask copying part d) [] qs within numbered told same (inr (r, e)) = absurd cc
-  goes-so number before at n (Ask copying part d) (r ∷ rs) qs within (is, stamp, numbered) told same settled =
-      let h = goes-so (number + 1) before (Some number) 0 d rs qs (omega arith) numbered told
-      (subst (λ (x : ℕ). (run came (Some x) 0 d rs qs).asked ≡ qs) is same) (subst (λ (x : ℕ). IsSettled (run came (Some x) 0 d rs qs).left) is settled) in
+  pub goes-so : (number : ℕ) (before : List DeskCall) (at : Option ℕ) (n : ℕ) (d : Dialogue T) (rs : List (Result Request Error)) (qs : List (Result (Asked DeskCall Reply) Error)) → n ≤ length (of_request came at) →
+      AreGranted rs → AreGranted qs → AreNumbered who turn number (granted rs) → AreToldIn tells who turn before (granted qs) → (run came at n d rs qs).asked ≡ granted qs → IsSettled (run came at n d rs qs).left → Goes-so number before at n d rs qs
+  goes-so number before at n (Answer r) rs qs within gr gq numbered told same settled = refl
+  goes-so number before at n (Ask copying part d) [] qs within gr gq numbered told same (inl h) = absurd h
+  goes-so number before at n (Ask copying part d) [] qs within gr gq numbered told same (inr (r, e)) = absurd cc
+  goes-so number before at n (Ask copying part d) (Ok r ∷ rs) qs within gr gq (is, stamp, numbered) told same settled =
+      let h = goes-so (number + 1) before (Some number) 0 d rs qs (omega arith) gr gq numbered told
+      (subst (λ (x : ℕ). (run came (Some x) 0 d rs qs).asked ≡ granted qs) is same) (subst (λ (x : ℕ). IsSettled (run came (Some x) 0 d rs qs).left) is settled) in
       ap (books_plain number (stamp_of who turn) part) h
       ∙ ap (λ (x : ℕ). books_plain x (stamp_of who turn) part (step_of turn (run came (Some x) 0 d rs qs))) (sym is)
       ∙ ap (λ (x : Stamp). books_plain r.number x part (step_of turn (run came (Some r.number) 0 d rs qs))) (sym stamp)
-  goes-so number before at n (Send part d) [] qs within numbered told same (inl h) = absurd h
-  goes-so number before at n (Send part d) [] qs within numbered told same (inr (r, e)) = absurd cc
-  goes-so number before at n (Send part d) (r ∷ rs) qs within (is, stamp, numbered) told same settled =
-      let h = goes-so (number + 1) before at n d rs qs within numbered told same settled in
+  goes-so number before at n (Ask copying part d) (Err e ∷ rs) qs within gr gq numbered told same settled = absurd gr
+  goes-so number before at n (Send part refused d) [] qs within gr gq numbered told same (inl h) = absurd h
+  goes-so number before at n (Send part refused d) [] qs within gr gq numbered told same (inr (r, e)) = absurd cc
+  goes-so number before at n (Send part refused d) (Ok r ∷ rs) qs within gr gq (is, stamp, numbered) told same settled =
+      let h = goes-so (number + 1) before at n d rs qs within gr gq numbered told same settled in
       ap (sends_plain number (stamp_of who turn) part) h
       ∙ ap (λ (x : ℕ). sends_plain x (stamp_of who turn) part (step_of turn (run came at n d rs qs))) (sym is)
       ∙ ap (λ (x : Stamp). sends_plain r.number x part (step_of turn (run came at n d rs qs))) (sym stamp)
-  goes-so number before at n (Leave id d) rs qs within numbered told same settled = goes-so number before at n d rs qs within numbered told same settled
-  goes-so number before None n (Read cleanup decides next) rs qs within numbered told same settled =
+  goes-so number before at n (Send part refused d) (Err e ∷ rs) qs within gr gq numbered told same settled = absurd gr
+  goes-so number before at n (Leave id d) rs qs within gr gq numbered told same settled = goes-so number before at n d rs qs within gr gq numbered told same settled
+  goes-so number before None n (Read cleanup decides next) rs qs within gr gq numbered told same settled =
       let none : decided_after decides (drop n []) ≡ None = ap (decided_after decides) (drop-nil n) in
       ap (λ (o : Option ℕ). plain (said_so number before None n decides next o)) none ∙ ap (λ (o : Option ℕ). step_of turn (chosen None n cleanup decides next rs qs o)) (sym none)
-  goes-so number before (Some k) n (Read cleanup decides next) rs qs within numbered told same settled =
-      reads-so number before k n cleanup decides next rs qs within (λ ms m le same settled. goes-so number before (Some k) m (next ms) rs qs le numbered told same settled) same settled
-  goes-so number before at n (HangUp d) rs qs within numbered told same settled = goes-so number before at n d rs qs within numbered told same settled
-  goes-so number before at n (Call q next) rs [] within numbered told same (inl h) = absurd h
-  goes-so number before at n (Call q next) rs [] within numbered told same (inr (r, e)) = absurd cc
-  goes-so number before at n (Call q next) rs (a ∷ qs) within numbered (stamp, reply, told) same settled =
+  goes-so number before (Some k) n (Read cleanup decides next) rs qs within gr gq numbered told same settled =
+      reads-so number before k n cleanup decides next rs qs within (λ ms m le same settled. goes-so number before (Some k) m (next ms) rs qs le gr gq numbered told same settled) same settled
+  goes-so number before at n (Put cleanup part d) rs qs within gr gq numbered told same (inl h) = absurd h
+  goes-so number before at n (Put cleanup part d) rs qs within gr gq numbered told same (inr (r, e)) = absurd cc
+  goes-so number before at n (Finish part d) rs qs within gr gq numbered told same (inl h) = absurd h
+  goes-so number before at n (Finish part d) rs qs within gr gq numbered told same (inr (r, e)) = absurd cc
+  goes-so number before at n (Close part d) rs qs within gr gq numbered told same (inl h) = absurd h
+  goes-so number before at n (Close part d) rs qs within gr gq numbered told same (inr (r, e)) = absurd cc
+  goes-so number before at n (HangUp d) rs qs within gr gq numbered told same settled = goes-so number before at n d rs qs within gr gq numbered told same settled
+  goes-so number before at n (Call q refused next) rs [] within gr gq numbered told same (inl h) = absurd h
+  goes-so number before at n (Call q refused next) rs [] within gr gq numbered told same (inr (r, e)) = absurd cc
+  goes-so number before at n (Call q refused next) rs (Ok a ∷ qs) within gr gq numbered (stamp, reply, told) same settled =
       let one : of_question a q ≡ a = cc in
-      let rest : (run came at n (next a.reply) rs qs).asked ≡ qs = cc in
+      let rest : (run came at n (next a.reply) rs qs).asked ≡ granted qs = cc in
       let is : a.question ≡ q = ap (λ (x : Asked DeskCall Reply). x.question) (sym one) in
       let reply_is : a.reply ≡ tells before q = reply ∙ ap (tells before) is in
-      let h = goes-so number (before ++ a.question ∷ []) at n (next a.reply) rs qs within numbered told rest settled in
+      let h = goes-so number (before ++ a.question ∷ []) at n (next a.reply) rs qs within gr gq numbered told rest settled in
       ap (λ (x : Reply). asks_plain (record { stamp = stamp_of who turn; question = q; reply = x }) (plain (goes tells course who number (before ++ q ∷ []) (Here turn at n) (asked (next x)) room))) (sym reply_is)
       ∙ ap (λ (x : DeskCall). asks_plain (record { stamp = stamp_of who turn; question = q; reply = a.reply }) (plain (goes tells course who number (before ++ x ∷ []) (Here turn at n) (asked (next a.reply)) room))) (sym is)
       ∙ ap (asks_plain (record { stamp = stamp_of who turn; question = q; reply = a.reply })) h
       ∙ ap (λ (x : Stamp). asks_plain (record { stamp = x; question = q; reply = a.reply }) (step_of turn (run came at n (next a.reply) rs qs))) (sym stamp)
-  goes-so number before at n (Hear next) rs qs within numbered told same (inl h) = absurd h
-  goes-so number before at n (Hear next) rs qs within numbered told same (inr (r, e)) = absurd cc
+  goes-so number before at n (Call q refused next) rs (Err e ∷ qs) within gr gq numbered told same settled = absurd gq
+  goes-so number before at n (Hear next) rs qs within gr gq numbered told same (inl h) = absurd h
+  goes-so number before at n (Hear next) rs qs within gr gq numbered told same (inr (r, e)) = absurd cc

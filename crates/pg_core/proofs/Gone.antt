@@ -11,6 +11,8 @@ use Rattle.pg_desk.specs.declared.event.Deliver.TheVariants as delivering
 use Rattle.pg_desk.specs.declared.event.Event.{Event}
 use Rattle.pg_desk.specs.declared.event.Event.TheVariants.{Book, Take as TakeEvent, HangUp, NextStatement, NextPortal, NextOut, Deliver as DeliverEvent, CloseRequests, Fail}
 use Rattle.pg_desk.specs.History.{State, Change, Booked, LetGo, change_of, changed, start, has_ended, is_in, is_hung_up, may_let_go, waiting, after, after_all, take_answer, take_of_waiting, Allows, IsLegal}
+use Rattle.pg_faults.specs.declared.error.Error.{Error}
+use Rattle.pg_query.specs.Faults.{of_fault}
 use Rattle.pg_query.specs.Dialogue as code
 use Rattle.pg_query.specs.Dialogue.{Dialogue, Answer, feed, feed_one, after_reply, Told, Steps}
 use Rattle.pg_query.specs.Lives.{Deed}
@@ -41,11 +43,14 @@ NoneGone (a ∷ ds) = IsNotGone a.event × NoneGone ds
 reads-no-one : {T : Type 0} (m : RawMessage) (d : Dialogue T) → ReadsNo d → ReadsNo (feed_one m d)
 reads-no-one m (code.Answer r) h = tt
 reads-no-one m (code.Ask c p d) h = tt
-reads-no-one m (code.Send p d) h = reads-no-one m d h
+reads-no-one m (code.Send p refused d) h = (λ e. reads-no-one m (refused e) (h.0 e), reads-no-one m d h.1)
 reads-no-one m (code.Leave k d) h = reads-no-one m d h
 reads-no-one m (code.Read cleanup decides next) h = absurd h
+reads-no-one m (code.Put cleanup p d) h = absurd h
+reads-no-one m (code.Finish p d) h = absurd h
+reads-no-one m (code.Close p d) h = absurd h
 reads-no-one m (code.HangUp d) h = h
-reads-no-one m (code.Call q next) h = λ r. reads-no-one m (next r) (h r)
+reads-no-one m (code.Call q refused next) h = (λ e. reads-no-one m (refused e) (h.0 e), λ r. reads-no-one m (next r) (h.1 r))
 reads-no-one m (code.Hear next) h = tt
 
 behind-one : (decides : List RawMessage → Bool) (m : RawMessage) (ms : List RawMessage) → decides (m ∷ []) ≡ false →
@@ -58,15 +63,18 @@ behind-one decides m ms e decided =
 sane-one : {T : Type 0} (m : RawMessage) (d : Dialogue T) → IsSane d → IsSane (feed_one m d)
 sane-one m (code.Answer r) h = tt
 sane-one m (code.Ask c p d) h = h
-sane-one m (code.Send p d) h = sane-one m d h
+sane-one m (code.Send p refused d) h = (λ e. sane-one m (refused e) (h.0 e), sane-one m d h.1)
 sane-one m (code.Leave k d) h = absurd h
 sane-one {T} m (code.Read cleanup decides next) h = by (decides (m ∷ [])) refl
   where
     by : (b : Bool) → decides (m ∷ []) ≡ b → IsSane (if b then next (m ∷ []) else code.Read cleanup (λ ms. decides (m ∷ ms)) (λ ms. next (m ∷ ms)))
     by true e = h (m ∷ []) (ap (λ (b : Bool). if b then Some 1 else option_map (λ n. n + 1) (decided_after (λ l. decides (m ∷ l)) [])) e)
     by false e = λ ms decided. h (m ∷ ms) (behind-one decides m ms e decided)
+sane-one m (code.Put cleanup p d) h = absurd h
+sane-one m (code.Finish p d) h = absurd h
+sane-one m (code.Close p d) h = absurd h
 sane-one m (code.HangUp d) h = h
-sane-one m (code.Call q next) h = λ r. sane-one m (next r) (h r)
+sane-one m (code.Call q refused next) h = (λ e. sane-one m (refused e) (h.0 e), λ r. sane-one m (next r) (h.1 r))
 sane-one m (code.Hear next) h = tt
 
 pub sane-fed : {T : Type 0} (ms : List RawMessage) (d : Dialogue T) → IsSane d → IsSane (feed ms d)
@@ -78,21 +86,27 @@ sane-fed (m ∷ ms) d h = sane-fed ms (feed_one m d) (sane-one m d h)
 pub fits-there : {T : Type 0} (s : State) (d : Dialogue T) (id : ℕ) → IsSane d → IsThere s id → Fits s d id
 fits-there s (code.Answer r) id sane there = tt
 fits-there s (code.Ask c p d) id sane there = sane
-fits-there s (code.Send p d) id sane there = (sane, inr there)
+fits-there s (code.Send p refused d) id sane there = (sane, inr there)
 fits-there s (code.Leave k d) id sane there = absurd sane
 fits-there s (code.Read cleanup decides next) id sane there = (sane, there)
+fits-there s (code.Put cleanup p d) id sane there = absurd sane
+fits-there s (code.Finish p d) id sane there = absurd sane
+fits-there s (code.Close p d) id sane there = absurd sane
 fits-there s (code.HangUp d) id sane there = sane
-fits-there s (code.Call q next) id sane there = (sane, inr there)
+fits-there s (code.Call q refused next) id sane there = (sane, inr there)
 fits-there s (code.Hear next) id sane there = tt
 
 pub fits-none : {T : Type 0} (s : State) (d : Dialogue T) (id : ℕ) → IsSane d → ReadsNo d → Fits s d id
 fits-none s (code.Answer r) id sane none = tt
 fits-none s (code.Ask c p d) id sane none = sane
-fits-none s (code.Send p d) id sane none = (sane, inl none)
+fits-none s (code.Send p refused d) id sane none = (sane, inl none)
 fits-none s (code.Leave k d) id sane none = absurd sane
 fits-none s (code.Read cleanup decides next) id sane none = absurd none
+fits-none s (code.Put cleanup p d) id sane none = absurd sane
+fits-none s (code.Finish p d) id sane none = absurd sane
+fits-none s (code.Close p d) id sane none = absurd sane
 fits-none s (code.HangUp d) id sane none = sane
-fits-none s (code.Call q next) id sane none = (sane, inl none)
+fits-none s (code.Call q refused next) id sane none = (sane, inl none)
 fits-none s (code.Hear next) id sane none = tt
 
 -- ---- requests that were hung up
@@ -187,10 +201,14 @@ asks s desk_call.NextPortal (NextPortal (Ok n)) r h = Quiet (λ id there. record
 asks s desk_call.NextPortal (NextPortal (Err f)) r h = Quiet (λ id there. there) refl tt
 asks s q e r h = absurd h
 
-call-kept : {T : Type 0} (s : State) (q : DeskCall) (next : Reply → Dialogue T) (id : ℕ) (e : Event) (r : Result Reply DeskFault) (d' : Dialogue T) (id' : ℕ) → Fits s (code.Call q next) id → s.failed ≡ false → Asks s e → d' ≡ after_reply r next → id' ≡ id → Kept s e d' id'
-call-kept s q next id e (Ok r) d' id' (sane, inl none) whole (Quiet there failed not) is same = kept-as s e (next r) d' id id' is same (fits-none (after s e) (next r) id (sane r) (none r)) (failed ∙ whole) not
-call-kept s q next id e (Ok r) d' id' (sane, inr here) whole (Quiet there failed not) is same = kept-as s e (next r) d' id id' is same (fits-there (after s e) (next r) id (sane r) (there id here)) (failed ∙ whole) not
-call-kept s q next id e (Err f) d' id' fits whole (Quiet there failed not) is same = kept-as s e (Answer _) d' id id' is same tt (failed ∙ whole) not
+call-kept : {T : Type 0} (s : State) (q : DeskCall) (refused : Error → Dialogue T) (next : Reply → Dialogue T) (id : ℕ) (e : Event) (r : Result Reply DeskFault) (d' : Dialogue T) (id' : ℕ) → Fits s (code.Call q refused next) id → s.failed ≡ false → Asks s e →
+    d' ≡ after_reply r refused next → id' ≡ id → Kept s e d' id'
+call-kept s q refused next id e (Ok r) d' id' (sane, inl none) whole (Quiet there failed not) is same = kept-as s e (next r) d' id id' is same (fits-none (after s e) (next r) id (sane.1 r) (none.1 r)) (failed ∙ whole) not
+call-kept s q refused next id e (Ok r) d' id' (sane, inr here) whole (Quiet there failed not) is same = kept-as s e (next r) d' id id' is same (fits-there (after s e) (next r) id (sane.1 r) (there id here)) (failed ∙ whole) not
+call-kept s q refused next id e (Err f) d' id' (sane, inl none) whole (Quiet there failed not) is same =
+    kept-as s e (refused (of_fault f)) d' id id' is same (fits-none (after s e) (refused (of_fault f)) id (sane.0 (of_fault f)) (none.0 (of_fault f))) (failed ∙ whole) not
+call-kept s q refused next id e (Err f) d' id' (sane, inr here) whole (Quiet there failed not) is same =
+    kept-as s e (refused (of_fault f)) d' id id' is same (fits-there (after s e) (refused (of_fault f)) id (sane.0 (of_fault f)) (there id here)) (failed ∙ whole) not
 
 kept : {T : Type 0} (s : State) (stamp : Stamp) (d : Dialogue T) (id : ℕ) (e : Event) (d' : Dialogue T) (id' : ℕ) → Fits s d id → NoneHungAhead s → s.failed ≡ false → Allows s e → Steps stamp d id e d' id' → Kept s e d' id'
 kept s stamp (code.Answer r) id e d' id' fits hung whole a st = absurd st
@@ -198,13 +216,16 @@ kept s stamp (code.Ask c p d) id (Book given part copying (Ok new)) d' id' fits 
     kept-as s (Book given part copying (Ok new)) d d' new id' st.3 st.4 (fits-there _ d new fits (there-new s given part copying new a.1 hung)) whole tt
 kept s stamp (code.Ask c p d) id (Book given part copying (Err f)) d' id' fits hung whole a st = kept-as s (Book given part copying (Err f)) (Answer _) d' id id' st.3 st.4 tt whole tt
 kept s stamp (code.Ask c p d) id e d' id' fits hung whole a st = absurd st
-kept s stamp (code.Send p d) id (Book given part copying (Ok new)) d' id' (sane, inl none) hung whole a st =
-    kept-as s (Book given part copying (Ok new)) (code.Leave new d) d' id id' st.3 st.4 (sane, inl none) whole tt
-kept s stamp (code.Send p d) id (Book given part copying (Ok new)) d' id' (sane, inr there) hung whole a st =
+kept s stamp (code.Send p refused d) id (Book given part copying (Ok new)) d' id' (sane, inl none) hung whole a st =
+    kept-as s (Book given part copying (Ok new)) (code.Leave new d) d' id id' st.3 st.4 (sane.1, inl none.1) whole tt
+kept s stamp (code.Send p refused d) id (Book given part copying (Ok new)) d' id' (sane, inr there) hung whole a st =
     kept-as s (Book given part copying (Ok new)) (code.Leave new d) d' id id' st.3 st.4
-    (sane, inr (there-booked s given part copying new id there, λ same. (let is : new ≡ id = same in let number : new ≡ length s.book = a.1 in let lt = there.booked in omega (arith, is, number, lt)))) whole tt
-kept s stamp (code.Send p d) id (Book given part copying (Err f)) d' id' fits hung whole a st = kept-as s (Book given part copying (Err f)) (Answer _) d' id id' st.3 st.4 tt whole tt
-kept s stamp (code.Send p d) id e d' id' fits hung whole a st = absurd st
+    (sane.1, inr (there-booked s given part copying new id there, λ same. (let is : new ≡ id = same in let number : new ≡ length s.book = a.1 in let lt = there.booked in omega (arith, is, number, lt)))) whole tt
+kept s stamp (code.Send p refused d) id (Book given part copying (Err f)) d' id' (sane, inl none) hung whole a st =
+    kept-as s (Book given part copying (Err f)) (refused (of_fault f)) d' id id' st.3 st.4 (fits-none _ (refused (of_fault f)) id (sane.0 (of_fault f)) (none.0 (of_fault f))) whole tt
+kept s stamp (code.Send p refused d) id (Book given part copying (Err f)) d' id' (sane, inr there) hung whole a st =
+    kept-as s (Book given part copying (Err f)) (refused (of_fault f)) d' id id' st.3 st.4 (fits-there _ (refused (of_fault f)) id (sane.0 (of_fault f)) there) whole tt
+kept s stamp (code.Send p refused d) id e d' id' fits hung whole a st = absurd st
 kept s stamp (code.Leave sent d) id (HangUp which (Ok x)) d' id' (sane, inl none) hung whole a st = kept-as s (HangUp which (Ok x)) d d' id id' st.1 st.2 (fits-none _ d id sane none) whole tt
 kept s stamp (code.Leave sent d) id (HangUp which (Ok x)) d' id' (sane, inr (there, apart)) hung whole a st =
     kept-as s (HangUp which (Ok x)) d d' id id' st.1 st.2 (fits-there _ d id sane (there-hung s which id (λ same. apart (sym st.0 ∙ same)) there)) whole tt
@@ -218,10 +239,13 @@ kept s stamp (code.Read cleanup decides next) id (TakeEvent which (Ok taking.Ove
 kept s stamp (code.Read cleanup decides next) id (TakeEvent which (Ok taking.Gone)) d' id' (sane, there) hung whole a st = absurd (never-gone s id (a ∙ ap (take_answer s) st.0) there whole)
 kept s stamp (code.Read cleanup decides next) id (TakeEvent which (Err f)) d' id' fits hung whole a st = kept-as s (TakeEvent which (Err f)) (Answer _) d' id id' st.1 st.2 tt whole tt
 kept s stamp (code.Read cleanup decides next) id e d' id' fits hung whole a st = absurd st
+kept s stamp (code.Put cleanup p d) id e d' id' fits hung whole a st = absurd fits
+kept s stamp (code.Finish p d) id e d' id' fits hung whole a st = absurd fits
+kept s stamp (code.Close p d) id e d' id' fits hung whole a st = absurd fits
 kept s stamp (code.HangUp d) id (HangUp which (Ok x)) d' id' (none, sane) hung whole a st = kept-as s (HangUp which (Ok x)) d d' id id' st.1 st.2 (fits-none _ d id sane none) whole tt
 kept s stamp (code.HangUp d) id (HangUp which (Err f)) d' id' fits hung whole a st = kept-as s (HangUp which (Err f)) (Answer _) d' id id' st.1 st.2 tt whole tt
 kept s stamp (code.HangUp d) id e d' id' fits hung whole a st = absurd st
-kept s stamp (code.Call q next) id e d' id' fits hung whole a (r, told, is, same) = call-kept s q next id e r d' id' fits whole (asks s q e r told) is same
+kept s stamp (code.Call q refused next) id e d' id' fits hung whole a (r, told, is, same) = call-kept s q refused next id e r d' id' fits whole (asks s q e r told) is same
 kept s stamp (code.Hear next) id e d' id' fits hung whole a st = absurd st
 
 -- ---- a walk
@@ -281,10 +305,13 @@ fits-on s (code.Leave sent d) id L none (sane, inl h) = (sane, inl h)
 fits-on s (code.Leave sent d) id L none (sane, inr (there, apart)) = (sane, inr (there-on s id L none there, apart))
 fits-on s (code.Answer r) id L none h = tt
 fits-on s (code.Ask c p d) id L none h = h
-fits-on s (code.Send p d) id L none (sane, inl h) = (sane, inl h)
-fits-on s (code.Send p d) id L none (sane, inr there) = (sane, inr (there-on s id L none there))
+fits-on s (code.Send p refused d) id L none (sane, inl h) = (sane, inl h)
+fits-on s (code.Send p refused d) id L none (sane, inr there) = (sane, inr (there-on s id L none there))
 fits-on s (code.Read cleanup decides next) id L none (sane, there) = (sane, there-on s id L none there)
+fits-on s (code.Put cleanup p d) id L none h = absurd h
+fits-on s (code.Finish p d) id L none h = absurd h
+fits-on s (code.Close p d) id L none h = absurd h
 fits-on s (code.HangUp d) id L none h = h
-fits-on s (code.Call q next) id L none (sane, inl h) = (sane, inl h)
-fits-on s (code.Call q next) id L none (sane, inr there) = (sane, inr (there-on s id L none there))
+fits-on s (code.Call q refused next) id L none (sane, inl h) = (sane, inl h)
+fits-on s (code.Call q refused next) id L none (sane, inr there) = (sane, inr (there-on s id L none there))
 fits-on s (code.Hear next) id L none h = tt

@@ -1,3 +1,5 @@
+pub mod Granted
+pub mod Faithful
 pub mod Walk
 pub mod Living
 pub mod Fed

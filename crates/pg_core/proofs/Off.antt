@@ -8,6 +8,8 @@ use Rattle.pg_desk.specs.declared.event.Take.TheVariants as taking
 use Rattle.pg_desk.specs.declared.event.Event.{Event}
 use Rattle.pg_desk.specs.declared.event.Event.TheVariants.{Book, Take as TakeEvent, HangUp, NextStatement, NextPortal}
 use Rattle.pg_desk.specs.History.{State, after, Allows, IsLegal}
+use Rattle.pg_faults.specs.declared.error.Error.{Error}
+use Rattle.pg_query.specs.Faults.{of_fault}
 use Rattle.pg_query.specs.Dialogue as code
 use Rattle.pg_query.specs.Dialogue.{Dialogue, Answer, feed, after_reply, Told, Steps}
 use Rattle.pg_query.specs.Lives.{Deed}
@@ -23,21 +25,27 @@ use Rattle.pg_core.proofs.Gone.{sane-fed}
 pub off-other : {T : Type 0} (k : ℕ) (d : Dialogue T) (id : ℕ) → IsSane d → id ≢ k → IsOff k d id
 off-other k (code.Answer r) id sane h = tt
 off-other k (code.Ask c p d) id sane h = sane
-off-other k (code.Send p d) id sane h = (sane, inr h)
+off-other k (code.Send p refused d) id sane h = (sane, inr h)
 off-other k (code.Leave sent d) id sane h = absurd sane
 off-other k (code.Read cleanup decides next) id sane h = (sane, h)
+off-other k (code.Put cleanup p d) id sane h = absurd sane
+off-other k (code.Finish p d) id sane h = absurd sane
+off-other k (code.Close p d) id sane h = absurd sane
 off-other k (code.HangUp d) id sane h = (sane.1, h)
-off-other k (code.Call q next) id sane h = (sane, inr h)
+off-other k (code.Call q refused next) id sane h = (sane, inr h)
 off-other k (code.Hear next) id sane h = tt
 
 pub off-none : {T : Type 0} (k : ℕ) (d : Dialogue T) (id : ℕ) → IsSane d → ReadsNothing d → IsOff k d id
 off-none k (code.Answer r) id sane h = tt
 off-none k (code.Ask c p d) id sane h = sane
-off-none k (code.Send p d) id sane h = (sane, inl h)
+off-none k (code.Send p refused d) id sane h = (sane, inl h)
 off-none k (code.Leave sent d) id sane h = absurd sane
 off-none k (code.Read cleanup decides next) id sane h = absurd h
+off-none k (code.Put cleanup p d) id sane h = absurd sane
+off-none k (code.Finish p d) id sane h = absurd sane
+off-none k (code.Close p d) id sane h = absurd sane
 off-none k (code.HangUp d) id sane h = absurd h
-off-none k (code.Call q next) id sane h = (sane, inl h)
+off-none k (code.Call q refused next) id sane h = (sane, inl h)
 off-none k (code.Hear next) id sane h = tt
 
 other-than : (which k : ℕ) → which ≢ k → (which == k) ≡ false
@@ -74,10 +82,13 @@ quiet k s desk_call.NextPortal (NextPortal (Ok n)) r h = Is tt tt refl
 quiet k s desk_call.NextPortal (NextPortal (Err f)) r h = Is tt tt refl
 quiet k s q e r h = absurd h
 
-call-off : {T : Type 0} (k : ℕ) (s : State) (q : DeskCall) (next : Reply → Dialogue T) (id : ℕ) (e : Event) (r : Result Reply DeskFault) (d' : Dialogue T) (id' : ℕ) → IsOff k (code.Call q next) id → k < length s.book → Quiet k s e → d' ≡ after_reply r next → id' ≡ id → Off-on k s e d' id'
-call-off k s q next id e (Ok r) d' id' (sane, inl h) lt (Is a b book) is same = off-as k s e (next r) d' id id' is same (off-none k (next r) id (sane r) (h r)) a b (let n = ap length book in omega (arith, lt, n))
-call-off k s q next id e (Ok r) d' id' (sane, inr h) lt (Is a b book) is same = off-as k s e (next r) d' id id' is same (off-other k (next r) id (sane r) h) a b (let n = ap length book in omega (arith, lt, n))
-call-off k s q next id e (Err f) d' id' off lt (Is a b book) is same = off-as k s e (Answer _) d' id id' is same tt a b (let n = ap length book in omega (arith, lt, n))
+call-off : {T : Type 0} (k : ℕ) (s : State) (q : DeskCall) (refused : Error → Dialogue T) (next : Reply → Dialogue T) (id : ℕ) (e : Event) (r : Result Reply DeskFault) (d' : Dialogue T) (id' : ℕ) → IsOff k (code.Call q refused next) id → k < length s.book → Quiet k s e → d' ≡ after_reply r refused next → id' ≡ id → Off-on k s e d' id'
+call-off k s q refused next id e (Ok r) d' id' (sane, inl h) lt (Is a b book) is same = off-as k s e (next r) d' id id' is same (off-none k (next r) id (sane.1 r) (h.1 r)) a b (let n = ap length book in omega (arith, lt, n))
+call-off k s q refused next id e (Ok r) d' id' (sane, inr h) lt (Is a b book) is same = off-as k s e (next r) d' id id' is same (off-other k (next r) id (sane.1 r) h) a b (let n = ap length book in omega (arith, lt, n))
+call-off k s q refused next id e (Err f) d' id' (sane, inl h) lt (Is a b book) is same =
+    off-as k s e (refused (of_fault f)) d' id id' is same (off-none k (refused (of_fault f)) id (sane.0 (of_fault f)) (h.0 (of_fault f))) a b (let n = ap length book in omega (arith, lt, n))
+call-off k s q refused next id e (Err f) d' id' (sane, inr h) lt (Is a b book) is same =
+    off-as k s e (refused (of_fault f)) d' id id' is same (off-other k (refused (of_fault f)) id (sane.0 (of_fault f)) h) a b (let n = ap length book in omega (arith, lt, n))
 
 one-off : {T : Type 0} (k : ℕ) (s : State) (stamp : Stamp) (d : Dialogue T) (id : ℕ) (e : Event) (d' : Dialogue T) (id' : ℕ) → IsOff k d id → k < length s.book → Allows s e → Steps stamp d id e d' id' → Off-on k s e d' id'
 one-off k s stamp (code.Answer r) id e d' id' off lt a st = absurd st
@@ -85,10 +96,15 @@ one-off k s stamp (code.Ask c p d) id (Book given part copying (Ok new)) d' id' 
     off-as k s (Book given part copying (Ok new)) d d' new id' st.3 st.4 (off-other k d new off (new-other k new s a.1 lt)) tt tt (more-booked k s given part copying new lt)
 one-off k s stamp (code.Ask c p d) id (Book given part copying (Err f)) d' id' off lt a st = off-as k s (Book given part copying (Err f)) (Answer _) d' id id' st.3 st.4 tt tt tt lt
 one-off k s stamp (code.Ask c p d) id e d' id' off lt a st = absurd st
-one-off k s stamp (code.Send p d) id (Book given part copying (Ok new)) d' id' off lt a st =
-    off-as k s (Book given part copying (Ok new)) (code.Leave new d) d' id id' st.3 st.4 (off.0, new-other k new s a.1 lt, off.1) tt tt (more-booked k s given part copying new lt)
-one-off k s stamp (code.Send p d) id (Book given part copying (Err f)) d' id' off lt a st = off-as k s (Book given part copying (Err f)) (Answer _) d' id id' st.3 st.4 tt tt tt lt
-one-off k s stamp (code.Send p d) id e d' id' off lt a st = absurd st
+one-off k s stamp (code.Send p refused d) id (Book given part copying (Ok new)) d' id' (sane, inl h) lt a st =
+    off-as k s (Book given part copying (Ok new)) (code.Leave new d) d' id id' st.3 st.4 (sane.1, new-other k new s a.1 lt, inl h.1) tt tt (more-booked k s given part copying new lt)
+one-off k s stamp (code.Send p refused d) id (Book given part copying (Ok new)) d' id' (sane, inr h) lt a st =
+    off-as k s (Book given part copying (Ok new)) (code.Leave new d) d' id id' st.3 st.4 (sane.1, new-other k new s a.1 lt, inr h) tt tt (more-booked k s given part copying new lt)
+one-off k s stamp (code.Send p refused d) id (Book given part copying (Err f)) d' id' (sane, inl h) lt a st =
+    off-as k s (Book given part copying (Err f)) (refused (of_fault f)) d' id id' st.3 st.4 (off-none k (refused (of_fault f)) id (sane.0 (of_fault f)) (h.0 (of_fault f))) tt tt lt
+one-off k s stamp (code.Send p refused d) id (Book given part copying (Err f)) d' id' (sane, inr h) lt a st =
+    off-as k s (Book given part copying (Err f)) (refused (of_fault f)) d' id id' st.3 st.4 (off-other k (refused (of_fault f)) id (sane.0 (of_fault f)) h) tt tt lt
+one-off k s stamp (code.Send p refused d) id e d' id' off lt a st = absurd st
 one-off k s stamp (code.Leave sent d) id (HangUp which (Ok x)) d' id' (sane, apart, inl h) lt a st = off-as k s (HangUp which (Ok x)) d d' id id' st.1 st.2 (off-none k d id sane h) tt (λ same. apart (sym st.0 ∙ same)) lt
 one-off k s stamp (code.Leave sent d) id (HangUp which (Ok x)) d' id' (sane, apart, inr h) lt a st = off-as k s (HangUp which (Ok x)) d d' id id' st.1 st.2 (off-other k d id sane h) tt (λ same. apart (sym st.0 ∙ same)) lt
 one-off k s stamp (code.Leave sent d) id (HangUp which (Err f)) d' id' off lt a st = off-as k s (HangUp which (Err f)) (Answer _) d' id id' st.1 st.2 tt tt tt lt
@@ -101,10 +117,13 @@ one-off k s stamp (code.Read cleanup decides next) id (TakeEvent which (Ok takin
 one-off k s stamp (code.Read cleanup decides next) id (TakeEvent which (Ok taking.Gone)) d' id' off lt a st = off-as k s (TakeEvent which (Ok taking.Gone)) (code.HangUp (Answer _)) d' id id' st.1 st.2 (tt, off.1) tt tt lt
 one-off k s stamp (code.Read cleanup decides next) id (TakeEvent which (Err f)) d' id' off lt a st = off-as k s (TakeEvent which (Err f)) (Answer _) d' id id' st.1 st.2 tt tt tt lt
 one-off k s stamp (code.Read cleanup decides next) id e d' id' off lt a st = absurd st
+one-off k s stamp (code.Put cleanup p d) id e d' id' off lt a st = absurd off
+one-off k s stamp (code.Finish p d) id e d' id' off lt a st = absurd off
+one-off k s stamp (code.Close p d) id e d' id' off lt a st = absurd off
 one-off k s stamp (code.HangUp d) id (HangUp which (Ok x)) d' id' (sane, h) lt a st = off-as k s (HangUp which (Ok x)) d d' id id' st.1 st.2 (off-other k d id sane h) tt (λ same. h (sym st.0 ∙ same)) lt
 one-off k s stamp (code.HangUp d) id (HangUp which (Err f)) d' id' off lt a st = off-as k s (HangUp which (Err f)) (Answer _) d' id id' st.1 st.2 tt tt tt lt
 one-off k s stamp (code.HangUp d) id e d' id' off lt a st = absurd st
-one-off k s stamp (code.Call q next) id e d' id' off lt a (r, told, is, same) = call-off k s q next id e r d' id' off lt (quiet k s q e r told) is same
+one-off k s stamp (code.Call q refused next) id e d' id' off lt a (r, told, is, same) = call-off k s q refused next id e r d' id' off lt (quiet k s q e r told) is same
 one-off k s stamp (code.Hear next) id e d' id' off lt a st = absurd st
 
 pub left-alone : {T : Type 0} (k : ℕ) (s : State) (d : Dialogue T) (id : ℕ) (ds : List Deed) (q : Dialogue T) (end : ℕ) → IsOff k d id → k < length s.book → IsLegal s (events_of ds) → Leads d id ds q end →

@@ -1,12 +1,14 @@
 -- The function of a walk against the outcome of a dialogue.
-use Rattle.std.proofs.Common.{◌≡◌, ◌⊎◌, ℕ, ◌+◌, List, [], ◌∷◌, ◌++◌, length, map, take, drop, false, Option, Some, None, Result, Err, refl, sym, ap, subst, ◌∙◌, inl, inr}
-use Rattle.std.proofs.lemmas.List.{drop-drop}
+use Rattle.std.proofs.Common.{◌≡◌, ◌⊎◌, ℕ, ◌+◌, List, [], ◌∷◌, ◌++◌, length, map, take, drop, Bool, true, false, if◌then◌else◌, Option, Some, None, Result, Ok, Err, refl, sym, ap, subst, ◌∙◌, inl, inr}
+use Rattle.std.proofs.lemmas.List.{drop-drop, length-take-le}
 use Rattle.pg_spec.specs.RawMessages.{RawMessage}
 use Rattle.pg_faults.specs.declared.error.Error.{Error}
 use Rattle.pg_faults.specs.declared.error.Error.TheVariants.{Closed, OutOfMemory}
 use Rattle.pg_spec.specs.declared.stamps.Stamp.{Stamp}
+use Rattle.pg_desk.specs.declared.event.DeskFault.TheVariants as fault
 use Rattle.pg_desk.specs.declared.event.Event.{Event}
-use Rattle.pg_query.specs.Dialogue.{Dialogue, Answer, Ask, Send, Leave, Read, HangUp, Call, Hear, Walks}
+use Rattle.pg_desk.specs.declared.event.Event.TheVariants as call
+use Rattle.pg_query.specs.Dialogue.{Dialogue, Answer, Ask, Send, Leave, Read, Put, Finish, Close, HangUp, Call, Hear}
 use Rattle.pg_query.specs.Lives.{Deed, Turn, Lives, deeds}
 use Rattle.pg_query.specs.Meaning.{Place}
 use Rattle.pg_query.specs.Scripts.{IsRead}
@@ -14,44 +16,58 @@ use Rattle.pg_query.specs.declared.desk_call.DeskCall.{DeskCall}
 use Rattle.pg_query.specs.declared.desk_call.Reply.{Reply}
 use Rattle.pg_core.specs.Courses.{Asked, Request, Met, Outcome, outcome, nothing_yet, with_request, with_sent, with_question as with_query}
 use Rattle.pg_core.specs.Dialogues.{decided_after}
-use Rattle.pg_query.proofs.RequestLaws.{Leads}
-use Rattle.pg_core.specs.Deeds.{requests_in, asked_in, Serves, EndsRefused}
+use Rattle.pg_query.proofs.RequestLaws.{Leads, lives-lead}
+use Rattle.pg_core.specs.Deeds.{booked_by, bookings_in, told_by, answers_in, granted, AreGranted, requests_in, asked_in, taken_from, Serves, EndsRefused}
 use Rattle.pg_core.specs.Runs.{Ran, of_request, stays, run, ReadsNothing, IsTidy, Holds, Answered, Stands, Gave, Reads, Refused, Comes}
-use Rattle.pg_core.specs.Outcomes.{asked, met_by, parts_in, questions_in, IsOutcome, IsUnderWay, LivesSo}
+use Rattle.pg_core.specs.Outcomes.{asked, met_by, parts_in, questions_in, IsOutcome, IsUnderWay, is_granted, unrefused, AnswersSo, LivesSo}
 use Rattle.pg_core.proofs.Core.{comes}
+use Rattle.pg_core.proofs.Fed.{still-decides, front-decides}
 
 abbrev told_so : {T : Type 0} → (ℕ → List RawMessage) → Ran T → Result T Error → Outcome DeskCall (Result T Error)
 told_so came s r = record { parts = []; requests = parts_in s.requests; asked = questions_in s.asked; answer = Some r; left = drop s.read (of_request came s.at) }
 
+-- supplies that weren't refused
+abbrev pub as_granted : {A : Type 0} → List A → List (Result A Error)
+as_granted [] = []
+as_granted (x ∷ xs) = Ok x ∷ as_granted xs
+
+pub all-granted : {A : Type 0} (xs : List (Result A Error)) → AreGranted xs → xs ≡ as_granted (granted xs)
+all-granted [] h = refl
+all-granted {A} (Ok x ∷ xs) h = ap (λ (l : List (Result A Error)). Ok x ∷ l) (all-granted xs h)
+all-granted (Err e ∷ xs) h = absurd h
+
 -- where the function comes to an answer, it is the outcome
 pub run-outcome : {T : Type 0} (came : ℕ → List RawMessage) (r : Result T Error) (at : Option ℕ) (n : ℕ) (d : Dialogue T) (rs : List Request) (qs : List (Asked DeskCall Reply)) →
-    (run came at n d rs qs).left ≡ Answer r → outcome (asked d) (met_by came rs qs) (drop n (of_request came at)) ≡ told_so came (run came at n d rs qs) r
+    (run came at n d (as_granted rs) (as_granted qs)).left ≡ Answer r → outcome (asked d) (met_by came rs qs) (drop n (of_request came at)) ≡ told_so came (run came at n d (as_granted rs) (as_granted qs)) r
 run-outcome {T} came r at n (Answer x) rs qs e =
     let same : x ≡ r = cc in
     ap (λ (y : Result T Error). let o : Outcome DeskCall (Result T Error) = record { parts = []; requests = []; asked = []; answer = Some y; left = drop n (of_request came at) } in o) same
 run-outcome came r at n (Ask copying part d) [] qs e = absurd cc
 run-outcome came r at n (Ask copying part d) (x ∷ rs) qs e = ap (with_request part) (run-outcome came r (Some x.number) 0 d rs qs e)
-run-outcome came r at n (Send part d) [] qs e = absurd cc
-run-outcome came r at n (Send part d) (x ∷ rs) qs e = ap (with_sent part) (run-outcome came r at n d rs qs e)
+run-outcome came r at n (Send part refused d) [] qs e = absurd cc
+run-outcome came r at n (Send part refused d) (x ∷ rs) qs e = ap (with_sent part) (run-outcome came r at n d rs qs e)
 run-outcome came r at n (Leave id d) rs qs e = run-outcome came r at n d rs qs e
 run-outcome {T} came r at n (Read cleanup decides next) rs qs e =
     by (decided_after decides (drop n (of_request came at))) (λ k. run-outcome came r at (n + k) (next (take k (drop n (of_request came at)))) rs qs) e
   where
     chosen : Option ℕ → Ran T
-    chosen o = elim o [ None ↦ stays at n (Read cleanup decides next) | Some k ↦ run came at (n + k) (next (take k (drop n (of_request came at)))) rs qs ]
+    chosen o = elim o [ None ↦ stays at n (Read cleanup decides next) | Some k ↦ run came at (n + k) (next (take k (drop n (of_request came at)))) (as_granted rs) (as_granted qs) ]
 
     met : Option ℕ → Outcome DeskCall (Result T Error)
     met o = elim o [ None ↦ nothing_yet | Some k ↦ outcome (asked (next (take k (drop n (of_request came at))))) (met_by came rs qs) (drop k (drop n (of_request came at))) ]
 
     by : (o : Option ℕ) →
-        ((k : ℕ) → (run came at (n + k) (next (take k (drop n (of_request came at)))) rs qs).left ≡ Answer r →
-        outcome (asked (next (take k (drop n (of_request came at))))) (met_by came rs qs) (drop (n + k) (of_request came at)) ≡ told_so came (run came at (n + k) (next (take k (drop n (of_request came at)))) rs qs) r) →
+        ((k : ℕ) → (run came at (n + k) (next (take k (drop n (of_request came at)))) (as_granted rs) (as_granted qs)).left ≡ Answer r →
+        outcome (asked (next (take k (drop n (of_request came at))))) (met_by came rs qs) (drop (n + k) (of_request came at)) ≡ told_so came (run came at (n + k) (next (take k (drop n (of_request came at)))) (as_granted rs) (as_granted qs)) r) →
         (chosen o).left ≡ Answer r → met o ≡ told_so came (chosen o) r
     by None h e = absurd cc
     by (Some k) h e = ap (outcome (asked (next (take k (drop n (of_request came at))))) (met_by came rs qs)) (drop-drop k n (of_request came at)) ∙ h k e
+run-outcome came r at n (Put cleanup part d) rs qs e = absurd cc
+run-outcome came r at n (Finish part d) rs qs e = absurd cc
+run-outcome came r at n (Close part d) rs qs e = absurd cc
 run-outcome came r at n (HangUp d) rs qs e = run-outcome came r at n d rs qs e
-run-outcome came r at n (Call q next) rs [] e = absurd cc
-run-outcome came r at n (Call q next) rs (a ∷ qs) e = ap (with_query q) (run-outcome came r at n (next a.reply) rs qs e)
+run-outcome came r at n (Call q refused next) rs [] e = absurd cc
+run-outcome came r at n (Call q refused next) rs (a ∷ qs) e = ap (with_query q) (run-outcome came r at n (next a.reply) rs qs e)
 run-outcome came r at n (Hear next) rs qs e = absurd cc
 
 -- where nothing more is told, nothing more is asked
@@ -59,8 +75,8 @@ asks-nothing : {T : Type 0} (d : Dialogue T) (replies : List (List RawMessage)) 
 asks-nothing (Answer r) replies left = refl
 asks-nothing (Ask copying part d) [] left = asks-nothing d [] []
 asks-nothing (Ask copying part d) (g ∷ gs) left = asks-nothing d gs g
-asks-nothing (Send part d) [] left = asks-nothing d [] left
-asks-nothing (Send part d) (g ∷ gs) left = asks-nothing d gs left
+asks-nothing (Send part refused d) [] left = asks-nothing d [] left
+asks-nothing (Send part refused d) (g ∷ gs) left = asks-nothing d gs left
 asks-nothing (Leave id d) replies left = asks-nothing d replies left
 asks-nothing {T} (Read cleanup decides next) replies left = by (decided_after decides left) (λ k. asks-nothing (next (take k left)) replies (drop k left))
   where
@@ -70,8 +86,11 @@ asks-nothing {T} (Read cleanup decides next) replies left = by (decided_after de
     by : (o : Option ℕ) → ((k : ℕ) → (outcome (asked (next (take k left))) (record { replies = replies; told = [] }) (drop k left)).asked ≡ []) → (met o).asked ≡ []
     by None h = refl
     by (Some k) h = h k
+asks-nothing (Put cleanup part d) replies left = asks-nothing d replies left
+asks-nothing (Finish part d) replies left = asks-nothing d replies left
+asks-nothing (Close part d) replies left = asks-nothing d replies left
 asks-nothing (HangUp d) replies left = asks-nothing d replies left
-asks-nothing (Call q next) replies left = refl
+asks-nothing (Call q refused next) replies left = refl
 asks-nothing {T} (Hear next) replies left = by (decided_after (λ (ms : List RawMessage). false) left)
   where
     met : Option ℕ → Outcome DeskCall (Result T Error)
@@ -100,22 +119,31 @@ stays-front came at n d rs qs e = record {
       ∙ asks-nothing d (map (λ r. came r.number) rs) (drop n (of_request came at)));
 }
 
+-- behind the messages that decide it goes on tidily
+tidy-next : {T : Type 0} (decides : List RawMessage → Bool) (next : List RawMessage → Dialogue T) → ((ms : List RawMessage) → decided_after decides ms ≡ Some (length ms) → IsTidy (next ms)) →
+    (left : List RawMessage) (k : ℕ) → decided_after decides left ≡ Some k → IsTidy (next (take k left))
+tidy-next decides next tidy left k e =
+    tidy (take k left) (front-decides decides left k e ∙ ap (λ (x : ℕ). Some x) (sym (length-take-le k left (still-decides decides left [] k e).within)))
+
 -- a dialogue without copies gives the request that it reads no part more
-no-parts : {T : Type 0} (d : Dialogue T) (met : Met Reply) (left : List RawMessage) → (outcome (asked d) met left).parts ≡ []
-no-parts (Answer r) met left = refl
-no-parts (Ask copying part d) met left = refl
-no-parts (Send part d) met left = no-parts d _ left
-no-parts (Leave id d) met left = no-parts d met left
-no-parts {T} (Read cleanup decides next) met left = by (decided_after decides left) (λ k. no-parts (next (take k left)) met (drop k left))
+no-parts : {T : Type 0} (d : Dialogue T) (met : Met Reply) (left : List RawMessage) → IsTidy d → (outcome (asked d) met left).parts ≡ []
+no-parts (Answer r) met left tidy = refl
+no-parts (Ask copying part d) met left tidy = refl
+no-parts (Send part refused d) met left tidy = no-parts d _ left tidy.1
+no-parts (Leave id d) met left tidy = no-parts d met left tidy
+no-parts {T} (Read cleanup decides next) met left tidy = by (decided_after decides left) refl (λ k e. no-parts (next (take k left)) met (drop k left) (tidy-next decides next tidy left k e))
   where
     so : Option ℕ → Outcome DeskCall (Result T Error)
     so o = elim o [ None ↦ nothing_yet | Some k ↦ outcome (asked (next (take k left))) met (drop k left) ]
 
-    by : (o : Option ℕ) → ((k : ℕ) → (outcome (asked (next (take k left))) met (drop k left)).parts ≡ []) → (so o).parts ≡ []
-    by None h = refl
-    by (Some k) h = h k
-no-parts (HangUp d) met left = no-parts d met left
-no-parts {T} (Call q next) met left = by met.told (λ r told. no-parts (next r) (record { replies = met.replies; told = told }) left)
+    by : (o : Option ℕ) → decided_after decides left ≡ o → ((k : ℕ) → decided_after decides left ≡ Some k → (outcome (asked (next (take k left))) met (drop k left)).parts ≡ []) → (so o).parts ≡ []
+    by None e h = refl
+    by (Some k) e h = h k e
+no-parts (Put cleanup part d) met left tidy = absurd tidy
+no-parts (Finish part d) met left tidy = absurd tidy
+no-parts (Close part d) met left tidy = absurd tidy
+no-parts (HangUp d) met left tidy = no-parts d met left tidy.1
+no-parts {T} (Call q refused next) met left tidy = by met.told (λ r told. no-parts (next r) (record { replies = met.replies; told = told }) left (tidy.1 r))
   where
     so : List Reply → Outcome DeskCall (Result T Error)
     so l = elim l [ [] ↦ nothing_yet | r ∷ told ↦ with_query q (outcome (asked (next r)) (record { replies = met.replies; told = told }) left) ]
@@ -123,7 +151,7 @@ no-parts {T} (Call q next) met left = by met.told (λ r told. no-parts (next r) 
     by : (l : List Reply) → ((r : Reply) (told : List Reply) → (outcome (asked (next r)) (record { replies = met.replies; told = told }) left).parts ≡ []) → (so l).parts ≡ []
     by [] h = refl
     by (r ∷ told) h = h r told
-no-parts {T} (Hear next) met left = by (decided_after (λ (ms : List RawMessage). false) left)
+no-parts {T} (Hear next) met left tidy = by (decided_after (λ (ms : List RawMessage). false) left)
   where
     so : Option ℕ → Outcome DeskCall (Result T Error)
     so o = elim o [ None ↦ nothing_yet | Some k ↦ record { parts = []; requests = []; asked = []; answer = Some (Err Closed); left = drop k left } ]
@@ -132,94 +160,168 @@ no-parts {T} (Hear next) met left = by (decided_after (λ (ms : List RawMessage)
     by None = refl
     by (Some k) = refl
 
-run-front : {T : Type 0} (came : ℕ → List RawMessage) (at : Option ℕ) (n : ℕ) (d : Dialogue T) (rs : List Request) (qs : List (Asked DeskCall Reply)) → length (run came at n d rs qs).asked ≡ length qs →
-    Front came (run came at n d rs qs) (outcome (asked d) (met_by came rs qs) (drop n (of_request came at)))
-run-front came at n (Answer r) rs qs e = record { more = []; requests = refl; asks = refl }
-run-front came at n (Ask copying part d) [] qs e = stays-front came at n (Ask copying part d) [] qs e
-run-front came at n (Ask copying part d) (x ∷ rs) qs e =
-    let f = run-front came (Some x.number) 0 d rs qs e in
+run-front : {T : Type 0} (came : ℕ → List RawMessage) (at : Option ℕ) (n : ℕ) (d : Dialogue T) (rs : List Request) (qs : List (Asked DeskCall Reply)) → IsTidy d →
+    length (run came at n d (as_granted rs) (as_granted qs)).asked ≡ length qs →
+    Front came (run came at n d (as_granted rs) (as_granted qs)) (outcome (asked d) (met_by came rs qs) (drop n (of_request came at)))
+run-front came at n (Answer r) rs qs tidy e = record { more = []; requests = refl; asks = refl }
+run-front came at n (Ask copying part d) [] qs tidy e = stays-front came at n (Ask copying part d) [] qs e
+run-front came at n (Ask copying part d) (x ∷ rs) qs tidy e =
+    let f = run-front came (Some x.number) 0 d rs qs tidy e in
     let o = outcome (asked d) (met_by came rs qs) (came x.number) in
-    let none : o.parts ≡ [] = no-parts d (met_by came rs qs) (came x.number) in
+    let none : o.parts ≡ [] = no-parts d (met_by came rs qs) (came x.number) tidy in
     record {
       more = f.more;
       requests = ap (λ (l : List (List (List ℕ))). (part ∷ []) ∷ l) f.requests ∙ ap (λ (ps : List (List ℕ)). (part ∷ ps) ∷ o.requests) (sym none);
       asks = f.asks;
     }
-run-front came at n (Send part d) [] qs e = stays-front came at n (Send part d) [] qs e
-run-front came at n (Send part d) (x ∷ rs) qs e =
-    let f = run-front came at n d rs qs e in
+run-front came at n (Send part refused d) [] qs tidy e = stays-front came at n (Send part refused d) [] qs e
+run-front came at n (Send part refused d) (x ∷ rs) qs tidy e =
+    let f = run-front came at n d rs qs tidy.1 e in
     record { more = f.more; requests = ap (λ (l : List (List (List ℕ))). (part ∷ []) ∷ l) f.requests; asks = f.asks }
-run-front came at n (Leave id d) rs qs e = let f = run-front came at n d rs qs e in record { more = f.more; requests = f.requests; asks = f.asks }
-run-front {T} came at n (Read cleanup decides next) rs qs e =
-    by (decided_after decides (drop n (of_request came at))) refl (λ k. run-front came at (n + k) (next (take k (drop n (of_request came at)))) rs qs) e
+run-front came at n (Leave id d) rs qs tidy e = let f = run-front came at n d rs qs tidy e in record { more = f.more; requests = f.requests; asks = f.asks }
+run-front {T} came at n (Read cleanup decides next) rs qs tidy e =
+    by (decided_after decides xs) refl (λ k is. run-front came at (n + k) (next (take k xs)) rs qs (tidy-next decides next tidy xs k is)) e
   where
+    xs : List RawMessage
+    xs = drop n (of_request came at)
+
     chosen : Option ℕ → Ran T
-    chosen o = elim o [ None ↦ stays at n (Read cleanup decides next) | Some k ↦ run came at (n + k) (next (take k (drop n (of_request came at)))) rs qs ]
+    chosen o = elim o [ None ↦ stays at n (Read cleanup decides next) | Some k ↦ run came at (n + k) (next (take k xs)) (as_granted rs) (as_granted qs) ]
 
     met : Option ℕ → Outcome DeskCall (Result T Error)
-    met o = elim o [ None ↦ nothing_yet | Some k ↦ outcome (asked (next (take k (drop n (of_request came at))))) (met_by came rs qs) (drop k (drop n (of_request came at))) ]
+    met o = elim o [ None ↦ nothing_yet | Some k ↦ outcome (asked (next (take k xs))) (met_by came rs qs) (drop k xs) ]
 
-    by : (o : Option ℕ) → decided_after decides (drop n (of_request came at)) ≡ o →
-        ((k : ℕ) → length (run came at (n + k) (next (take k (drop n (of_request came at)))) rs qs).asked ≡ length qs →
-        Front came (run came at (n + k) (next (take k (drop n (of_request came at)))) rs qs) (outcome (asked (next (take k (drop n (of_request came at))))) (met_by came rs qs) (drop (n + k) (of_request came at)))) →
+    by : (o : Option ℕ) → decided_after decides xs ≡ o →
+        ((k : ℕ) → decided_after decides xs ≡ Some k → length (run came at (n + k) (next (take k xs)) (as_granted rs) (as_granted qs)).asked ≡ length qs →
+        Front came (run came at (n + k) (next (take k xs)) (as_granted rs) (as_granted qs)) (outcome (asked (next (take k xs))) (met_by came rs qs) (drop (n + k) (of_request came at)))) →
         length (chosen o).asked ≡ length qs → Front came (chosen o) (met o)
     by None is h e = record { more = []; requests = refl; asks = refl }
     by (Some k) is h e =
-        subst (λ (l : List RawMessage). Front came (run came at (n + k) (next (take k (drop n (of_request came at)))) rs qs) (outcome (asked (next (take k (drop n (of_request came at))))) (met_by came rs qs) l))
-        (sym (drop-drop k n (of_request came at))) (h k e)
-run-front came at n (HangUp d) rs qs e = let f = run-front came at n d rs qs e in record { more = f.more; requests = f.requests; asks = f.asks }
-run-front came at n (Call q next) rs [] e = stays-front came at n (Call q next) rs [] e
-run-front came at n (Call q next) rs (a ∷ qs) e =
-    let f = run-front came at n (next a.reply) rs qs (cc) in
+        subst (λ (l : List RawMessage). Front came (run came at (n + k) (next (take k xs)) (as_granted rs) (as_granted qs)) (outcome (asked (next (take k xs))) (met_by came rs qs) l))
+        (sym (drop-drop k n (of_request came at))) (h k is e)
+run-front came at n (Put cleanup part d) rs qs tidy e = absurd tidy
+run-front came at n (Finish part d) rs qs tidy e = absurd tidy
+run-front came at n (Close part d) rs qs tidy e = absurd tidy
+run-front came at n (HangUp d) rs qs tidy e = let f = run-front came at n d rs qs tidy.1 e in record { more = f.more; requests = f.requests; asks = f.asks }
+run-front came at n (Call q refused next) rs [] tidy e = stays-front came at n (Call q refused next) rs [] e
+run-front came at n (Call q refused next) rs (a ∷ qs) tidy e =
+    let f = run-front came at n (next a.reply) rs qs (tidy.1 a.reply) (cc) in
     record { more = f.more; requests = f.requests; asks = ap (λ (l : List DeskCall). q ∷ l) f.asks }
-run-front came at n (Hear next) rs qs e = stays-front came at n (Hear next) rs qs e
+run-front came at n (Hear next) rs qs tidy e = stays-front came at n (Hear next) rs qs e
+
+-- ---- up to the first booking or question that was refused
+
+booked-granted : (e : Event) → is_granted e ≡ true → (xs : List (Result Request Error)) → AreGranted xs → AreGranted (booked_by e ++ xs)
+booked-granted (call.Book stamp part copying (Ok id)) h xs g = g
+booked-granted (call.Book stamp part copying (Err f)) h xs g = absurd cc
+booked-granted e h xs g = g
+
+told-granted : (stamp : Stamp) (e : Event) → is_granted e ≡ true → (xs : List (Result (Asked DeskCall Reply) Error)) → AreGranted xs → AreGranted (told_by stamp e ++ xs)
+told-granted stamp (call.NextStatement (Ok n)) h xs g = g
+told-granted stamp (call.NextStatement (Err fault.Encode)) h xs g = g
+told-granted stamp (call.NextStatement (Err fault.Closed)) h xs g = absurd cc
+told-granted stamp (call.NextStatement (Err fault.OutOfMemory)) h xs g = absurd cc
+told-granted stamp (call.NextPortal (Ok n)) h xs g = g
+told-granted stamp (call.NextPortal (Err fault.Encode)) h xs g = g
+told-granted stamp (call.NextPortal (Err fault.Closed)) h xs g = absurd cc
+told-granted stamp (call.NextPortal (Err fault.OutOfMemory)) h xs g = absurd cc
+told-granted stamp e h xs g = g
+
+-- what stands before it leads somewhere, is served, and nothing of it was refused
+record Unrefused {T : Type 0} (came got : ℕ → List RawMessage) (d : Dialogue T) (id : ℕ) (ds : List Deed) : Type 0 where
+  mid : Dialogue T
+  at : ℕ
+  leads : Leads d id ds mid at
+  serves : Serves came got ds
+  bookings : AreGranted (bookings_in ds)
+  answers : AreGranted (answers_in ds)
+
+up-to : {T : Type 0} (came got : ℕ → List RawMessage) (d : Dialogue T) (id : ℕ) (ds : List Deed) (q : Dialogue T) (end : ℕ) → Leads d id ds q end → Serves came got ds → Unrefused came got d id (unrefused ds)
+up-to came got d id [] q end l serves = record { mid = d; at = id; leads = (refl, refl); serves = tt; bookings = tt; answers = tt }
+up-to {T} came got d id (a ∷ ds) q end (mid, n, s, l) (served, serves) = by (is_granted a.event) refl (up-to came (λ j. got j ++ taken_from j a.event) mid n ds q end l serves)
+  where
+    by : (b : Bool) → is_granted a.event ≡ b → Unrefused came (λ j. got j ++ taken_from j a.event) mid n (unrefused ds) → Unrefused came got d id (if b then a ∷ unrefused ds else [])
+    by true e h = record {
+      mid = h.mid;
+      at = h.at;
+      leads = (mid, n, s, h.leads);
+      serves = (served, h.serves);
+      bookings = booked-granted a.event e (bookings_in (unrefused ds)) h.bookings;
+      answers = told-granted a.stamp a.event e (answers_in (unrefused ds)) h.answers;
+    }
+    by false e h = record { mid = d; at = id; leads = (refl, refl); serves = tt; bookings = tt; answers = tt }
 
 -- ---- a whole life
-
-leads-joined : {T : Type 0} (stamp : Stamp) (d : Dialogue T) (id : ℕ) (es : List Event) (mid : Dialogue T) (n : ℕ) (ds : List Deed) (q : Dialogue T) (end : ℕ) →
-    Walks stamp d id es mid n → Leads mid n ds q end → Leads d id (map (λ e. record { stamp = stamp; event = e }) es ++ ds) q end
-leads-joined {T} stamp d id [] mid n ds q end w l =
-    subst (λ (x : Dialogue T). Leads x id ds q end) w.0 (subst (λ (k : ℕ). Leads mid k ds q end) w.1 l)
-leads-joined stamp d id (e ∷ es) mid n ds q end (c, k, s, w) l = (c, k, s, leads-joined stamp c k es mid n ds q end w l)
-
-pub lives-lead : {T : Type 0} (p : Place T) (ts : List Turn) (q : Place T) → Lives p ts q → Leads p.dialogue p.reads (deeds ts) q.dialogue q.reads
-lives-lead {T} p [] q l = (ap (λ (x : Place T). x.dialogue) l, ap (λ (x : Place T). x.reads) l)
-lives-lead p (t ∷ ts) q (mid, w, l) = leads-joined t.stamp p.dialogue p.reads t.events mid.dialogue mid.reads (deeds ts) q.dialogue q.reads w (lives-lead mid ts q l)
 
 nothing-yet : (came : ℕ → List RawMessage) → Holds came (λ k. []) None 0 []
 nothing-yet came = record { read = []; count = refl; took = refl; more = []; all = refl }
 
+-- supplies of which none was refused
+supplied : {T : Type 0} (came : ℕ → List RawMessage) (d : Dialogue T) (ds : List Deed) → AreGranted (bookings_in ds) → AreGranted (answers_in ds) →
+    run came None 0 d (bookings_in ds) (answers_in ds) ≡ run came None 0 d (as_granted (requests_in ds)) (as_granted (asked_in ds))
+supplied came d ds b a =
+    ap (λ (x : List (Result Request Error)). run came None 0 d x (answers_in ds)) (all-granted (bookings_in ds) b)
+    ∙ ap (run came None 0 d (as_granted (requests_in ds))) (all-granted (answers_in ds) a)
+
+-- where nothing was refused, an answer is the outcome
+outcome-so : {T : Type 0} (came : ℕ → List RawMessage) (d : Dialogue T) (ds : List Deed) (r : Result T Error) → AreGranted (bookings_in ds) → AreGranted (answers_in ds) →
+    (run came None 0 d (bookings_in ds) (answers_in ds)).requests ≡ requests_in ds → (run came None 0 d (bookings_in ds) (answers_in ds)).asked ≡ asked_in ds →
+    (run came None 0 d (bookings_in ds) (answers_in ds)).left ≡ Answer r → IsOutcome came d ds r
+outcome-so {T} came d ds r b a requests asks left =
+    let same = supplied came d ds b a in
+    let s = run came None 0 d (as_granted (requests_in ds)) (as_granted (asked_in ds)) in
+    let rs : s.requests ≡ requests_in ds = sym (ap (λ (x : Ran T). x.requests) same) ∙ requests in
+    let qs : s.asked ≡ asked_in ds = sym (ap (λ (x : Ran T). x.asked) same) ∙ asks in
+    record {
+      left = drop s.read (of_request came s.at);
+      is = run-outcome came r None 0 d (requests_in ds) (asked_in ds) (sym (ap (λ (x : Ran T). x.left) same) ∙ left)
+          ∙ ap (λ (l : List Request). let o : Outcome DeskCall (Result T Error) = record { parts = []; requests = parts_in l; asked = questions_in s.asked; answer = Some r; left = drop s.read (of_request came s.at) } in o) rs
+          ∙ ap (λ (l : List (Asked DeskCall Reply)). let o : Outcome DeskCall (Result T Error) = record { parts = []; requests = parts_in (requests_in ds); asked = questions_in l; answer = Some r; left = drop s.read (of_request came s.at) } in o) qs;
+    }
+
+-- what nothing was refused of is a front of the outcome
+front-so : {T : Type 0} (came : ℕ → List RawMessage) (d : Dialogue T) (id : ℕ) (ds : List Deed) → IsTidy d → ReadsNothing d → Unrefused came (λ k. []) d id ds → IsUnderWay came d ds
+front-so {T} came d id ds tidy nothing u =
+    let all = comes came (λ k. []) None 0 [] d id ds u.mid u.at tidy nothing (nothing-yet came) u.leads u.serves in
+    let same = supplied came d ds u.bookings u.answers in
+    let s = run came None 0 d (as_granted (requests_in ds)) (as_granted (asked_in ds)) in
+    let rs : s.requests ≡ requests_in ds = sym (ap (λ (x : Ran T). x.requests) same) ∙ all.requests in
+    let qs : s.asked ≡ asked_in ds = sym (ap (λ (x : Ran T). x.asked) same) ∙ all.asked in
+    let f = run-front came None 0 d (requests_in ds) (asked_in ds) tidy (ap length qs) in
+    record {
+      more = f.more;
+      requests = ap (λ (l : List Request). parts_in l ++ f.more) (sym rs) ∙ f.requests;
+      asked = ap questions_in (sym qs) ∙ f.asks;
+    }
+
 pub life : {T : Type 0} (came : ℕ → List RawMessage) (p : Place T) (ts : List Turn) (q : Place T) (r : Result T Error) → IsTidy p.dialogue → ReadsNothing p.dialogue → Lives p ts q →
     Serves came (λ k. []) (deeds ts) → (q.dialogue ≡ Answer r) ⊎ (r ≡ Err OutOfMemory) → LivesSo came p.dialogue (deeds ts) q.dialogue r
-life {T} came p ts q r tidy nothing l serves answers = (front, by answers)
+life {T} came p ts q r tidy nothing l serves answers = (front-so came p.dialogue p.reads (unrefused (deeds ts)) tidy nothing front, by answers)
   where
+    leads : Leads p.dialogue p.reads (deeds ts) q.dialogue q.reads
+    leads = lives-lead p ts q l
+
     s : Ran T
-    s = run came None 0 p.dialogue (requests_in (deeds ts)) (asked_in (deeds ts))
+    s = run came None 0 p.dialogue (bookings_in (deeds ts)) (answers_in (deeds ts))
 
     all : Comes came (λ k. []) s (deeds ts) q.dialogue q.reads
-    all = comes came (λ k. []) None 0 [] p.dialogue p.reads (deeds ts) q.dialogue q.reads tidy nothing (nothing-yet came) (lives-lead p ts q l) serves
+    all = comes came (λ k. []) None 0 [] p.dialogue p.reads (deeds ts) q.dialogue q.reads tidy nothing (nothing-yet came) leads serves
 
-    front : IsUnderWay came p.dialogue (deeds ts)
-    front =
-        let f = run-front came None 0 p.dialogue (requests_in (deeds ts)) (asked_in (deeds ts)) (ap length all.asked) in
-        record {
-          more = f.more;
-          requests = ap (λ (rs : List Request). parts_in rs ++ f.more) (sym all.requests) ∙ f.requests;
-          asked = ap questions_in (sym all.asked) ∙ f.asks;
-        }
+    front : Unrefused came (λ k. []) p.dialogue p.reads (unrefused (deeds ts))
+    front = up-to came (λ k. []) p.dialogue p.reads (deeds ts) q.dialogue q.reads leads serves
 
-    stood : q.dialogue ≡ Answer r → Stands came s (deeds ts) q.dialogue q.reads → IsOutcome came p.dialogue (deeds ts) r ⊎ ((EndsRefused (deeds ts) q.dialogue × (q.dialogue ≡ Answer r)) ⊎ (r ≡ Err OutOfMemory))
+    stood : q.dialogue ≡ Answer r → Stands came s (deeds ts) q.dialogue q.reads → AnswersSo came p.dialogue (deeds ts) r ⊎ ((EndsRefused (deeds ts) q.dialogue × (q.dialogue ≡ Answer r)) ⊎ (r ≡ Err OutOfMemory))
     stood e (Gave x is left) =
         let same : Answer x ≡ Answer r = sym is ∙ e in
         inl (record {
-          left = drop s.read (of_request came s.at);
-          is = run-outcome came r None 0 p.dialogue (requests_in (deeds ts)) (asked_in (deeds ts)) (left ∙ same)
-              ∙ ap (λ (rs : List Request). let o : Outcome DeskCall (Result T Error) = record { parts = []; requests = parts_in rs; asked = questions_in s.asked; answer = Some r; left = drop s.read (of_request came s.at) } in o) all.requests
-              ∙ ap (λ (qs : List (Asked DeskCall Reply)). let o : Outcome DeskCall (Result T Error) = record { parts = []; requests = parts_in (requests_in (deeds ts)); asked = questions_in qs; answer = Some r; left = drop s.read (of_request came s.at) } in o) all.asked;
+          ran = left ∙ same;
+          outcome = λ none.
+              outcome-so came p.dialogue (deeds ts) r (subst (λ (L : List Deed). AreGranted (bookings_in L)) none front.bookings) (subst (λ (L : List Deed). AreGranted (answers_in L)) none front.answers)
+              all.requests all.asked (left ∙ same);
         })
     stood e (Reads here there reads t le is) = absurd (subst IsRead e there)
     stood e (Refused h) = inr (inl (h, e))
 
-    by : (q.dialogue ≡ Answer r) ⊎ (r ≡ Err OutOfMemory) → IsOutcome came p.dialogue (deeds ts) r ⊎ ((EndsRefused (deeds ts) q.dialogue × (q.dialogue ≡ Answer r)) ⊎ (r ≡ Err OutOfMemory))
+    by : (q.dialogue ≡ Answer r) ⊎ (r ≡ Err OutOfMemory) → AnswersSo came p.dialogue (deeds ts) r ⊎ ((EndsRefused (deeds ts) q.dialogue × (q.dialogue ≡ Answer r)) ⊎ (r ≡ Err OutOfMemory))
     by (inl e) = stood e (all.stands (Answered r e))
     by (inr e) = inr (inr e)

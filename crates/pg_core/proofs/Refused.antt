@@ -1,29 +1,30 @@
 -- Where a legal list refuses a command that decides in time, memory lacked, or its request is gone.
-use Rattle.std.proofs.Common.{◌≡◌, ◌⊎◌, inl, inr, ℕ, ◌≤◌, ◌||◌, nat_lt, List, [], ◌∷◌, ◌++◌, length, take, Bool, true, false, if◌then◌else◌, Option, Some, None, Ok, Err, refl, sym, ap, subst, ◌∙◌, arith}
+use Rattle.std.proofs.Common.{◌≡◌, ◌⊎◌, inl, inr, ℕ, ◌≤◌, nat_lt, List, [], ◌∷◌, ◌++◌, length, take, Bool, true, false, if◌then◌else◌, Option, Some, None, Result, Ok, Err, refl, sym, ap, subst, ◌∙◌, arith}
 use Rattle.std.proofs.lemmas.Bool.Decides.{nat_tests}
 use Rattle.std.proofs.lemmas.List.{map-append, take-append-le}
 use Rattle.std.specs.List.{list_any}
 use Rattle.pg_spec.specs.RawMessages.{RawMessage, is_ready, ends_in}
 use Rattle.pg_spec.specs.declared.stamps.Stamp.{Stamp}
+use Rattle.pg_desk.specs.declared.event.DeskFault.{DeskFault}
 use Rattle.pg_desk.specs.declared.event.DeskFault.TheVariants as fault
 use Rattle.pg_desk.specs.declared.event.Take.TheVariants as taking
 use Rattle.pg_desk.specs.declared.event.Event.{Event}
-use Rattle.pg_desk.specs.declared.event.Event.TheVariants.{Book, Take as TakeEvent, HangUp, NextStatement, NextPortal, NextOut, Deliver as DeliverEvent, CloseRequests, Fail}
-use Rattle.pg_desk.specs.History.{State, finished, has_ended, joined, waiting, is_hung_up, after, after_all, take_answer, take_of_waiting, ended, Allows, IsFrontOf, IsLegal, kept}
-use Rattle.pg_desk.specs.Kept.{after-joined, stored-part}
+use Rattle.pg_desk.specs.declared.event.Event.TheVariants.{Take as TakeEvent, HangUp}
+use Rattle.pg_desk.specs.History.{State, finished, has_ended, joined, waiting, is_hung_up, after, after_all, take_answer, take_of_waiting, Allows, IsFrontOf, IsLegal, kept}
+use Rattle.pg_desk.specs.Kept.{stored-part}
 use Rattle.pg_desk.proofs.Soundness.{AllCut, legal-kept}
 use Rattle.pg_faults.specs.declared.error.Error.{Error}
 use Rattle.pg_faults.specs.declared.error.Error.TheVariants.{OutOfMemory}
 use Rattle.pg_query.specs.Faults.{of_fault}
 use Rattle.pg_query.specs.Dialogue as code
-use Rattle.pg_query.specs.Dialogue.{Dialogue, Answer, Steps, feed}
+use Rattle.pg_query.specs.Dialogue.{Dialogue, Answer, Steps}
 use Rattle.pg_query.specs.declared.desk_call.DeskCall.TheVariants as desk_call
 use Rattle.pg_query.specs.Lives.{Deed}
 use Rattle.pg_query.specs.Meaning.{Place}
-use Rattle.pg_query.specs.Requests.{IsBehind}
+use Rattle.pg_query.specs.Requests.{IsBehind, Refuses, IsRefused}
 use Rattle.pg_query.specs.Scripts.{IsRead}
 use Rattle.pg_query.proofs.RequestLaws.{Leads}
-use Rattle.pg_core.specs.Deeds.{Serves, IsRefusal, EndsRefused, got_after}
+use Rattle.pg_core.specs.Deeds.{Serves, EndsRefused, got_after}
 use Rattle.pg_core.specs.Lists.{events_of, came_of, got_of, state_behind, IsReached}
 use Rattle.pg_core.specs.Runs.{Ran, of_request, At, Waits, ReadsNothing}
 use Rattle.pg_core.specs.Times.{IsTimely}
@@ -94,20 +95,26 @@ stands-over : {T : Type 0} (came : ℕ → List RawMessage) (at : Option ℕ) (n
 stands-over came at n (code.Read cleanup decides next) reads timely none whole = never-over came at n cleanup decides next timely none whole
 stands-over came at n (code.Answer r) reads timely none whole = reads
 stands-over came at n (code.Ask copying part d) reads timely none whole = reads
-stands-over came at n (code.Send part d) reads timely none whole = reads
+stands-over came at n (code.Send part refused d) reads timely none whole = reads
 stands-over came at n (code.Leave id d) reads timely none whole = reads
+stands-over came at n (code.Put cleanup part d) reads timely none whole = reads
+stands-over came at n (code.Finish part d) reads timely none whole = reads
+stands-over came at n (code.Close part d) reads timely none whole = reads
 stands-over came at n (code.HangUp d) reads timely none whole = reads
-stands-over came at n (code.Call q next) reads timely none whole = reads
+stands-over came at n (code.Call q refused next) reads timely none whole = reads
 stands-over came at n (code.Hear next) reads timely none whole = reads
 
 reads-not : {T : Type 0} (d : Dialogue T) → ReadsNothing d → IsRead d → ⊥
 reads-not (code.Read cleanup decides next) nothing reads = nothing
 reads-not (code.Answer r) nothing reads = reads
 reads-not (code.Ask copying part d) nothing reads = reads
-reads-not (code.Send part d) nothing reads = reads
+reads-not (code.Send part refused d) nothing reads = reads
 reads-not (code.Leave id d) nothing reads = reads
+reads-not (code.Put cleanup part d) nothing reads = reads
+reads-not (code.Finish part d) nothing reads = reads
+reads-not (code.Close part d) nothing reads = reads
 reads-not (code.HangUp d) nothing reads = reads
-reads-not (code.Call q next) nothing reads = reads
+reads-not (code.Call q refused next) nothing reads = reads
 reads-not (code.Hear next) nothing reads = reads
 
 -- so much of what was taken is so much of what came
@@ -126,11 +133,14 @@ over-there : {T : Type 0} (stamp : Stamp) (d : Dialogue T) (id which : ℕ) (d' 
 over-there stamp (code.Read cleanup decides next) id which d' id' s = (tt, s.0)
 over-there stamp (code.Answer r) id which d' id' s = absurd s
 over-there stamp (code.Ask c p d) id which d' id' s = absurd s
-over-there stamp (code.Send p d) id which d' id' s = absurd s
+over-there stamp (code.Send p refused d) id which d' id' s = absurd s
 over-there stamp (code.Leave k d) id which d' id' s = absurd s
+over-there stamp (code.Put cleanup p d) id which d' id' s = absurd s
+over-there stamp (code.Finish p d) id which d' id' s = absurd s
+over-there stamp (code.Close p d) id which d' id' s = absurd s
 over-there stamp (code.HangUp d) id which d' id' s = absurd s
-over-there stamp (code.Call desk_call.NextStatement next) id which d' id' s = absurd s.1
-over-there stamp (code.Call desk_call.NextPortal next) id which d' id' s = absurd s.1
+over-there stamp (code.Call desk_call.NextStatement refused next) id which d' id' s = absurd s.1
+over-there stamp (code.Call desk_call.NextPortal refused next) id which d' id' s = absurd s.1
 over-there stamp (code.Hear next) id which d' id' s = absurd s
 
 -- a request that is gone is hung up behind it; behind all other refusals nothing is done
@@ -186,13 +196,12 @@ module _ {T : Type 0} (d : Dialogue T) (trail : List Moment) (s : State) (p : Pl
       by : Leads-to d (moment_of 0 (came_of t) before ∷ trail) (got_of s) before q → ⊥
       by (Waiting h there) = by-at r.at refl h.at there
       by (Answering x e gave) = subst IsRead e reads
-      by (Refusing x) = subst IsRead x.answer reads
+      by (Refusing x) = subst IsRead x.is reads
 
-  -- the same where nothing stands behind the refusal
-  refused-last : (ds : List Deed) (q : Place T) → Leads p.dialogue p.reads ds q.dialogue q.reads → IsLegal s (events_of ds) → ended (after_all s (events_of ds)) ≡ false →
-      (before : List Deed) (last : Deed) → ds ≡ before ++ last ∷ [] → (error : Error) → IsRefusal last.event error → q.dialogue ≡ Answer (Err error) → (q.dialogue ≡ Answer (Err OutOfMemory)) ⊎ HasGone ds
-  refused-last ds q l legal open_ before last is_last error refuses answer =
-      by-event last.event refl two.1 refuses walked.step (subst (λ (t : State). ended t ≡ false) (ap (after_all s) split ∙ after-joined s (events_of before) (last.event ∷ [])) open_)
+  -- a take or a hanging up, where nothing stands behind it
+  refused-last : (ds : List Deed) (q : Place T) → Leads p.dialogue p.reads ds q.dialogue q.reads → IsLegal s (events_of ds) →
+      (before : List Deed) (last : Deed) → ds ≡ before ++ last ∷ [] → (r : Result T Error) → Refuses last.event r → q.dialogue ≡ Answer r → (q.dialogue ≡ Answer (Err OutOfMemory)) ⊎ HasGone ds
+  refused-last ds q l legal before last is_last r refuses answer = by-event last.event refl two.1 refuses walked.step
     where
       split : events_of ds ≡ events_of before ++ last.event ∷ []
       split = ap events_of is_last ∙ map-append (λ (a : Deed). a.event) before (last ∷ [])
@@ -206,48 +215,29 @@ module _ {T : Type 0} (d : Dialogue T) (trail : List Moment) (s : State) (p : Pl
       walked : InTwo p.dialogue p.reads before last q.dialogue q.reads
       walked = in-two p.dialogue p.reads before last q.dialogue q.reads (subst (λ (L : List Deed). Leads p.dialogue p.reads L q.dialogue q.reads) is_last l)
 
-      lacked : error ≡ OutOfMemory → (q.dialogue ≡ Answer (Err OutOfMemory)) ⊎ HasGone ds
-      lacked e = inl (answer ∙ ap (λ (x : Error). Answer (Err x)) e)
+      lacked : (f : DeskFault) → r ≡ Err (of_fault f) → f ≡ fault.OutOfMemory → (q.dialogue ≡ Answer (Err OutOfMemory)) ⊎ HasGone ds
+      lacked f e is = inl (answer ∙ ap (λ (x : Result T Error). Answer x) e ∙ ap (λ (x : DeskFault). Answer (Err (of_fault x))) is)
 
-      failed-not : (a b : Bool) → (a || b) ≡ false → b ≡ true → ⊥
-      failed-not true b e f = absurd cc
-      failed-not false b e f = let no_way : true ≡ false = sym f ∙ e in absurd cc
-
-      true-not : (b : Bool) → b ≡ true → b ≡ false → ⊥
-      true-not b e f = let no_way : true ≡ false = sym e ∙ f in absurd cc
-
-      by-event : (e : Event) → last.event ≡ e → Allows mid e → IsRefusal e error → Steps last.stamp walked.mid walked.at e q.dialogue q.reads → ended (after mid e) ≡ false → (q.dialogue ≡ Answer (Err OutOfMemory)) ⊎ HasGone ds
-      by-event (Book stamp part copying (Ok id)) is a r st o = absurd r
-      by-event (Book stamp part copying (Err fault.Closed)) is a r st o = absurd (true-not (ended mid) a o)
-      by-event (Book stamp part copying (Err fault.Encode)) is a r st o = absurd a
-      by-event (Book stamp part copying (Err fault.OutOfMemory)) is a r st o = lacked r
-      by-event (TakeEvent id (Ok (taking.Batch ms))) is a r st o = absurd r
-      by-event (TakeEvent id (Ok taking.Empty)) is a r st o = absurd r
-      by-event (TakeEvent id (Ok taking.Over)) is a r st o =
+      by-event : (e : Event) → last.event ≡ e → Allows mid e → Refuses e r → Steps last.stamp walked.mid walked.at e q.dialogue q.reads → (q.dialogue ≡ Answer (Err OutOfMemory)) ⊎ HasGone ds
+      by-event (TakeEvent id (Ok (taking.Batch ms))) is a x st = absurd x
+      by-event (TakeEvent id (Ok taking.Empty)) is a x st = absurd x
+      by-event (TakeEvent id (Ok taking.Over)) is a x st =
           let there = over-there last.stamp walked.mid walked.at id q.dialogue q.reads st in
           absurd (not-over before walked.mid walked.at walked.before two.0 there.0 (a ∙ ap (take_answer mid) there.1))
-      by-event (TakeEvent id (Ok taking.Gone)) is a r st o = inr (record { before = before; last = last; behind = []; is_last = is_last; id = id; gone = is })
-      by-event (TakeEvent id (Err f)) is a r st o = lacked (r ∙ ap of_fault a)
-      by-event (HangUp id (Ok x)) is a r st o = absurd r
-      by-event (HangUp id (Err f)) is a r st o = lacked (r ∙ ap of_fault a)
-      by-event (NextStatement (Ok n)) is a r st o = absurd r
-      by-event (NextStatement (Err fault.Closed)) is a r st o = absurd (failed-not mid.closed mid.failed o a)
-      by-event (NextStatement (Err fault.Encode)) is a r st o = absurd r
-      by-event (NextStatement (Err fault.OutOfMemory)) is a r st o = lacked r
-      by-event (NextPortal (Ok n)) is a r st o = absurd r
-      by-event (NextPortal (Err fault.Closed)) is a r st o = absurd (failed-not mid.closed mid.failed o a)
-      by-event (NextPortal (Err fault.Encode)) is a r st o = absurd r
-      by-event (NextPortal (Err fault.OutOfMemory)) is a r st o = lacked r
-      by-event (NextOut x) is a r st o = absurd r
-      by-event (DeliverEvent batch complete x) is a r st o = absurd r
-      by-event (CloseRequests x) is a r st o = absurd r
-      by-event (Fail x) is a r st o = absurd r
+      by-event (TakeEvent id (Ok taking.Gone)) is a x st = inr (record { before = before; last = last; behind = []; is_last = is_last; id = id; gone = is })
+      by-event (TakeEvent id (Err f)) is a x st = lacked f x a
+      by-event (HangUp id (Ok y)) is a x st = absurd x
+      by-event (HangUp id (Err f)) is a x st = lacked f x a
+      by-event e is a x st = absurd x
 
-  -- Where an open desk refuses it, memory lacked, or its request is gone.
-  pub refused-why : (ds : List Deed) (q : Place T) → Leads p.dialogue p.reads ds q.dialogue q.reads → IsLegal s (events_of ds) → ended (after_all s (events_of ds)) ≡ false → EndsRefused ds q.dialogue →
+  -- Where a desk refuses it a take or a hanging up, memory lacked, or its request is gone.
+  pub refused-why : (ds : List Deed) (q : Place T) → Leads p.dialogue p.reads ds q.dialogue q.reads → IsLegal s (events_of ds) → EndsRefused ds q.dialogue →
       (q.dialogue ≡ Answer (Err OutOfMemory)) ⊎ HasGone ds
-  refused-why ds q l legal open_ h = by (gone-or-last h.last.event h.behind h.is_behind)
+  refused-why ds q l legal x = by (gone-or-last h.last.event h.behind h.is_behind)
     where
+      h : IsRefused ds x.answer
+      h = x.refused
+
       by : ((id : ℕ) × (h.last.event ≡ TakeEvent id (Ok taking.Gone))) ⊎ (h.behind ≡ []) → (q.dialogue ≡ Answer (Err OutOfMemory)) ⊎ HasGone ds
       by (inl (id, is)) = inr (record { before = h.before; last = h.last; behind = h.behind; is_last = h.is_last; id = id; gone = is })
-      by (inr none) = refused-last ds q l legal open_ h.before h.last (h.is_last ∙ ap (λ (l : List Deed). h.before ++ h.last ∷ l) none) h.error h.refuses h.answer
+      by (inr none) = refused-last ds q l legal h.before h.last (h.is_last ∙ ap (λ (l : List Deed). h.before ++ h.last ∷ l) none) x.answer h.refuses x.is

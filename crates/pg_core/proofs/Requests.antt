@@ -7,21 +7,22 @@ use Rattle.pg_query.specs.Requests.{asks, reads_unless}
 use Rattle.pg_query.specs.Dialogue.{Dialogue}
 use Rattle.pg_core.specs.Dialogues.{decided_after}
 use Rattle.pg_core.specs.Runs.{IsTidy}
-use Rattle.pg_core.specs.Times.{ReadsNo, IsSane, IsInTime, DecidesInTime, IsCommand}
+use Rattle.pg_core.specs.Times.{ReadsNo, IsSane, IsInTime, DecidesInTime, IsFaithful, IsCommand}
 
 record All-so {T : Type 0} (d : Dialogue T) : Type 0 where
   tidy : IsTidy d
   sane : IsSane d
   reads_no : ReadsNo d
   in_time : IsInTime d
+  faithful : IsFaithful d
 
 ends-so : {T : Type 0} (stops : Bool) (o : Option (Result T Error)) → All-so (ends stops o)
-ends-so true (Some (Ok x)) = record { tidy = (tt, tt); sane = (tt, tt); reads_no = tt; in_time = tt }
-ends-so false (Some (Ok x)) = record { tidy = tt; sane = tt; reads_no = tt; in_time = tt }
-ends-so true (Some (Err e)) = record { tidy = (tt, tt); sane = (tt, tt); reads_no = tt; in_time = tt }
-ends-so false (Some (Err e)) = record { tidy = (tt, tt); sane = (tt, tt); reads_no = tt; in_time = tt }
-ends-so true None = record { tidy = tt; sane = tt; reads_no = tt; in_time = tt }
-ends-so false None = record { tidy = tt; sane = tt; reads_no = tt; in_time = tt }
+ends-so true (Some (Ok x)) = record { tidy = (tt, tt); sane = (tt, tt); reads_no = tt; in_time = tt; faithful = tt }
+ends-so false (Some (Ok x)) = record { tidy = tt; sane = tt; reads_no = tt; in_time = tt; faithful = tt }
+ends-so true (Some (Err e)) = record { tidy = (tt, tt); sane = (tt, tt); reads_no = tt; in_time = tt; faithful = tt }
+ends-so false (Some (Err e)) = record { tidy = (tt, tt); sane = (tt, tt); reads_no = tt; in_time = tt; faithful = tt }
+ends-so true None = record { tidy = tt; sane = tt; reads_no = tt; in_time = tt; faithful = tt }
+ends-so false None = record { tidy = tt; sane = tt; reads_no = tt; in_time = tt; faithful = tt }
 
 decides-some : (decides : List RawMessage → Bool) (m : RawMessage) (ms : List RawMessage) → decides (m ∷ ms) ≡ true → (k : ℕ) × (decided_after decides (m ∷ ms) ≡ Some k)
 decides-some decides m [] e = (1, ap (λ (b : Bool). if b then Some 1 else option_map (λ n. n + 1) (decided_after (λ l. decides (m ∷ l)) [])) e)
@@ -40,15 +41,15 @@ pub request-so : {T : Type 0} (stops : Bool) (frame : List ℕ) (reading : List 
     IsCommand (asks stops frame reading)
 request-so {T} stops frame reading h = by (reading [])
   where
-    behind : (o : Option (Result T Error)) → IsTidy (reads_unless stops reading o) × (IsSane (reads_unless stops reading o) × IsInTime (reads_unless stops reading o))
-    behind (Some r) = ((tt, tt), ((tt, tt), tt))
+    behind : (o : Option (Result T Error)) → IsTidy (reads_unless stops reading o) × (IsSane (reads_unless stops reading o) × (IsInTime (reads_unless stops reading o) × IsFaithful (reads_unless stops reading o)))
+    behind (Some r) = ((tt, tt), ((tt, tt), (tt, tt)))
     behind None = (
       λ ms e. (ends-so stops (reading ms)).tidy,
       (
         λ ms e. (ends-so stops (reading ms)).sane,
-        (in-time-by (λ ms. is_some (reading ms)) h, λ ms e. (λ any. (ends-so stops (reading ms)).reads_no, (ends-so stops (reading ms)).in_time)),
+        ((in-time-by (λ ms. is_some (reading ms)) h, λ ms e. (λ any. (ends-so stops (reading ms)).reads_no, (ends-so stops (reading ms)).in_time)), λ ms. (ends-so stops (reading ms)).faithful),
       ),
     )
 
     by : (o : Option (Result T Error)) → IsCommand (asks stops frame reading)
-    by o = let b = behind (reading []) in record { tidy = b.0; nothing = tt; sane = b.1.0; reads_no = tt; in_time = b.1.1 }
+    by o = let b = behind (reading []) in record { tidy = b.0; nothing = tt; sane = b.1.0; reads_no = tt; in_time = b.1.1.0; faithful = b.1.1.1 }

@@ -1,12 +1,13 @@
 -- A command that decides in time is never told that its reply is over.
-use Rattle.std.proofs.Common.{◌≡◌, ◌⊎◌, inl, inr, ℕ, zero, suc, ◌+◌, ◌<◌, List, [], ◌∷◌, ◌++◌, length, take, drop, Bool, true, false, ◌||◌, if◌then◌else◌, Option, Some, None, refl, sym, ap, subst, ◌∙◌, arith}
+use Rattle.std.proofs.Common.{◌≡◌, ◌⊎◌, inl, inr, ℕ, zero, suc, ◌+◌, ◌<◌, List, [], ◌∷◌, ◌++◌, length, take, drop, Bool, true, false, ◌||◌, if◌then◌else◌, Option, Some, None, Result, Ok, Err, refl, sym, ap, subst, ◌∙◌, arith}
 use Rattle.std.specs.List.{list_any}
 use Rattle.std.proofs.lemmas.List.{append-nil, take-append-drop, length-take-le}
 use Rattle.pg_spec.specs.Batches.{is_batch}
 use Rattle.pg_spec.specs.RawMessages.{RawMessage, is_ready, is_aside, ends_in}
 use Rattle.pg_desk.specs.History.{Delivery, finished, between_ends, joined}
 use Rattle.pg_desk.proofs.Soundness.{AllCut}
-use Rattle.pg_query.specs.Dialogue.{Dialogue, Answer, Ask, Send, Leave, Read, HangUp, Call, Hear}
+use Rattle.pg_faults.specs.declared.error.Error.{Error}
+use Rattle.pg_query.specs.Dialogue.{Dialogue, Answer, Ask, Send, Leave, Read, Put, Finish, Close, HangUp, Call, Hear}
 use Rattle.pg_query.specs.declared.desk_call.Cleanup.{Cleanup}
 use Rattle.pg_query.specs.declared.desk_call.DeskCall.{DeskCall}
 use Rattle.pg_query.specs.declared.desk_call.Reply.{Reply}
@@ -36,13 +37,17 @@ take-more (suc n) (suc k) [] = ap (λ (m : ℕ). take {A = RawMessage} m []) (le
 take-more (suc n) k (x ∷ xs) = ap (λ (m : ℕ). take m (x ∷ xs)) (let e : suc n + k ≡ suc (n + k) = omega arith in e) ∙ ap (λ (l : List RawMessage). x ∷ l) (take-more n k xs)
 
 -- the function keeps to time
-pub in-time : {T : Type 0} (came : ℕ → List RawMessage) (at : Option ℕ) (n : ℕ) (d : Dialogue T) (rs : List Request) (qs : List (Asked DeskCall Reply)) → IsTimely came at n d →
+pub in-time : {T : Type 0} (came : ℕ → List RawMessage) (at : Option ℕ) (n : ℕ) (d : Dialogue T) (rs : List (Result Request Error)) (qs : List (Result (Asked DeskCall Reply) Error)) → IsTimely came at n d →
     IsTimely came (run came at n d rs qs).at (run came at n d rs qs).read (run came at n d rs qs).left
 in-time came at n (Answer r) rs qs h = h
 in-time came at n (Ask copying part d) [] qs h = h
-in-time came at n (Ask copying part d) (r ∷ rs) qs h = in-time came (Some r.number) 0 d rs qs (h.0, inr refl)
-in-time came at n (Send part d) [] qs h = h
-in-time came at n (Send part d) (r ∷ rs) qs h = in-time came at n d rs qs h
+in-time came at n (Ask copying part d) (Ok r ∷ rs) qs h = in-time came (Some r.number) 0 d rs qs (h.0, inr refl)
+in-time came at n (Ask copying part d) (Err e ∷ rs) qs h = (tt, inl tt)
+in-time came at n (Send part refused d) [] qs h = h
+in-time came at n (Send part refused d) (Ok r ∷ rs) qs (timely, inl reads_no) = in-time came at n d rs qs (timely.1, inl reads_no.1)
+in-time came at n (Send part refused d) (Ok r ∷ rs) qs (timely, inr none) = in-time came at n d rs qs (timely.1, inr none)
+in-time came at n (Send part refused d) (Err e ∷ rs) qs (timely, inl reads_no) = in-time came at n (refused e) rs qs (timely.0 e, inl (reads_no.0 e))
+in-time came at n (Send part refused d) (Err e ∷ rs) qs (timely, inr none) = in-time came at n (refused e) rs qs (timely.0 e, inr none)
 in-time came at n (Leave id d) rs qs h = in-time came at n d rs qs h
 in-time came at n (Read cleanup decides next) rs qs (timely, inl no_read) = absurd no_read
 in-time {T} came at n (Read cleanup decides next) rs qs (timely, inr none) =
@@ -69,20 +74,27 @@ in-time {T} came at n (Read cleanup decides next) rs qs (timely, inr none) =
         IsTimely came (chosen o).at (chosen o).read (chosen o).left
     by None e h = (timely, inr none)
     by (Some k) e h = h k (after_k k e)
+in-time came at n (Put cleanup part d) rs qs h = absurd h.0
+in-time came at n (Finish part d) rs qs h = absurd h.0
+in-time came at n (Close part d) rs qs h = absurd h.0
 in-time came at n (HangUp d) rs qs h = in-time came at n d rs qs h
-in-time came at n (Call q next) rs [] h = h
-in-time came at n (Call q next) rs (a ∷ qs) (timely, inl no_read) = in-time came at n (next a.reply) rs qs (timely a.reply, inl (no_read a.reply))
-in-time came at n (Call q next) rs (a ∷ qs) (timely, inr none) = in-time came at n (next a.reply) rs qs (timely a.reply, inr none)
+in-time came at n (Call q refused next) rs [] h = h
+in-time came at n (Call q refused next) rs (Ok a ∷ qs) (timely, inl reads_no) = in-time came at n (next a.reply) rs qs (timely.1 a.reply, inl (reads_no.1 a.reply))
+in-time came at n (Call q refused next) rs (Ok a ∷ qs) (timely, inr none) = in-time came at n (next a.reply) rs qs (timely.1 a.reply, inr none)
+in-time came at n (Call q refused next) rs (Err e ∷ qs) (timely, inl reads_no) = in-time came at n (refused e) rs qs (timely.0 e, inl (reads_no.0 e))
+in-time came at n (Call q refused next) rs (Err e ∷ qs) (timely, inr none) = in-time came at n (refused e) rs qs (timely.0 e, inr none)
 in-time came at n (Hear next) rs qs h = h
 
 -- where it reads, what came decides nothing
-pub undecided : {T : Type 0} (came : ℕ → List RawMessage) (at : Option ℕ) (n : ℕ) (d : Dialogue T) (rs : List Request) (qs : List (Asked DeskCall Reply)) →
+pub undecided : {T : Type 0} (came : ℕ → List RawMessage) (at : Option ℕ) (n : ℕ) (d : Dialogue T) (rs : List (Result Request Error)) (qs : List (Result (Asked DeskCall Reply) Error)) →
     IsUndecided came (run came at n d rs qs).at (run came at n d rs qs).read (run came at n d rs qs).left
 undecided came at n (Answer r) rs qs = tt
 undecided came at n (Ask copying part d) [] qs = tt
-undecided came at n (Ask copying part d) (r ∷ rs) qs = undecided came (Some r.number) 0 d rs qs
-undecided came at n (Send part d) [] qs = tt
-undecided came at n (Send part d) (r ∷ rs) qs = undecided came at n d rs qs
+undecided came at n (Ask copying part d) (Ok r ∷ rs) qs = undecided came (Some r.number) 0 d rs qs
+undecided came at n (Ask copying part d) (Err e ∷ rs) qs = tt
+undecided came at n (Send part refused d) [] qs = tt
+undecided came at n (Send part refused d) (Ok r ∷ rs) qs = undecided came at n d rs qs
+undecided came at n (Send part refused d) (Err e ∷ rs) qs = undecided came at n (refused e) rs qs
 undecided came at n (Leave id d) rs qs = undecided came at n d rs qs
 undecided {T} came at n (Read cleanup decides next) rs qs =
     by (decided_after decides (drop n (of_request came at))) refl (λ k. undecided came at (n + k) (next (take k (drop n (of_request came at)))) rs qs)
@@ -95,9 +107,13 @@ undecided {T} came at n (Read cleanup decides next) rs qs =
         IsUndecided came (chosen o).at (chosen o).read (chosen o).left
     by None e h = e
     by (Some k) e h = h k
+undecided came at n (Put cleanup part d) rs qs = tt
+undecided came at n (Finish part d) rs qs = tt
+undecided came at n (Close part d) rs qs = tt
 undecided came at n (HangUp d) rs qs = undecided came at n d rs qs
-undecided came at n (Call q next) rs [] = tt
-undecided came at n (Call q next) rs (a ∷ qs) = undecided came at n (next a.reply) rs qs
+undecided came at n (Call q refused next) rs [] = tt
+undecided came at n (Call q refused next) rs (Ok a ∷ qs) = undecided came at n (next a.reply) rs qs
+undecided came at n (Call q refused next) rs (Err e ∷ qs) = undecided came at n (refused e) rs qs
 undecided came at n (Hear next) rs qs = tt
 
 -- ---- a group that ended

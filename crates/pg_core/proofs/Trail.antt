@@ -18,9 +18,9 @@ use Rattle.pg_core.specs.Dialogues.{Dialogue, Reads}
 use Rattle.pg_core.proofs.Walk.{Step, is_delivered, may_read, with_parts, goes}
 use Rattle.pg_core.proofs.Living.{Went, went}
 use Rattle.pg_query.proofs.RequestLaws.{Leads}
-use Rattle.pg_core.specs.Deeds.{Serves, requests_in, asked_in, got_after}
+use Rattle.pg_core.specs.Deeds.{Serves, bookings_in, answers_in, got_after, granted}
 use Rattle.pg_core.specs.Runs as runs
-use Rattle.pg_core.specs.Runs.{Ran, of_request, stays, run, ReadsNothing, IsTidy, At, Holds, Ends, Answered, Waits, Stands, Comes}
+use Rattle.pg_core.specs.Runs.{Ran, of_request, run, ReadsNothing, IsTidy, At, Holds, Ends, Answered, Waits, Stands, Comes}
 use Rattle.pg_core.specs.Outcomes.{asked}
 use Rattle.pg_core.specs.Trails.{point_of, Moment, goes_on, ran_by, AreMet, IsRunning, moment_of, Leads-to, Waiting, Answering, Refusing, PollsOn, NoneBetween, IsTurnOf, AreTurnsOf, begun_at}
 use Rattle.pg_core.proofs.Core.{comes}
@@ -88,11 +88,11 @@ plainly course handle at d s w = record { stuck = w.stuck; unfolds = w.unfolds [
 
 -- one turn, by the law of one turn
 turn-went : {T : Type 0} (tells : List DeskCall → DeskCall → Reply) (course : Course DeskCall Reply) (who : Who) (d : code.Dialogue T) (m : Moment) (before : List Moment) → IsTurnOf tells course who d before m →
-    (goes_on (ran_by d before) m).asked ≡ m.asked →
+    (goes_on (ran_by d before) m).asked ≡ granted m.answers →
     WentSo course who.handle (point_of m.place (ran_by d before)) (asked (ran_by d before).left) (step_of m.place (goes_on (ran_by d before) m))
 turn-went {T} tells course who d m before t same =
     subst (λ (s : Plain T). WentSo course who.handle (point_of m.place (ran_by d before)) (asked (ran_by d before).left) s)
-    (goes-so tells course who m.place m.came t.came 0 t.number t.former (ran_by d before).at (ran_by d before).read (ran_by d before).left m.requests m.asked t.within t.numbered t.told same t.settled)
+    (goes-so tells course who m.place m.came t.came 0 t.number t.former (ran_by d before).at (ran_by d before).read (ran_by d before).left m.bookings m.answers t.within t.booked t.answered t.numbered t.told same t.settled)
     (plainly course who.handle (point_of m.place (ran_by d before)) (asked (ran_by d before).left)
     (goes tells course who t.number t.former (point_of m.place (ran_by d before)) (asked (ran_by d before).left) 0)
     (went tells course who t.number t.former (point_of m.place (ran_by d before)) (asked (ran_by d before).left) 0 t.own))
@@ -119,10 +119,13 @@ from-former {T} course handle former next s (code.Read cleanup decides next_d) i
         by false e = absurd (none p (grind (arith, nat_tests, e)) before mine)
 from-former course handle former next s (code.Answer r) is reads lt none stuck more others given u = absurd reads
 from-former course handle former next s (code.Ask copying part d) is reads lt none stuck more others given u = absurd reads
-from-former course handle former next s (code.Send part d) is reads lt none stuck more others given u = absurd reads
+from-former course handle former next s (code.Send part refused d) is reads lt none stuck more others given u = absurd reads
 from-former course handle former next s (code.Leave id d) is reads lt none stuck more others given u = absurd reads
+from-former course handle former next s (code.Put cleanup part d) is reads lt none stuck more others given u = absurd reads
+from-former course handle former next s (code.Finish part d) is reads lt none stuck more others given u = absurd reads
+from-former course handle former next s (code.Close part d) is reads lt none stuck more others given u = absurd reads
 from-former course handle former next s (code.HangUp d) is reads lt none stuck more others given u = absurd reads
-from-former course handle former next s (code.Call q next_d) is reads lt none stuck more others given u = absurd reads
+from-former course handle former next s (code.Call q refused next_d) is reads lt none stuck more others given u = absurd reads
 from-former course handle former next s (code.Hear next_d) is reads lt none stuck more others given u = absurd reads
 
 carried : {T : Type 0} (tells : List DeskCall → DeskCall → Reply) (course : Course DeskCall Reply) (who : Who) (d : code.Dialogue T) (m : Moment) (before : List Moment) → AreTurnsOf tells course who d (m ∷ before) → AreMet d (m ∷ before) →
@@ -193,12 +196,12 @@ polled {T} d trail came got p place ds q h front l serves = record {
     s : Ran T
     s = ran_by d trail
 
-    c : Comes came got (run came s.at s.read s.left (requests_in ds) (asked_in ds)) ds q.dialogue q.reads
+    c : Comes came got (run came s.at s.read s.left (bookings_in ds) (answers_in ds)) ds q.dialogue q.reads
     c = comes came got s.at s.read (drop s.read (of_request got s.at)) s.left p.reads ds q.dialogue q.reads h.tidy h.at (held came got s.at s.read h.within front)
         (subst (λ (x : code.Dialogue T). Leads x p.reads ds q.dialogue q.reads) h.place l) serves
 
     r : Ran T
-    r = run came s.at s.read s.left (requests_in ds) (asked_in ds)
+    r = run came s.at s.read s.left (bookings_in ds) (answers_in ds)
 
     by : Ends came got ds q.dialogue q.reads → Stands came r ds q.dialogue q.reads → Leads-to d (moment_of place came ds ∷ trail) got ds q
     by ends (runs.Gave x is left) = Answering x is left

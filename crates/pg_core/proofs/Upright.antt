@@ -9,11 +9,14 @@ use Rattle.pg_faults.specs.declared.error.Error.TheVariants.{OutOfMemory}
 use Rattle.pg_query.specs.Dialogue.{Dialogue, Answer}
 use Rattle.pg_query.specs.Lives.{Deed}
 use Rattle.pg_query.specs.Meaning.{Place}
+use Rattle.pg_query.specs.Scripts.{IsRead}
 use Rattle.pg_query.proofs.RequestLaws.{Leads}
+use Rattle.pg_core.specs.Deeds.{bookings_in, answers_in, AreGranted}
 use Rattle.pg_core.specs.Lists.{events_of, came_of, got_of, state_behind, IsReached, SparesAll}
 use Rattle.pg_core.specs.Runs.{of_request, At}
-use Rattle.pg_core.specs.Times.{Fits, IsTimely, HangsUpNone, IsCommand, IsUpright, TurnedWell, StaysUpright, AnsweredWell, LackedMemory}
+use Rattle.pg_core.specs.Times.{Fits, IsTimely, HangsUpNone, IsCommand, IsFaithful, IsUpright, TurnedWell, StaysUpright, AnsweredWell, LackedMemory}
 use Rattle.pg_core.specs.Trails.{Moment, ran_by, IsRunning, moment_of, Turned, RunsOn, HasAnswered, WasRefused, PollEnds, OwnTurn}
+use Rattle.pg_core.proofs.Faithful.{granted-or-lacks}
 use Rattle.pg_core.proofs.Gone.{IsNotGone, NoneGone, Stays, none-gone, none-hung, fits-on, fits-none}
 use Rattle.pg_core.proofs.Refused.{HasGone, refused-why, timely-as, timely-back}
 use Rattle.pg_core.proofs.Steps.{own-turn, others-turn, reached-on, taken-within, spared}
@@ -30,6 +33,7 @@ upright-begins {T} d s p h is reached = record {
   runs = begins d (got_of s) p is h.tidy h.nothing;
   timely = (h.in_time, inr refl);
   fits = subst (λ (x : Dialogue T). Fits s x p.reads) (sym is) (fits-none s d p.reads h.sane h.reads_no);
+  faithful = subst (λ (x : Dialogue T). IsFaithful x) (sym is) h.faithful;
 }
 
 pub upright-turn : {T : Type 0} (d : Dialogue T) (place : ℕ) (trail : List Moment) (s : State) (p : Place T) (ds : List Deed) (q : Place T) → IsUpright d trail s p → Leads p.dialogue p.reads ds q.dialogue q.reads →
@@ -55,8 +59,9 @@ upright-turn {T} d place trail s p ds q h l legal whole open_ ends = (turn, by t
     walked : Stays s ds q.dialogue q.reads
     walked = none-gone s p.dialogue p.reads ds q.dialogue q.reads h.fits (none-hung s h.reached) whole legal l
 
-    by : Turned d trail' t ds q → TurnedWell d trail' t q
-    by (RunsOn runs reads) = StaysUpright (record {
+    stays : IsRunning d trail' (got_of t) q → IsRead (ran_by d trail').left → (AreGranted (bookings_in ds) × (AreGranted (answers_in ds) × IsFaithful q.dialogue)) ⊎ (q.dialogue ≡ Answer (Err OutOfMemory)) → TurnedWell d trail' t q
+    stays runs reads (inr e) = LackedMemory e
+    stays runs reads (inl g) = StaysUpright (record {
       reached = reached-on s (kept (events_of ds)) h.reached stored;
       runs = runs;
       timely = timely-back (got_of t) (came_of t) (ran_by d trail').at (ran_by d trail').read (ran_by d trail').left
@@ -64,9 +69,13 @@ upright-turn {T} d place trail s p ds q h l legal whole open_ ends = (turn, by t
           (in-time (came_of t) (ran_by d trail).at (ran_by d trail).read (ran_by d trail).left _ _
           (timely-as (got_of s) (came_of t) (ran_by d trail).at (ran_by d trail).read (ran_by d trail).left (taken-within s (kept (events_of ds)) (ran_by d trail).at h.reached) h.runs.within h.timely));
       fits = subst (λ (x : State). Fits x q.dialogue q.reads) (sym part) walked.fits;
+      faithful = g.1.1;
     }) reads
+
+    by : Turned d trail' t ds q → TurnedWell d trail' t q
+    by (RunsOn runs reads) = stays runs reads (granted-or-lacks s p ds q h.faithful l legal open_ ends)
     by (HasAnswered r e is) = AnsweredWell r e is
-    by (WasRefused r) = why (refused-why d trail s p h.reached h.runs h.timely ds q l legal open_ r)
+    by (WasRefused r) = why (refused-why d trail s p h.reached h.runs h.timely ds q l legal r)
       where
         why : (q.dialogue ≡ Answer (Err OutOfMemory)) ⊎ HasGone ds → TurnedWell d trail' t q
         why (inl e) = LackedMemory e
@@ -79,6 +88,7 @@ upright-others {T} d trail s p L h legal spares none = record {
   runs = runs;
   timely = timely;
   fits = fits-on s p.dialogue p.reads L none h.fits;
+  faithful = h.faithful;
 }
   where
     t : State

@@ -1,6 +1,6 @@
 -- What a command's own events say: what it booked, what it was told, and what it took of each request.
-use Rattle.std.specs.Prelude.{◌≡◌, ℕ, ◌==◌, List, [], ◌∷◌, ◌++◌, if◌then◌else◌, Ok, Err}
-use Rattle.pg_query.specs.Requests.{IsBehind}
+use Rattle.std.specs.Prelude.{◌≡◌, ℕ, ◌==◌, List, [], ◌∷◌, ◌++◌, if◌then◌else◌, Result, Ok, Err}
+use Rattle.pg_query.specs.Requests.{IsRefused}
 use Rattle.pg_spec.specs.RawMessages.{RawMessage}
 use Rattle.pg_desk.specs.History.{IsFrontOf}
 use Rattle.pg_spec.specs.declared.stamps.Stamp.{Stamp}
@@ -9,7 +9,6 @@ use Rattle.pg_desk.specs.declared.event.Take.TheVariants as taking
 use Rattle.pg_desk.specs.declared.event.Event.{Event}
 use Rattle.pg_desk.specs.declared.event.Event.TheVariants as call
 use Rattle.pg_faults.specs.declared.error.Error.{Error}
-use Rattle.pg_faults.specs.declared.error.Error.TheVariants.{Closed}
 use Rattle.pg_query.specs.Faults.{of_fault}
 use Rattle.pg_query.specs.Dialogue.{Dialogue, Answer}
 use Rattle.pg_query.specs.Lives.{Deed}
@@ -19,28 +18,51 @@ use Rattle.pg_query.specs.declared.desk_call.Reply.{Reply}
 use Rattle.pg_query.specs.declared.desk_call.Reply.TheVariants as reply
 use Rattle.pg_core.specs.Courses.{Asked, Request}
 
--- what an event books
-abbrev pub booked_by : Event → List Request
-booked_by (call.Book stamp part copying (Ok new)) = record { number = new; booking = record { stamp = stamp; parts = part ∷ [] } } ∷ []
+-- what became of a booking that an event tells of: the request, or why there is none
+abbrev pub booked_by : Event → List (Result Request Error)
+booked_by (call.Book stamp part copying (Ok new)) = Ok (record { number = new; booking = record { stamp = stamp; parts = part ∷ [] } }) ∷ []
+booked_by (call.Book stamp part copying (Err f)) = Err (of_fault f) ∷ []
 booked_by _ = []
 
--- what all of them book, in order
-abbrev pub requests_in : List Deed → List Request
-requests_in [] = []
-requests_in (a ∷ ds) = booked_by a.event ++ requests_in ds
+-- all of them, in order
+abbrev pub bookings_in : List Deed → List (Result Request Error)
+bookings_in [] = []
+bookings_in (a ∷ ds) = booked_by a.event ++ bookings_in ds
 
--- what a desk tells by an event
-abbrev pub told_by : Stamp → Event → List (Asked DeskCall Reply)
-told_by stamp (call.NextStatement (Ok n)) = record { stamp = stamp; question = desk_call.NextStatement; reply = reply.Number n } ∷ []
-told_by stamp (call.NextStatement (Err fault.Encode)) = record { stamp = stamp; question = desk_call.NextStatement; reply = reply.Spent } ∷ []
-told_by stamp (call.NextPortal (Ok n)) = record { stamp = stamp; question = desk_call.NextPortal; reply = reply.Number n } ∷ []
-told_by stamp (call.NextPortal (Err fault.Encode)) = record { stamp = stamp; question = desk_call.NextPortal; reply = reply.Spent } ∷ []
+-- what a desk tells by an event, or why it doesn't
+abbrev pub told_by : Stamp → Event → List (Result (Asked DeskCall Reply) Error)
+told_by stamp (call.NextStatement (Ok n)) = Ok (record { stamp = stamp; question = desk_call.NextStatement; reply = reply.Number n }) ∷ []
+told_by stamp (call.NextStatement (Err fault.Encode)) = Ok (record { stamp = stamp; question = desk_call.NextStatement; reply = reply.Spent }) ∷ []
+told_by stamp (call.NextStatement (Err f)) = Err (of_fault f) ∷ []
+told_by stamp (call.NextPortal (Ok n)) = Ok (record { stamp = stamp; question = desk_call.NextPortal; reply = reply.Number n }) ∷ []
+told_by stamp (call.NextPortal (Err fault.Encode)) = Ok (record { stamp = stamp; question = desk_call.NextPortal; reply = reply.Spent }) ∷ []
+told_by stamp (call.NextPortal (Err f)) = Err (of_fault f) ∷ []
 told_by stamp _ = []
 
 -- what it tells by all of them, in order
+abbrev pub answers_in : List Deed → List (Result (Asked DeskCall Reply) Error)
+answers_in [] = []
+answers_in (a ∷ ds) = told_by a.stamp a.event ++ answers_in ds
+
+-- those that weren't refused
+abbrev pub granted : {A : Type 0} → List (Result A Error) → List A
+granted [] = []
+granted (Ok x ∷ xs) = x ∷ granted xs
+granted (Err e ∷ xs) = granted xs
+
+-- none was refused
+abbrev pub AreGranted : {A : Type 0} → List (Result A Error) → Type 0
+AreGranted [] = Unit {0}
+AreGranted (Ok x ∷ xs) = AreGranted xs
+AreGranted (Err e ∷ xs) = ⊥
+
+-- the requests that they booked, in order
+abbrev pub requests_in : List Deed → List Request
+requests_in ds = granted (bookings_in ds)
+
+-- what they asked and were told, in order
 abbrev pub asked_in : List Deed → List (Asked DeskCall Reply)
-asked_in [] = []
-asked_in (a ∷ ds) = told_by a.stamp a.event ++ asked_in ds
+asked_in ds = granted (answers_in ds)
 
 -- what an event takes of a request
 abbrev pub taken_from : (request : ℕ) → Event → List RawMessage
@@ -63,29 +85,11 @@ abbrev pub Serves : (came got : ℕ → List RawMessage) → List Deed → Type 
 Serves came got [] = Unit {0}
 Serves came got (a ∷ ds) = ServedBy came got a.event × Serves came (λ j. got j ++ taken_from j a.event) ds
 
--- an event by which a desk refuses, and the error that is answered then
-abbrev pub IsRefusal : Event → Error → Type 0
-IsRefusal (call.Book stamp part copying (Err f)) e = e ≡ of_fault f
-IsRefusal (call.Take id (Ok taking.Over)) e = e ≡ Closed
-IsRefusal (call.Take id (Ok taking.Gone)) e = e ≡ Closed
-IsRefusal (call.Take id (Err f)) e = e ≡ of_fault f
-IsRefusal (call.HangUp id (Err f)) e = e ≡ of_fault f
-IsRefusal (call.NextStatement (Err fault.Encode)) e = ⊥
-IsRefusal (call.NextStatement (Err f)) e = e ≡ of_fault f
-IsRefusal (call.NextPortal (Err fault.Encode)) e = ⊥
-IsRefusal (call.NextPortal (Err f)) e = e ≡ of_fault f
-IsRefusal _ e = ⊥
-
--- The last event refuses, or the last before a request that is gone was hung up, and that is the answer.
+-- A take or a hanging up was refused, and that is the answer.
 pub record EndsRefused {T : Type 0} (ds : List Deed) (q : Dialogue T) : Type 0 where
-  pub before : List Deed
-  pub last : Deed
-  pub behind : List Deed
-  pub is_last : ds ≡ before ++ last ∷ behind
-  pub is_behind : IsBehind last.event behind
-  pub error : Error
-  pub refuses : IsRefusal last.event error
-  pub answer : q ≡ Answer (Err error)
+  pub answer : Result T Error
+  pub is : q ≡ Answer answer
+  pub refused : IsRefused ds answer
 
 -- a request that is booked is new
 abbrev pub NewBy : (got : ℕ → List RawMessage) → Event → Type 0

@@ -1,8 +1,8 @@
 -- A stretch of a command as a function of what came, of the numbers that it was given and of what it was told.
-use Rattle.std.specs.Prelude.{◌≡◌, ℕ, ◌+◌, ◌≤◌, List, [], ◌∷◌, ◌++◌, length, take, drop, Option, Some, None, Result}
+use Rattle.std.specs.Prelude.{◌≡◌, ℕ, ◌+◌, ◌≤◌, List, [], ◌∷◌, ◌++◌, length, take, drop, Option, Some, None, Result, Ok, Err}
 use Rattle.pg_spec.specs.RawMessages.{RawMessage}
 use Rattle.pg_faults.specs.declared.error.Error.{Error}
-use Rattle.pg_query.specs.Dialogue.{Dialogue, Answer, Ask, Send, Leave, Read, HangUp, Call, Hear, feed}
+use Rattle.pg_query.specs.Dialogue.{Dialogue, Answer, Ask, Send, Leave, Read, Put, Finish, Close, HangUp, Call, Hear, feed}
 use Rattle.pg_query.specs.Lives.{Deed}
 use Rattle.pg_query.specs.Scripts.{IsRead}
 use Rattle.pg_query.specs.declared.desk_call.DeskCall.{DeskCall}
@@ -44,44 +44,56 @@ book_first r s = record { requests = r ∷ s.requests; asked = s.asked; at = s.a
 abbrev pub ask_first : {T : Type 0} → Asked DeskCall Reply → Ran T → Ran T
 ask_first a s = record { requests = s.requests; asked = a ∷ s.asked; at = s.at; read = s.read; left = s.left }
 
--- As far as what came lets it. Of the next requests it takes numbers and stamps, of the next questions stamps and replies; it writes the parts
--- and the questions itself.
-abbrev pub run : {T : Type 0} → (came : ℕ → List RawMessage) → Option ℕ → ℕ → Dialogue T → List Request → List (Asked DeskCall Reply) → Ran T
-run came at n (Answer r) rs qs = stays at n (Answer r)
+-- As far as what came lets it. Of the next bookings it takes numbers and stamps, of the next questions stamps and replies, or why they
+-- were refused; it writes the parts and the questions itself. (No part of a copy is put yet.)
+abbrev pub run : {T : Type 0} → (came : ℕ → List RawMessage) → Option ℕ → ℕ → Dialogue T → List (Result Request Error) → List (Result (Asked DeskCall Reply) Error) → Ran T
+run came at n (Answer r) bs qs = stays at n (Answer r)
 run came at n (Ask copying part d) [] qs = stays at n (Ask copying part d)
-run came at n (Ask copying part d) (r ∷ rs) qs = book_first (of_part r part) (run came (Some r.number) 0 d rs qs)
-run came at n (Send part d) [] qs = stays at n (Send part d)
-run came at n (Send part d) (r ∷ rs) qs = book_first (of_part r part) (run came at n d rs qs)
-run came at n (Leave id d) rs qs = run came at n d rs qs
-run came at n (Read cleanup decides next) rs qs = elim (decided_after decides (drop n (of_request came at))) [
+run came at n (Ask copying part d) (Ok r ∷ bs) qs = book_first (of_part r part) (run came (Some r.number) 0 d bs qs)
+run came at n (Ask copying part d) (Err e ∷ bs) qs = stays at n (Answer (Err e))
+run came at n (Send part refused d) [] qs = stays at n (Send part refused d)
+run came at n (Send part refused d) (Ok r ∷ bs) qs = book_first (of_part r part) (run came at n d bs qs)
+run came at n (Send part refused d) (Err e ∷ bs) qs = run came at n (refused e) bs qs
+run came at n (Leave id d) bs qs = run came at n d bs qs
+run came at n (Read cleanup decides next) bs qs = elim (decided_after decides (drop n (of_request came at))) [
   | None ↦ stays at n (Read cleanup decides next)
-  | Some k ↦ run came at (n + k) (next (take k (drop n (of_request came at)))) rs qs
+  | Some k ↦ run came at (n + k) (next (take k (drop n (of_request came at)))) bs qs
 ]
-run came at n (HangUp d) rs qs = run came at n d rs qs
-run came at n (Call q next) rs [] = stays at n (Call q next)
-run came at n (Call q next) rs (a ∷ qs) = ask_first (of_question a q) (run came at n (next a.reply) rs qs)
-run came at n (Hear next) rs qs = stays at n (Hear next)
+run came at n (Put cleanup part d) bs qs = stays at n (Put cleanup part d)
+run came at n (Finish part d) bs qs = stays at n (Finish part d)
+run came at n (Close part d) bs qs = stays at n (Close part d)
+run came at n (HangUp d) bs qs = run came at n d bs qs
+run came at n (Call q refused next) bs [] = stays at n (Call q refused next)
+run came at n (Call q refused next) bs (Ok a ∷ qs) = ask_first (of_question a q) (run came at n (next a.reply) bs qs)
+run came at n (Call q refused next) bs (Err e ∷ qs) = run came at n (refused e) bs qs
+run came at n (Hear next) bs qs = stays at n (Hear next)
 
 -- before its first request a command reads and hangs up nothing
 abbrev pub ReadsNothing : {T : Type 0} → Dialogue T → Type 0
 ReadsNothing (Answer r) = Unit {0}
 ReadsNothing (Ask copying part d) = Unit {0}
-ReadsNothing (Send part d) = ReadsNothing d
+ReadsNothing (Send part refused d) = ((e : Error) → ReadsNothing (refused e)) × ReadsNothing d
 ReadsNothing (Leave id d) = ReadsNothing d
 ReadsNothing (Read cleanup decides next) = ⊥
+ReadsNothing (Put cleanup part d) = ⊥
+ReadsNothing (Finish part d) = ⊥
+ReadsNothing (Close part d) = ⊥
 ReadsNothing (HangUp d) = ⊥
-ReadsNothing (Call q next) = (r : Reply) → ReadsNothing (next r)
+ReadsNothing (Call q refused next) = ((e : Error) → ReadsNothing (refused e)) × ((r : Reply) → ReadsNothing (next r))
 ReadsNothing (Hear next) = ⊥
 
--- Behind a hang-up nothing is read before the next request is booked.
+-- Behind a hang-up nothing is read before the next request is booked. No part of a copy is put: desks take none yet.
 abbrev pub IsTidy : {T : Type 0} → Dialogue T → Type 0
 IsTidy (Answer r) = Unit {0}
 IsTidy (Ask copying part d) = IsTidy d
-IsTidy (Send part d) = IsTidy d
+IsTidy (Send part refused d) = ((e : Error) → IsTidy (refused e)) × IsTidy d
 IsTidy (Leave id d) = IsTidy d
 IsTidy (Read cleanup decides next) = (ms : List RawMessage) → decided_after decides ms ≡ Some (length ms) → IsTidy (next ms)
+IsTidy (Put cleanup part d) = ⊥
+IsTidy (Finish part d) = ⊥
+IsTidy (Close part d) = ⊥
 IsTidy (HangUp d) = ReadsNothing d × IsTidy d
-IsTidy (Call q next) = (r : Reply) → IsTidy (next r)
+IsTidy (Call q refused next) = ((e : Error) → IsTidy (refused e)) × ((r : Reply) → IsTidy (next r))
 IsTidy (Hear next) = Unit {0}
 
 -- a place reads this request, or none yet

@@ -5,7 +5,7 @@ use Rattle.pg_spec.specs.RawMessages.{RawMessage, is_ready, ends_in}
 use Rattle.pg_desk.specs.History.{State, is_hung_up}
 use Rattle.pg_desk.specs.declared.event.Event.{Event}
 use Rattle.pg_desk.specs.declared.event.Event.TheVariants as call
-use Rattle.pg_query.specs.Dialogue.{Dialogue, Answer, Ask, Send, Leave, Read, HangUp, Call, Hear}
+use Rattle.pg_query.specs.Dialogue.{Dialogue, Answer, Ask, Send, Leave, Read, Put, Finish, Close, HangUp, Call, Hear}
 use Rattle.pg_query.specs.Lives.{Deed}
 use Rattle.pg_query.specs.declared.desk_call.Reply.{Reply}
 use Rattle.pg_core.specs.Dialogues.{decided_after}
@@ -21,11 +21,14 @@ use Rattle.pg_core.specs.Trails.{Moment, IsRunning, ran_by}
 abbrev pub ReadsNo : {T : Type 0} → Dialogue T → Type 0
 ReadsNo (Answer r) = Unit {0}
 ReadsNo (Ask copying part d) = Unit {0}
-ReadsNo (Send part d) = ReadsNo d
+ReadsNo (Send part refused d) = ((e : Error) → ReadsNo (refused e)) × ReadsNo d
 ReadsNo (Leave id d) = ReadsNo d
 ReadsNo (Read cleanup decides next) = ⊥
+ReadsNo (Put cleanup part d) = ⊥
+ReadsNo (Finish part d) = ⊥
+ReadsNo (Close part d) = ⊥
 ReadsNo (HangUp d) = ReadsNo d
-ReadsNo (Call q next) = (r : Reply) → ReadsNo (next r)
+ReadsNo (Call q refused next) = ((e : Error) → ReadsNo (refused e)) × ((r : Reply) → ReadsNo (next r))
 ReadsNo (Hear next) = Unit {0}
 
 -- messages that end in a ReadyForQuery decide
@@ -36,11 +39,14 @@ DecidesInTime decides = (ms : List RawMessage) → ends_in is_ready ms ≡ true 
 abbrev pub IsInTime : {T : Type 0} → Dialogue T → Type 0
 IsInTime (Answer r) = Unit {0}
 IsInTime (Ask copying part d) = IsInTime d
-IsInTime (Send part d) = IsInTime d
+IsInTime (Send part refused d) = ((e : Error) → IsInTime (refused e)) × IsInTime d
 IsInTime (Leave id d) = IsInTime d
 IsInTime (Read cleanup decides next) = DecidesInTime decides × ((ms : List RawMessage) → decided_after decides ms ≡ Some (length ms) → (list_any is_ready ms ≡ true → ReadsNo (next ms)) × IsInTime (next ms))
+IsInTime (Put cleanup part d) = ⊥
+IsInTime (Finish part d) = ⊥
+IsInTime (Close part d) = ⊥
 IsInTime (HangUp d) = IsInTime d
-IsInTime (Call q next) = (r : Reply) → IsInTime (next r)
+IsInTime (Call q refused next) = ((e : Error) → IsInTime (refused e)) × ((r : Reply) → IsInTime (next r))
 IsInTime (Hear next) = Unit {0}
 
 -- where it stands it is in time: no ReadyForQuery is among what it read, or it reads nothing
@@ -51,11 +57,14 @@ IsTimely came at n d = IsInTime d × (ReadsNo d ⊎ (list_any is_ready (take n (
 abbrev pub IsSane : {T : Type 0} → Dialogue T → Type 0
 IsSane (Answer r) = Unit {0}
 IsSane (Ask copying part d) = IsSane d
-IsSane (Send part d) = IsSane d
+IsSane (Send part refused d) = ((e : Error) → IsSane (refused e)) × IsSane d
 IsSane (Leave id d) = ⊥
 IsSane (Read cleanup decides next) = (ms : List RawMessage) → decided_after decides ms ≡ Some (length ms) → IsSane (next ms)
+IsSane (Put cleanup part d) = ⊥
+IsSane (Finish part d) = ⊥
+IsSane (Close part d) = ⊥
 IsSane (HangUp d) = ReadsNo d × IsSane d
-IsSane (Call q next) = (r : Reply) → IsSane (next r)
+IsSane (Call q refused next) = ((e : Error) → IsSane (refused e)) × ((r : Reply) → IsSane (next r))
 IsSane (Hear next) = Unit {0}
 
 -- the request that is read is booked, and nobody hung it up
@@ -68,11 +77,36 @@ abbrev pub Fits : {T : Type 0} → State → Dialogue T → ℕ → Type 0
 Fits s (Leave sent d) id = IsSane d × (ReadsNo d ⊎ (IsThere s id × (sent ≢ id)))
 Fits s (Answer r) id = Unit {0}
 Fits s (Ask copying part d) id = IsSane d
-Fits s (Send part d) id = IsSane d × (ReadsNo d ⊎ IsThere s id)
+Fits s (Send part refused d) id = IsSane (Send part refused d) × (ReadsNo (Send part refused d) ⊎ IsThere s id)
 Fits s (Read cleanup decides next) id = IsSane (Read cleanup decides next) × IsThere s id
+Fits s (Put cleanup part d) id = ⊥
+Fits s (Finish part d) id = ⊥
+Fits s (Close part d) id = ⊥
 Fits s (HangUp d) id = ReadsNo d × IsSane d
-Fits s (Call q next) id = ((r : Reply) → IsSane (next r)) × (((r : Reply) → ReadsNo (next r)) ⊎ IsThere s id)
+Fits s (Call q refused next) id = IsSane (Call q refused next) × (ReadsNo (Call q refused next) ⊎ IsThere s id)
 Fits s (Hear next) id = Unit {0}
+
+-- where memory lacked it reads and asks nothing more, and answers that
+abbrev pub LacksMemory : {T : Type 0} → Dialogue T → Type 0
+LacksMemory (Answer r) = r ≡ Err OutOfMemory
+LacksMemory (Send part refused d) = LacksMemory (refused OutOfMemory) × LacksMemory d
+LacksMemory (Leave id d) = LacksMemory d
+LacksMemory (HangUp d) = LacksMemory d
+LacksMemory _ = ⊥
+
+-- Where a request that it sends, or a question, is refused for want of memory, it answers that.
+abbrev pub IsFaithful : {T : Type 0} → Dialogue T → Type 0
+IsFaithful (Answer r) = Unit {0}
+IsFaithful (Ask copying part d) = IsFaithful d
+IsFaithful (Send part refused d) = LacksMemory (refused OutOfMemory) × IsFaithful d
+IsFaithful (Leave id d) = IsFaithful d
+IsFaithful (Read cleanup decides next) = (ms : List RawMessage) → IsFaithful (next ms)
+IsFaithful (Put cleanup part d) = ⊥
+IsFaithful (Finish part d) = ⊥
+IsFaithful (Close part d) = ⊥
+IsFaithful (HangUp d) = IsFaithful d
+IsFaithful (Call q refused next) = LacksMemory (refused OutOfMemory) × ((r : Reply) → IsFaithful (next r))
+IsFaithful (Hear next) = Unit {0}
 
 -- What the core asks of a command's dialogue, at its begin.
 pub record IsCommand {T : Type 0} (d : Dialogue T) : Type 0 where
@@ -81,6 +115,7 @@ pub record IsCommand {T : Type 0} (d : Dialogue T) : Type 0 where
   pub sane : IsSane d
   pub reads_no : ReadsNo d
   pub in_time : IsInTime d
+  pub faithful : IsFaithful d
 
 -- What is kept of a hub and a running command beside its equations.
 pub record IsUpright {T : Type 0} (d : Dialogue T) (trail : List Moment) (s : State) (p : Place T) : Type 0 where
@@ -88,6 +123,7 @@ pub record IsUpright {T : Type 0} (d : Dialogue T) (trail : List Moment) (s : St
   pub runs : IsRunning d trail (got_of s) p
   pub timely : IsTimely (got_of s) (ran_by d trail).at (ran_by d trail).read (ran_by d trail).left
   pub fits : Fits s p.dialogue p.reads
+  pub faithful : IsFaithful p.dialogue
 
 -- an event doesn't hang up this request
 abbrev pub IsNoHangUp : (request : ℕ) → Event → Type 0
@@ -110,8 +146,11 @@ abbrev pub IsOff : {T : Type 0} → (k : ℕ) → Dialogue T → ℕ → Type 0
 IsOff k (Leave sent d) id = IsSane d × (sent ≢ k) × (ReadsNothing d ⊎ (id ≢ k))
 IsOff k (Answer r) id = Unit {0}
 IsOff k (Ask copying part d) id = IsSane d
-IsOff k (Send part d) id = IsSane d × (ReadsNothing d ⊎ (id ≢ k))
+IsOff k (Send part refused d) id = IsSane (Send part refused d) × (ReadsNothing (Send part refused d) ⊎ (id ≢ k))
 IsOff k (Read cleanup decides next) id = IsSane (Read cleanup decides next) × (id ≢ k)
+IsOff k (Put cleanup part d) id = ⊥
+IsOff k (Finish part d) id = ⊥
+IsOff k (Close part d) id = ⊥
 IsOff k (HangUp d) id = IsSane d × (id ≢ k)
-IsOff k (Call q next) id = ((r : Reply) → IsSane (next r)) × (((r : Reply) → ReadsNothing (next r)) ⊎ (id ≢ k))
+IsOff k (Call q refused next) id = IsSane (Call q refused next) × (ReadsNothing (Call q refused next) ⊎ (id ≢ k))
 IsOff k (Hear next) id = Unit {0}

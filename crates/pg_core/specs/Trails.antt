@@ -14,7 +14,7 @@ use Rattle.pg_query.specs.Lives.{Deed}
 use Rattle.pg_spec.specs.Book as said
 use Rattle.pg_desk.specs.declared.event.Booking.{Booking}
 use Rattle.pg_spec.specs.declared.stamps.Stamp.{Stamp}
-use Rattle.pg_core.specs.Deeds.{requests_in, asked_in, got_after, EndsRefused}
+use Rattle.pg_core.specs.Deeds.{bookings_in, answers_in, requests_in, granted, AreGranted, got_after, EndsRefused}
 use Rattle.pg_desk.specs.History.{State}
 use Rattle.pg_core.specs.Lists.{EndsEmpty, came_of, got_of, state_behind}
 use Rattle.pg_core.specs.Runs.{Ran, of_request, stays, run, IsTidy, At, Ends}
@@ -41,12 +41,12 @@ AreToldIn tells who turn before (a ∷ qs) = (a.stamp ≡ stamp_of who turn) × 
 abbrev pub IsSettled : {T : Type 0} → code.Dialogue T → Type 0
 IsSettled {T} d = IsRead d ⊎ ((r : Result T Error) × (d ≡ code.Answer r))
 
--- one turn of a command: what had come, and what it booked and asked
+-- one turn of a command: what had come, and what became of what it booked and asked
 pub record Moment : Type 0 where
   pub place : ℕ
   pub came : ℕ → List RawMessage
-  pub requests : List Request
-  pub asked : List (Asked DeskCall Reply)
+  pub bookings : List (Result Request Error)
+  pub answers : List (Result (Asked DeskCall Reply) Error)
 
 -- one stretch behind another
 abbrev pub then_ran : {T : Type 0} → Ran T → Ran T → Ran T
@@ -54,7 +54,7 @@ then_ran s t = record { requests = s.requests ++ t.requests; asked = s.asked ++ 
 
 -- what a turn adds
 abbrev pub goes_on : {T : Type 0} → Ran T → Moment → Ran T
-goes_on s m = run m.came s.at s.read s.left m.requests m.asked
+goes_on s m = run m.came s.at s.read s.left m.bookings m.answers
 
 -- where a command stands after its turns, the last one first
 abbrev pub ran_by : {T : Type 0} → code.Dialogue T → List Moment → Ran T
@@ -64,7 +64,7 @@ ran_by d (m ∷ before) = then_ran (ran_by d before) (goes_on (ran_by d before) 
 -- In each turn it booked and asked what the function says.
 abbrev pub AreMet : {T : Type 0} → code.Dialogue T → List Moment → Type 0
 AreMet d [] = Unit {0}
-AreMet d (m ∷ before) = ((goes_on (ran_by d before) m).requests ≡ m.requests) × ((goes_on (ran_by d before) m).asked ≡ m.asked) × AreMet d before
+AreMet d (m ∷ before) = ((goes_on (ran_by d before) m).requests ≡ granted m.bookings) × ((goes_on (ran_by d before) m).asked ≡ granted m.answers) × AreMet d before
 
 -- A command that runs, as equations: its place is where its turns led, with what was taken and isn't read. So too where it hasn't begun.
 pub record IsRunning {T : Type 0} (d : code.Dialogue T) (trail : List Moment) (got : ℕ → List RawMessage) (p : Place T) : Type 0 where
@@ -76,9 +76,9 @@ pub record IsRunning {T : Type 0} (d : code.Dialogue T) (trail : List Moment) (g
 
 -- what one poll did, as a turn
 abbrev pub moment_of : (place : ℕ) → (ℕ → List RawMessage) → List Deed → Moment
-moment_of place came ds = record { place = place; came = came; requests = requests_in ds; asked = asked_in ds }
+moment_of place came ds = record { place = place; came = came; bookings = bookings_in ds; answers = answers_in ds }
 
--- where a poll led: it waits, and runs on; or it answered; or the desk refused
+-- where a poll led: it waits, and runs on; or it answered; or a take or a hanging up was refused
 pub data Leads-to {T : Type 0} (d : code.Dialogue T) (trail : List Moment) (got : ℕ → List RawMessage) (ds : List Deed) (q : Place T) : Type 0 where
   Waiting : IsRunning d trail (got_after got ds) q → IsRead (ran_by d trail).left → Leads-to d trail got ds q
   Answering : (r : Result T Error) → q.dialogue ≡ code.Answer r → (ran_by d trail).left ≡ code.Answer r → Leads-to d trail got ds q
@@ -106,9 +106,12 @@ pub record IsTurnOf {T : Type 0} (tells : List DeskCall → DeskCall → Reply) 
   pub came : CameBy course m.place m.came
   pub within : (ran_by d before).read ≤ length (of_request m.came (ran_by d before).at)
   pub number : ℕ
-  pub numbered : AreNumbered who m.place number m.requests
+  pub numbered : AreNumbered who m.place number (granted m.bookings)
   pub former : List DeskCall
-  pub told : AreToldIn tells who m.place former m.asked
+  pub told : AreToldIn tells who m.place former (granted m.answers)
+  -- the desk refused nothing
+  pub booked : AreGranted m.bookings
+  pub answered : AreGranted m.answers
   pub settled : IsSettled (goes_on (ran_by d before) m).left
 
 -- all turns of a command

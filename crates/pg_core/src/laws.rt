@@ -4,11 +4,11 @@
 ghost use Rattle.std.specs.Prelude.{◌≡◌, ◌<◌, ◌≤◌, ◌⊎◌, [], ◌∷◌, ◌++◌, map, Bool, false, true, List, ℕ, Option, Result, Err, is_some, filter, length};
 ghost use Rattle.pg_core.specs.Counters.{Counts, ToldSo, tells};
 ghost use Rattle.pg_query.proofs.RequestLaws.{Leads};
-ghost use Rattle.pg_core.specs.Deeds.{Serves, IsNew, got_after, requests_in, asked_in};
+ghost use Rattle.pg_core.specs.Deeds.{Serves, IsNew, got_after, bookings_in, answers_in};
 ghost use Rattle.pg_core.specs.Lists.{IsApart, IsReached, SparesAll, came_of, events_of, got_of, state_behind};
 ghost use Rattle.pg_core.specs.Outcomes.{LivesSo, asked};
 ghost use Rattle.pg_core.specs.Runs.{At, Holds, IsTidy, ReadsNothing, Comes, of_request, run};
-ghost use Rattle.pg_core.specs.Times.{HangsUpNone, IsCommand, IsOff, IsUpright, TurnedWell};
+ghost use Rattle.pg_core.specs.Times.{HangsUpNone, IsCommand, IsOff, IsUpright, LacksMemory, TurnedWell};
 ghost use Rattle.pg_core.specs.Trails.{AllUnder, AreMet, AreNumbered, AreToldIn, AreTurnsOf, BooksSo, CameBy, IsNext, IsRunning, IsTurnOf, Moment, OwnTurn, PollEnds, PollsOn, begun_at, moment_of, point_of, ran_by};
 ghost use Rattle.pg_core.specs.Courses.{Asked, Course, Request, Unfolds, begun_in, nowhere, questions_of, requests_of, Who, stamp_of};
 ghost use Rattle.pg_desk.specs.History.{IsFrontOf, IsLegal, IsSound, State, after_all, ended, kept, received, reply, start};
@@ -30,7 +30,7 @@ ghost use Rattle.pg_spec.specs.Turns.{IsOwnTurn, delivered_before};
 pub fn one_walk<T>()
     ensures { (came got : ℕ → List RawMessage) (at : Option ℕ) (n : ℕ) (left : List RawMessage) (d : Dialogue T) (id : ℕ) (ds : List Deed) (q : Dialogue T) (end : ℕ) →
         IsTidy d → At at id d → Holds came got at n left → Leads (feed left d) id ds q end → Serves came got ds →
-        Comes came got (run came at n d (requests_in ds) (asked_in ds)) ds q end }
+        Comes came got (run came at n d (bookings_in ds) (answers_in ds)) ds q end }
 {}
 
 /// Any desk gives what its takes gave, where each request that is booked is new.
@@ -166,7 +166,8 @@ pub fn own_questions_grow()
 
 /// A command behind the answer of another is one that the core takes.
 pub fn a_command_behind_another<A, T>()
-    ensures { (extra : List Cleanup) (f : Result A Error → Dialogue T) → ((r : Result A Error) → IsCommand (f r)) → (d : Dialogue A) → IsCommand d → IsCommand (behind extra d f) }
+    ensures { (extra : List Cleanup) (f : Result A Error → Dialogue T) → ((r : Result A Error) → IsCommand (f r)) →
+        ((r : Result A Error) → r ≡ Err OutOfMemory → LacksMemory (f r)) → (d : Dialogue A) → IsCommand d → IsCommand (behind extra d f) }
 {}
 
 /// A poll of another command leaves a request alone that was booked before, and that it doesn't read.

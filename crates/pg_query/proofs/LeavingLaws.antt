@@ -14,8 +14,9 @@ use Rattle.pg_faults.specs.declared.error.Error.TheVariants.{Closed, OutOfMemory
 use Rattle.pg_query.specs.declared.desk_call.DeskCall.{DeskCall}
 use Rattle.pg_query.specs.declared.desk_call.DeskCall.TheVariants as desk_call
 use Rattle.pg_query.specs.declared.desk_call.Reply.{Reply}
+use Rattle.pg_query.specs.declared.desk_call.Reply.TheVariants as reply
 use Rattle.pg_query.specs.Faults.{of_fault}
-use Rattle.pg_query.specs.Dialogue.{Dialogue, Answer, Ask, Send, Leave, Read, HangUp, Call, Hear, feed, feed_one, after_reply, Told}
+use Rattle.pg_query.specs.Dialogue.{Dialogue, Answer, Ask, Send, Leave, Read, Put, Finish, Close, HangUp, Call, Hear, feed, feed_one, fits, after_reply, Told}
 use Rattle.pg_query.specs.Meaning.{Place}
 use Rattle.pg_query.specs.Lives.{Deed, Turn, Lives, deeds}
 use Rattle.pg_query.specs.Leaving.{Holds, Nothing, Request, IsLetGo, IsHeld, request_behind, after_reading, LetsGo, IsLetGoIn, LetsGoBehind, AllLetGo, IsOwed, AllOwed}
@@ -43,15 +44,18 @@ still-gone Request m k = absurd k
 fed-one : {T : Type 0} (h : Holds) (m : RawMessage) (d : Dialogue T) → LetsGo h d → LetsGo (after_reading h (m ∷ [])) (feed_one m d)
 fed-one h m (Answer r) k = still-gone h m k
 fed-one h m (Ask copying part d) k = (still-gone h m k.0, k.1)
-fed-one h m (Send part d) k = (still-gone h m k.0, fed-one h m d k.1)
+fed-one h m (Send part refused d) k = (λ e. fed-one h m (refused e) (k.0 e), fed-one h m d k.1)
 fed-one h m (Leave id d) k = fed-one h m d k
 fed-one {T} h m (Read cleanup decides next) k = by (decides (m ∷ [])) refl
   where
     by : (b : Bool) → decides (m ∷ []) ≡ b → LetsGo (after_reading h (m ∷ [])) (if b then next (m ∷ []) else Read cleanup (λ ms. decides (m ∷ ms)) (λ ms. next (m ∷ ms)))
     by true e = k (m ∷ []) e
     by false e = λ ms f. subst (λ (x : Holds). LetsGo x (next (m ∷ ms))) (sym (after-more h m ms)) (k (m ∷ ms) f)
+fed-one h m (Put cleanup part d) k = fed-one h m d k
+fed-one h m (Finish part d) k = fed-one h m d k
+fed-one h m (Close part d) k = fed-one h m d k
 fed-one h m (HangUp d) k = k
-fed-one h m (Call q next) k = (still-gone h m k.0, λ r. fed-one h m (next r) (k.1 r))
+fed-one h m (Call q refused next) k = (λ e. fed-one h m (refused e) (k.0 e), λ r f. fed-one h m (next r) (k.1 r f))
 fed-one h m (Hear next) k = λ r. fed-one h m (next r) (k r)
 
 -- and with several
@@ -105,9 +109,17 @@ told-books-none desk_call.NextPortal (call.NextPortal (Err fault.Closed)) r ds t
 told-books-none desk_call.NextPortal (call.NextPortal (Err fault.OutOfMemory)) r ds t = tt
 told-books-none q e r ds t = absurd t
 
-after-free : {T : Type 0} (h : Holds) (r : Result Reply DeskFault) (next : Reply → Dialogue T) → IsLetGo h → ((r : Reply) → LetsGo h (next r)) → LetsGo h (after_reply r next)
-after-free h (Ok x) next k f = f x
-after-free h (Err e) next k f = k
+-- a desk tells what may be told of that
+pub told-fits : (q : DeskCall) (e : Event) (r : Reply) → Told q e (Ok r) → fits q r ≡ true
+told-fits desk_call.NextStatement e (reply.Number n) t = refl
+told-fits desk_call.NextStatement e reply.Spent t = refl
+told-fits desk_call.NextPortal e (reply.Number n) t = refl
+told-fits desk_call.NextPortal e reply.Spent t = refl
+
+after-free : {T : Type 0} (h : Holds) (q : DeskCall) (e : Event) (r : Result Reply DeskFault) (refused : Error → Dialogue T) (next : Reply → Dialogue T) → Told q e r →
+    ((e : Error) → LetsGo h (refused e)) → ((r : Reply) → fits q r ≡ true → LetsGo h (next r)) → LetsGo h (after_reply r refused next)
+after-free h q e (Ok x) refused next t k f = f x (told-fits q e x t)
+after-free h q e (Err fault) refused next t k f = k (of_fault fault)
 
 -- the life goes on from a dialogue behind an event
 abbrev Later : {T : Type 0} → List Deed → Dialogue T → ℕ → Type 0
@@ -131,12 +143,12 @@ step h (Ask copying part d) id stamp (call.Book stamp' part' copying' (Ok new)) 
 step {T} h (Ask copying part d) id stamp (call.Book stamp' part' copying' (Err fault)) ds q end r is none owed later k (mid, n, s, l) =
     let f = later h (Answer (Err (of_fault fault))) id k.0 (moved _ mid id n ds q end s.3 s.4 l) in
     record { own = λ held. not-held h _ k.0 held; sent = tt; all = (tt, f.all) }
-step h (Send part d) id stamp (call.Book stamp' part' copying (Ok new)) ds q end r is none owed later k (mid, n, s, l) =
+step h (Send part refused d) id stamp (call.Book stamp' part' copying (Ok new)) ds q end r is none owed later k (mid, n, s, l) =
     let f = later h (Leave new d) id k.1 (moved _ mid id n ds q end s.3 s.4 l) in
-    record { own = λ held. not-held h _ k.0 held; sent = tt; all = (f.sent, f.all) }
-step h (Send part d) id stamp (call.Book stamp' part' copying (Err fault)) ds q end r is none owed later k (mid, n, s, l) =
-    let f = later h (Answer (Err (of_fault fault))) id k.0 (moved _ mid id n ds q end s.3 s.4 l) in
-    record { own = λ held. not-held h _ k.0 held; sent = tt; all = (tt, f.all) }
+    record { own = λ held. inr (f.own held); sent = tt; all = (f.sent, f.all) }
+step h (Send part refused d) id stamp (call.Book stamp' part' copying (Err fault)) ds q end r is none owed later k (mid, n, s, l) =
+    let f = later h (refused (of_fault fault)) id (k.0 (of_fault fault)) (moved _ mid id n ds q end s.3 s.4 l) in
+    record { own = λ held. inr (f.own held); sent = tt; all = (tt, f.all) }
 step h (Leave sent d) id stamp (call.HangUp which (Ok x)) ds q end r is none owed later k (mid, n, s, l) =
     let f = later h d id k (moved _ mid id n ds q end s.1 s.2 l) in
     record { own = λ held. inr (f.own held); sent = inl (same-id which sent s.0); all = (tt, f.all) }
@@ -161,9 +173,9 @@ step h (HangUp d) id stamp (call.HangUp which (Ok x)) ds q end r is none owed la
     record { own = λ held. inl (same-id which id s.0); sent = tt; all = (tt, f.all) }
 step h (HangUp d) id stamp (call.HangUp which (Err fault)) ds q end r is none owed later k (mid, n, s, l) =
     absurd (memory-not fault id ds q end r owed is none (moved _ mid id n ds q end s.1 s.2 l))
-step h (Call q' next) id stamp e ds q end r is none owed later k (mid, n, s, l) =
-    let f = later h (after_reply s.0 next) id (after-free h s.0 next k.0 k.1) (moved _ mid id n ds q end s.2 s.3 l) in
-    record { own = λ held. not-held h _ k.0 held; sent = tt; all = (told-books-none q' e s.0 ds s.1, f.all) }
+step h (Call q' refused next) id stamp e ds q end r is none owed later k (mid, n, s, l) =
+    let f = later h (after_reply s.0 refused next) id (after-free h q' e s.0 refused next s.1 k.0 k.1) (moved _ mid id n ds q end s.2 s.3 l) in
+    record { own = λ held. inr (f.own held); sent = tt; all = (told-books-none q' e s.0 ds s.1, f.all) }
 step h d id stamp e ds q end r is none owed later k l = absurd l.2
 
 leads-free : {T : Type 0} (ds : List Deed) (q : Dialogue T) (end : ℕ) (r : Result T Error) → q ≡ Answer r → (r ≡ Err OutOfMemory → ⊥) → AllOwed ds → Later ds q end

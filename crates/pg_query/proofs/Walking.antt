@@ -31,9 +31,9 @@ feed-ask : {T : Type 0} (ms : List RawMessage) (copying : Bool) (part : List ℕ
 feed-ask [] copying part d = refl
 feed-ask (m ∷ ms) copying part d = feed-ask ms copying part d
 
-feed-send : {T : Type 0} (ms : List RawMessage) (part : List ℕ) (d : Dialogue T) → feed ms (Send part d) ≡ Send part (feed ms d)
-feed-send [] part d = refl
-feed-send (m ∷ ms) part d = feed-send ms part (feed_one m d)
+feed-send : {T : Type 0} (ms : List RawMessage) (part : List ℕ) (refused : Error → Dialogue T) (d : Dialogue T) → feed ms (Send part refused d) ≡ Send part (λ e. feed ms (refused e)) (feed ms d)
+feed-send [] part refused d = refl
+feed-send (m ∷ ms) part refused d = feed-send ms part (λ e. feed_one m (refused e)) (feed_one m d)
 
 feed-leave : {T : Type 0} (ms : List RawMessage) (id : ℕ) (d : Dialogue T) → feed ms (Leave id d) ≡ Leave id (feed ms d)
 feed-leave [] id d = refl
@@ -43,9 +43,9 @@ pub feed-hang-up : {T : Type 0} (ms : List RawMessage) (d : Dialogue T) → feed
 feed-hang-up [] d = refl
 feed-hang-up (m ∷ ms) d = feed-hang-up ms d
 
-feed-call : {T : Type 0} (ms : List RawMessage) (q : DeskCall) (next : Reply → Dialogue T) → feed ms (Call q next) ≡ Call q (λ r. feed ms (next r))
-feed-call [] q next = refl
-feed-call (m ∷ ms) q next = feed-call ms q (λ r. feed_one m (next r))
+feed-call : {T : Type 0} (ms : List RawMessage) (q : DeskCall) (refused : Error → Dialogue T) (next : Reply → Dialogue T) → feed ms (Call q refused next) ≡ Call q (λ e. feed ms (refused e)) (λ r. feed ms (next r))
+feed-call [] q refused next = refl
+feed-call (m ∷ ms) q refused next = feed-call ms q (λ e. feed_one m (refused e)) (λ r. feed_one m (next r))
 
 -- one event, from a dialogue that computes to another
 step : {T : Type 0} (stamp : Stamp) (d c : Dialogue T) (id : ℕ) (e : Event) (d' : Dialogue T) (id' : ℕ) → d ≡ c → Steps stamp c id e d' id' → Walks stamp d id (e ∷ []) d' id'
@@ -58,17 +58,22 @@ asked stamp ms id copying part d new = step stamp (feed ms (Ask copying part d))
 pub ask-refused : {T : Type 0} (stamp : Stamp) (ms : List RawMessage) (id : ℕ) (copying : Bool) (part : List ℕ) (d : Dialogue T) (e : DeskFault) → Walks stamp (feed ms (Ask copying part d)) id (call.Book stamp part copying (Err e) ∷ []) (Answer (Err (of_fault e))) id
 ask-refused stamp ms id copying part d e = step stamp (feed ms (Ask copying part d)) (Ask copying part d) id _ _ id (feed-ask ms copying part d) (refl, refl, refl, refl, refl)
 
-pub send-refused : {T : Type 0} (stamp : Stamp) (ms : List RawMessage) (id : ℕ) (part : List ℕ) (d : Dialogue T) (e : DeskFault) → Walks stamp (feed ms (Send part d)) id (call.Book stamp part false (Err e) ∷ []) (Answer (Err (of_fault e))) id
-send-refused stamp ms id part d e = step stamp (feed ms (Send part d)) (Send part (feed ms d)) id _ _ id (feed-send ms part d) (refl, refl, refl, refl, refl)
+pub send-refused : {T : Type 0} (stamp : Stamp) (ms : List RawMessage) (id : ℕ) (part : List ℕ) (refused : Error → Dialogue T) (d : Dialogue T) (e : DeskFault) →
+    Walks stamp (feed ms (Send part refused d)) id (call.Book stamp part false (Err e) ∷ []) (feed ms (refused (of_fault e))) id
+send-refused stamp ms id part refused d e = step stamp (feed ms (Send part refused d)) (Send part (λ x. feed ms (refused x)) (feed ms d)) id _ _ id (feed-send ms part refused d) (refl, refl, refl, refl, refl)
 
-sends : {T : Type 0} (stamp : Stamp) (ms : List RawMessage) (id : ℕ) (part : List ℕ) (d : Dialogue T) (new : ℕ) → Steps stamp (feed ms (Send part d)) id (call.Book stamp part false (Ok new)) (Leave new (feed ms d)) id
-sends {T} stamp ms id part d new = subst (λ (x : Dialogue T). Steps stamp x id (call.Book stamp part false (Ok new)) (Leave new (feed ms d)) id) (sym (feed-send ms part d)) (refl, refl, refl, refl, refl)
+sends : {T : Type 0} (stamp : Stamp) (ms : List RawMessage) (id : ℕ) (part : List ℕ) (refused : Error → Dialogue T) (d : Dialogue T) (new : ℕ) →
+    Steps stamp (feed ms (Send part refused d)) id (call.Book stamp part false (Ok new)) (Leave new (feed ms d)) id
+sends {T} stamp ms id part refused d new =
+    subst (λ (x : Dialogue T). Steps stamp x id (call.Book stamp part false (Ok new)) (Leave new (feed ms d)) id) (sym (feed-send ms part refused d)) (refl, refl, refl, refl, refl)
 
-pub sent : {T : Type 0} (stamp : Stamp) (ms : List RawMessage) (id : ℕ) (part : List ℕ) (d : Dialogue T) (new : ℕ) → Walks stamp (feed ms (Send part d)) id (call.Book stamp part false (Ok new) ∷ call.HangUp new (Ok tt) ∷ []) (feed ms d) id
-sent stamp ms id part d new = (Leave new (feed ms d), id, sends stamp ms id part d new, (feed ms d, id, (refl, refl, refl), (refl, refl)))
+pub sent : {T : Type 0} (stamp : Stamp) (ms : List RawMessage) (id : ℕ) (part : List ℕ) (refused : Error → Dialogue T) (d : Dialogue T) (new : ℕ) →
+    Walks stamp (feed ms (Send part refused d)) id (call.Book stamp part false (Ok new) ∷ call.HangUp new (Ok tt) ∷ []) (feed ms d) id
+sent stamp ms id part refused d new = (Leave new (feed ms d), id, sends stamp ms id part refused d new, (feed ms d, id, (refl, refl, refl), (refl, refl)))
 
-pub send-kept : {T : Type 0} (stamp : Stamp) (ms : List RawMessage) (id : ℕ) (part : List ℕ) (d : Dialogue T) (new : ℕ) (e : DeskFault) → Walks stamp (feed ms (Send part d)) id (call.Book stamp part false (Ok new) ∷ call.HangUp new (Err e) ∷ []) (Answer (Err (of_fault e))) id
-send-kept stamp ms id part d new e = (Leave new (feed ms d), id, sends stamp ms id part d new, (Answer (Err (of_fault e)), id, (refl, refl, refl), (refl, refl)))
+pub send-kept : {T : Type 0} (stamp : Stamp) (ms : List RawMessage) (id : ℕ) (part : List ℕ) (refused : Error → Dialogue T) (d : Dialogue T) (new : ℕ) (e : DeskFault) →
+    Walks stamp (feed ms (Send part refused d)) id (call.Book stamp part false (Ok new) ∷ call.HangUp new (Err e) ∷ []) (Answer (Err (of_fault e))) id
+send-kept stamp ms id part refused d new e = (Leave new (feed ms d), id, sends stamp ms id part refused d new, (Answer (Err (of_fault e)), id, (refl, refl, refl), (refl, refl)))
 
 pub hung-up : {T : Type 0} (stamp : Stamp) (ms : List RawMessage) (id : ℕ) (d : Dialogue T) → Walks stamp (feed ms (HangUp d)) id (call.HangUp id (Ok tt) ∷ []) d id
 hung-up stamp ms id d = step stamp (feed ms (HangUp d)) (HangUp d) id _ d id (feed-hang-up ms d) (refl, refl, refl)
@@ -76,19 +81,19 @@ hung-up stamp ms id d = step stamp (feed ms (HangUp d)) (HangUp d) id _ d id (fe
 pub hang-up-refused : {T : Type 0} (stamp : Stamp) (ms : List RawMessage) (id : ℕ) (d : Dialogue T) (e : DeskFault) → Walks stamp (feed ms (HangUp d)) id (call.HangUp id (Err e) ∷ []) (Answer (Err (of_fault e))) id
 hang-up-refused stamp ms id d e = step stamp (feed ms (HangUp d)) (HangUp d) id _ _ id (feed-hang-up ms d) (refl, refl, refl)
 
-pub called : {T : Type 0} (stamp : Stamp) (ms : List RawMessage) (id : ℕ) (q : DeskCall) (next : Reply → Dialogue T) (e : Event) (r : Result Reply DeskFault) → Told q e r →
-    Walks stamp (feed ms (Call q next)) id (e ∷ []) (after_reply r (λ x. feed ms (next x))) id
-called stamp ms id q next e r h = step stamp (feed ms (Call q next)) (Call q (λ x. feed ms (next x))) id e _ id (feed-call ms q next) (r, h, refl, refl)
+pub called : {T : Type 0} (stamp : Stamp) (ms : List RawMessage) (id : ℕ) (q : DeskCall) (refused : Error → Dialogue T) (next : Reply → Dialogue T) (e : Event) (r : Result Reply DeskFault) → Told q e r →
+    Walks stamp (feed ms (Call q refused next)) id (e ∷ []) (after_reply r (λ x. feed ms (refused x)) (λ x. feed ms (next x))) id
+called stamp ms id q refused next e r h = step stamp (feed ms (Call q refused next)) (Call q (λ x. feed ms (refused x)) (λ x. feed ms (next x))) id e _ id (feed-call ms q refused next) (r, h, refl, refl)
 
 -- where the script went on after events that lead to this dialogue, with the messages that came and aren't read yet
 pub resumed : {S D T : Type 0} (becomes : D → List Event → D → Type 0) (stamp : Stamp) (a : D) (p : Place T) (b : D)
-    (dialogue : S → Dialogue T) (waits : (s : S) → Waiting (dialogue s)) (from : Dialogue T) (new : Running S T) (es : List Event) → becomes a es b →
+    (dialogue : S → Dialogue T) (refuses : S → Error → Dialogue T) (waits : (s : S) → Waiting (dialogue s)) (from : Dialogue T) (new : Running S T) (es : List Event) → becomes a es b →
     (ms : List RawMessage) (id : ℕ) → new.batch ≡ ms → new.id ≡ id → Walks stamp p.dialogue p.reads es (feed ms from) id →
-    (r : Result (Want T) Error) → MatchResult r (λ w. GoesOn dialogue waits from w new.script) (λ e. e ≡ OutOfMemory) →
-    MatchResult r (λ w. Goes becomes stamp a p b (meaning_at dialogue new w)) (λ e. GoesToAnswer becomes stamp a p b (Err e))
-resumed {S} {D} {T} becomes stamp a p b dialogue waits from new es ev ms id left reads w (Ok x) h =
+    (r : Result (Want T) Error) → MatchResult r (λ w. GoesOn dialogue refuses waits from w new.script) (λ e. e ≡ OutOfMemory) →
+    MatchResult r (λ w. Goes becomes stamp a p b (meaning_at dialogue refuses new w)) (λ e. GoesToAnswer becomes stamp a p b (Err e))
+resumed {S} {D} {T} becomes stamp a p b dialogue refuses waits from new es ev ms id left reads w (Ok x) h =
     record { events = es; became = ev; walked = rw (h.is, left, reads) w }
-resumed becomes stamp a p b dialogue waits from new es ev ms id left reads w (Err e) h =
+resumed becomes stamp a p b dialogue refuses waits from new es ev ms id left reads w (Err e) h =
     record { last = record { dialogue = feed ms from; reads = id }; goes = record { events = es; became = ev; walked = w }; answers = inr (ap Err h) }
 
 -- where the desk refused
@@ -125,13 +130,13 @@ pub goes-nowhere : {D T : Type 0} (becomes : D → List Event → D → Type 0) 
 goes-nowhere becomes stays stamp a p = record { events = []; became = stays a; walked = (refl, refl) }
 
 -- a script that answers
-pub answered : {S D T : Type 0} (becomes : D → List Event → D → Type 0) (stamp : Stamp) (a : D) (p : Place T) (b : D) (dialogue : S → Dialogue T) (new : Running S T) →
-    (w : Want T) → Goes becomes stamp a p b (meaning_at dialogue new w) → (r : Result T Error) → w ≡ want.Answer r → GoesToAnswer becomes stamp a p b r
-answered {S} {D} {T} becomes stamp a p b dialogue new w h r e =
+pub answered : {S D T : Type 0} (becomes : D → List Event → D → Type 0) (stamp : Stamp) (a : D) (p : Place T) (b : D) (dialogue : S → Dialogue T) (refuses : S → Error → Dialogue T) (new : Running S T) →
+    (w : Want T) → Goes becomes stamp a p b (meaning_at dialogue refuses new w) → (r : Result T Error) → w ≡ want.Answer r → GoesToAnswer becomes stamp a p b r
+answered {S} {D} {T} becomes stamp a p b dialogue refuses new w h r e =
     record {
-      last = meaning_at dialogue new w;
+      last = meaning_at dialogue refuses new w;
       goes = h;
-      answers = inl (ap (λ (x : Want T). feed new.batch (wanting x (dialogue new.script))) e ∙ feed-answer new.batch r);
+      answers = inl (ap (λ (x : Want T). feed new.batch (wanting x (dialogue new.script) (refuses new.script))) e ∙ feed-answer new.batch r);
     }
 
 -- the same walk, where its end is another name of the place
@@ -140,13 +145,13 @@ pub goes-same : {D T : Type 0} (becomes : D → List Event → D → Type 0) (st
 goes-same {D} {T} becomes stamp a p b q r e h = subst (λ (x : Place T). Goes becomes stamp a p b x) (sym e) h
 
 -- behind the last message that is read, the others count for nothing
-last-drops : {T : Type 0} (ms : List RawMessage) (w : Want T) (d : Dialogue T) → IsLast w → feed ms (wanting w d) ≡ wanting w d
-last-drops ms (want.Answer r) d h = feed-answer ms r
-last-drops ms want.Read d h = absurd h
-last-drops ms (want.Act (act.Ask copying part)) d h = absurd h
-last-drops ms (want.Act (act.Send part)) d h = absurd h
-last-drops ms (want.Act act.HangUp) d h = feed-hang-up ms d
-last-drops ms (want.Act (act.Call q)) d h = absurd h
+last-drops : {T : Type 0} (ms : List RawMessage) (w : Want T) (d : Dialogue T) (refused : Error → Dialogue T) → IsLast w → feed ms (wanting w d refused) ≡ wanting w d refused
+last-drops ms (want.Answer r) d refused h = feed-answer ms r
+last-drops ms want.Read d refused h = absurd h
+last-drops ms (want.Act (act.Ask copying part)) d refused h = absurd h
+last-drops ms (want.Act (act.Send part)) d refused h = absurd h
+last-drops ms (want.Act act.HangUp) d refused h = feed-hang-up ms d
+last-drops ms (want.Act (act.Call q)) d refused h = absurd h
 
 -- the message that was refused
 pub record Refused (old : List RawMessage) (fault : WireFault) : Type 0 where
@@ -164,14 +169,14 @@ pub refused-first : (old new : List RawMessage) (fault : WireFault) → is_none 
 refused-first old new fault h r = let f = refused-by old new (wire_fault fault) h r in record { raw = f.0; rest = f.1; front = f.2; means = f.3 }
 
 -- a malformed message is given to the script, and those behind it are dropped
-pub pulled-last : {S T : Type 0} (dialogue : S → Dialogue T) (waits : (s : S) → Waiting (dialogue s)) (old new : Running S T) (raw : RawMessage) (rest : List RawMessage) →
-    old.batch ≡ raw ∷ rest → new.batch ≡ [] → new.id ≡ old.id → (w : Want T) → GoesOn dialogue waits (feed_one raw (dialogue old.script)) w new.script → IsLast w →
-    PullsOne dialogue waits old new w
-pulled-last {S} {T} dialogue waits old new raw rest front none id w h last = record {
+pub pulled-last : {S T : Type 0} (dialogue : S → Dialogue T) (refuses : S → Error → Dialogue T) (waits : (s : S) → Waiting (dialogue s)) (old new : Running S T) (raw : RawMessage) (rest : List RawMessage) →
+    old.batch ≡ raw ∷ rest → new.batch ≡ [] → new.id ≡ old.id → (w : Want T) → GoesOn dialogue refuses waits (feed_one raw (dialogue old.script)) w new.script → IsLast w →
+    PullsOne dialogue refuses waits old new w
+pulled-last {S} {T} dialogue refuses waits old new raw rest front none id w h last = record {
   same =
-      let fed : feed new.batch (wanting w (dialogue new.script)) ≡ feed old.batch (dialogue old.script) =
-      ap (λ (l : List RawMessage). feed l (wanting w (dialogue new.script))) none
-      ∙ sym (last-drops rest w (dialogue new.script) last)
+      let fed : feed new.batch (wanting w (dialogue new.script) (refuses new.script)) ≡ feed old.batch (dialogue old.script) =
+      ap (λ (l : List RawMessage). feed l (wanting w (dialogue new.script) (refuses new.script))) none
+      ∙ sym (last-drops rest w (dialogue new.script) (refuses new.script) last)
       ∙ ap (λ (x : Dialogue T). feed rest x) h.is
       ∙ sym (ap (λ (l : List RawMessage). feed l (dialogue old.script)) front) in
       ap (λ (x : Dialogue T). let q : Place T = record { dialogue = x; reads = new.id } in q) fed

@@ -1,5 +1,5 @@
 -- What a command asks of its desk and what it answers, as a tree, and how events lead along it.
-use Rattle.std.specs.Prelude.{◌≡◌, ℕ, List, [], ◌∷◌, Bool, false, if◌then◌else◌, Result, Ok, Err}
+use Rattle.std.specs.Prelude.{◌≡◌, ℕ, List, [], ◌∷◌, Bool, true, false, if◌then◌else◌, Result, Ok, Err}
 use Rattle.pg_spec.specs.RawMessages.{RawMessage}
 use Rattle.pg_spec.specs.declared.stamps.Stamp.{Stamp}
 use Rattle.pg_desk.specs.declared.event.DeskFault.{DeskFault}
@@ -22,16 +22,22 @@ pub data Dialogue (T : Type 0) : Type 0 where
   Answer : Result T Error → Dialogue T
   -- books a request, a copy or not, whose messages are read from now on
   Ask : Bool → List ℕ → Dialogue T → Dialogue T
-  -- books a request that is hung up at once
-  Send : List ℕ → Dialogue T → Dialogue T
+  -- books a request that is hung up at once. Where the desk refuses it, it goes on by that error
+  Send : List ℕ → (Error → Dialogue T) → Dialogue T → Dialogue T
   -- hangs up a request that was sent
   Leave : ℕ → Dialogue T → Dialogue T
   -- reads messages of the request up to the first by which they decide, and goes on with those read
   Read : List Cleanup → (List RawMessage → Bool) → (List RawMessage → Dialogue T) → Dialogue T
+  -- puts a part to the copy that is read, once the desk has room for it
+  Put : List Cleanup → List ℕ → Dialogue T → Dialogue T
+  -- ends the copy that is read by its last part, and goes on with its reply
+  Finish : List ℕ → Dialogue T → Dialogue T
+  -- ends the copy that is read by this part if it hasn't ended; what is left of its reply isn't read
+  Close : List ℕ → Dialogue T → Dialogue T
   -- hangs up the request that is read
   HangUp : Dialogue T → Dialogue T
-  -- asks the desk something, and goes on with what it is told
-  Call : DeskCall → (Reply → Dialogue T) → Dialogue T
+  -- asks the desk something, and goes on with what it is told. Where the desk refuses that, it goes on by the error
+  Call : DeskCall → (Error → Dialogue T) → (Reply → Dialogue T) → Dialogue T
   -- stands between a query and its reply; no command writes it
   Hear : (Reply → Dialogue T) → Dialogue T
 
@@ -39,12 +45,15 @@ pub data Dialogue (T : Type 0) : Type 0 where
 abbrev pub feed_one : {T : Type 0} → RawMessage → Dialogue T → Dialogue T
 feed_one m (Answer r) = Answer r
 feed_one m (Ask copying part d) = Ask copying part d
-feed_one m (Send part d) = Send part (feed_one m d)
+feed_one m (Send part refused d) = Send part (λ e. feed_one m (refused e)) (feed_one m d)
 feed_one m (Leave id d) = Leave id (feed_one m d)
 feed_one m (Read cleanup decides next) =
     if decides (m ∷ []) then next (m ∷ []) else Read cleanup (λ ms. decides (m ∷ ms)) (λ ms. next (m ∷ ms))
+feed_one m (Put cleanup part d) = Put cleanup part (feed_one m d)
+feed_one m (Finish part d) = Finish part (feed_one m d)
+feed_one m (Close part d) = Close part (feed_one m d)
 feed_one m (HangUp d) = HangUp d
-feed_one m (Call q next) = Call q (λ r. feed_one m (next r))
+feed_one m (Call q refused next) = Call q (λ e. feed_one m (refused e)) (λ r. feed_one m (next r))
 feed_one m (Hear next) = Hear (λ r. feed_one m (next r))
 
 -- the same of several messages, in order
@@ -62,22 +71,29 @@ Told desk_call.NextPortal (call.NextPortal (Err fault.Encode)) r = r ≡ Ok repl
 Told desk_call.NextPortal (call.NextPortal (Err e)) r = r ≡ Err e
 Told _ _ r = ⊥
 
--- where a reply leads
-abbrev pub after_reply : {T : Type 0} → Result Reply DeskFault → (Reply → Dialogue T) → Dialogue T
-after_reply (Ok r) next = next r
-after_reply (Err e) next = Answer (Err (of_fault e))
+-- a desk may tell this where it is asked that
+abbrev pub fits : DeskCall → Reply → Bool
+fits desk_call.NextStatement (reply.Number n) = true
+fits desk_call.NextStatement reply.Spent = true
+fits desk_call.NextPortal (reply.Number n) = true
+fits desk_call.NextPortal reply.Spent = true
+
+-- where a reply leads, and where a refusal does
+abbrev pub after_reply : {T : Type 0} → Result Reply DeskFault → (Error → Dialogue T) → (Reply → Dialogue T) → Dialogue T
+after_reply (Ok r) refused next = next r
+after_reply (Err e) refused next = refused (of_fault e)
 
 -- By this event a dialogue that reads request `id` goes on as another, which reads `id'`. A reply that is over was read to its
--- end; a request that is gone wasn't, and is hung up.
+-- end; a request that is gone wasn't, and is hung up. No event leads on from a part of a copy: desks take none yet.
 abbrev pub Steps : {T : Type 0} → Stamp → Dialogue T → ℕ → Event → Dialogue T → ℕ → Type 0
 Steps stamp (Ask copying part d) id (call.Book stamp' part' copying' (Ok new)) d' id' =
     (stamp' ≡ stamp) × (part' ≡ part) × (copying' ≡ copying) × (d' ≡ d) × (id' ≡ new)
 Steps stamp (Ask copying part d) id (call.Book stamp' part' copying' (Err e)) d' id' =
     (stamp' ≡ stamp) × (part' ≡ part) × (copying' ≡ copying) × (d' ≡ Answer (Err (of_fault e))) × (id' ≡ id)
-Steps stamp (Send part d) id (call.Book stamp' part' copying (Ok new)) d' id' =
+Steps stamp (Send part refused d) id (call.Book stamp' part' copying (Ok new)) d' id' =
     (stamp' ≡ stamp) × (part' ≡ part) × (copying ≡ false) × (d' ≡ Leave new d) × (id' ≡ id)
-Steps stamp (Send part d) id (call.Book stamp' part' copying (Err e)) d' id' =
-    (stamp' ≡ stamp) × (part' ≡ part) × (copying ≡ false) × (d' ≡ Answer (Err (of_fault e))) × (id' ≡ id)
+Steps stamp (Send part refused d) id (call.Book stamp' part' copying (Err e)) d' id' =
+    (stamp' ≡ stamp) × (part' ≡ part) × (copying ≡ false) × (d' ≡ refused (of_fault e)) × (id' ≡ id)
 Steps stamp (Leave sent d) id (call.HangUp which (Ok x)) d' id' = (which ≡ sent) × (d' ≡ d) × (id' ≡ id)
 Steps stamp (Leave sent d) id (call.HangUp which (Err e)) d' id' = (which ≡ sent) × (d' ≡ Answer (Err (of_fault e))) × (id' ≡ id)
 Steps stamp (Read cleanup decides next) id (call.Take which (Ok (taking.Batch ms))) d' id' =
@@ -88,7 +104,7 @@ Steps stamp (Read cleanup decides next) id (call.Take which (Ok taking.Gone)) d'
 Steps stamp (Read cleanup decides next) id (call.Take which (Err e)) d' id' = (which ≡ id) × (d' ≡ Answer (Err (of_fault e))) × (id' ≡ id)
 Steps stamp (HangUp d) id (call.HangUp which (Ok x)) d' id' = (which ≡ id) × (d' ≡ d) × (id' ≡ id)
 Steps stamp (HangUp d) id (call.HangUp which (Err e)) d' id' = (which ≡ id) × (d' ≡ Answer (Err (of_fault e))) × (id' ≡ id)
-Steps stamp (Call q next) id e d' id' = (r : Result Reply DeskFault) × Told q e r × (d' ≡ after_reply r next) × (id' ≡ id)
+Steps stamp (Call q refused next) id e d' id' = (r : Result Reply DeskFault) × Told q e r × (d' ≡ after_reply r refused next) × (id' ≡ id)
 Steps stamp _ id _ d' id' = ⊥
 
 -- a whole list of events
@@ -100,4 +116,4 @@ Walks {T} stamp d id (e ∷ es) d' id' = (mid : Dialogue T) × (n : ℕ) × Step
 abbrev pub cleaning : List Cleanup → Dialogue (Unit {0})
 cleaning [] = Answer (Ok tt)
 cleaning (Release ∷ cs) = HangUp (cleaning cs)
-cleaning (Post part ∷ cs) = Send part (cleaning cs)
+cleaning (Post part ∷ cs) = Send part (λ e. Answer (Err e)) (cleaning cs)

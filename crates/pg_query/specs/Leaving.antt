@@ -6,8 +6,9 @@ use Rattle.pg_desk.specs.declared.event.DeskFault.TheVariants as fault
 use Rattle.pg_desk.specs.declared.event.Take.TheVariants as taking
 use Rattle.pg_desk.specs.declared.event.Event.{Event}
 use Rattle.pg_desk.specs.declared.event.Event.TheVariants as call
+use Rattle.pg_faults.specs.declared.error.Error.{Error}
 use Rattle.pg_query.specs.declared.desk_call.Reply.{Reply}
-use Rattle.pg_query.specs.Dialogue.{Dialogue, Answer, Ask, Send, Leave, Read, HangUp, Call, Hear}
+use Rattle.pg_query.specs.Dialogue.{Dialogue, Answer, Ask, Send, Leave, Read, Put, Finish, Close, HangUp, Call, Hear, fits}
 use Rattle.pg_query.specs.Lives.{Deed}
 
 -- ---- of a dialogue
@@ -37,15 +38,19 @@ abbrev pub after_reading : Holds → List RawMessage → Holds
 after_reading Nothing ms = Nothing
 after_reading Request ms = request_behind (list_any is_ready ms)
 
--- A dialogue from here on lets each request go before anything that the desk may refuse, and before its answer.
+-- A dialogue from here on lets each request go before it asks for another to read, and before its answer. So it does where the
+-- desk refuses what it sends or asks, and whatever the desk may tell it.
 abbrev pub LetsGo : {T : Type 0} → Holds → Dialogue T → Type 0
 LetsGo h (Answer r) = IsLetGo h
 LetsGo h (Ask copying part d) = IsLetGo h × LetsGo Request d
-LetsGo h (Send part d) = IsLetGo h × LetsGo h d
+LetsGo h (Send part refused d) = ((e : Error) → LetsGo h (refused e)) × LetsGo h d
 LetsGo h (Leave id d) = LetsGo h d
 LetsGo h (Read cleanup decides next) = (ms : List RawMessage) → decides ms ≡ true → LetsGo (after_reading h ms) (next ms)
+LetsGo h (Put cleanup part d) = LetsGo h d
+LetsGo h (Finish part d) = LetsGo h d
+LetsGo h (Close part d) = LetsGo h d
 LetsGo h (HangUp d) = LetsGo Nothing d
-LetsGo h (Call q next) = IsLetGo h × ((r : Reply) → LetsGo h (next r))
+LetsGo h (Call q refused next) = ((e : Error) → LetsGo h (refused e)) × ((r : Reply) → fits q r ≡ true → LetsGo h (next r))
 LetsGo h (Hear next) = (r : Reply) → LetsGo h (next r)
 
 -- ---- of what was done

@@ -7,7 +7,8 @@ use Rattle.pg_query.specs.declared.script.Want.TheVariants as want
 use Rattle.pg_query.specs.declared.script.Action.TheVariants as act
 use Rattle.pg_query.specs.declared.desk_call.Reply.{Reply}
 use Rattle.pg_query.specs.declared.desk_call.Cleanup.{Cleanup}
-use Rattle.pg_query.specs.Dialogue.{Dialogue, Answer, Ask, Send, Leave, Read, HangUp, Call, Hear}
+use Rattle.pg_faults.specs.declared.error.Error.{Error}
+use Rattle.pg_query.specs.Dialogue.{Dialogue, Answer, Ask, Send, Leave, Read, Put, Finish, Close, HangUp, Call, Hear}
 
 -- a message is read here
 abbrev pub IsRead : {T : Type 0} → Dialogue T → Type 0
@@ -41,11 +42,14 @@ IsReply (AReply h) = Unit {0}
 abbrev pub waiting_at : {T : Type 0} (d : Dialogue T) → Waiting d
 waiting_at (Answer r) = Nothing
 waiting_at (Ask copying part d) = Nothing
-waiting_at (Send part d) = Nothing
+waiting_at (Send part refused d) = Nothing
 waiting_at (Leave id d) = Nothing
 waiting_at (Read cleanup decides next) = AMessage tt
+waiting_at (Put cleanup part d) = Nothing
+waiting_at (Finish part d) = Nothing
+waiting_at (Close part d) = Nothing
 waiting_at (HangUp d) = Nothing
-waiting_at (Call q next) = Nothing
+waiting_at (Call q refused next) = Nothing
 waiting_at (Hear next) = AReply tt
 
 -- it waits for a message, where one is read
@@ -66,16 +70,17 @@ heard r d = d
 -- what is left to do where a dialogue is given up: nothing before its first request
 abbrev pub cleanup_of : {T : Type 0} → Dialogue T → List Cleanup
 cleanup_of (Read cleanup decides next) = cleanup
+cleanup_of (Put cleanup part d) = cleanup
 cleanup_of _ = []
 
--- what is wanted, and what comes behind it
-abbrev pub wanting : {T : Type 0} → Want T → Dialogue T → Dialogue T
-wanting (want.Answer r) d = Answer r
-wanting (want.Act (act.Ask copying part)) d = Ask copying part d
-wanting (want.Act (act.Send part)) d = Send part d
-wanting (want.Act act.HangUp) d = HangUp d
-wanting (want.Act (act.Call q)) d = Call q (λ r. heard r d)
-wanting want.Read d = d
+-- What is wanted, and what comes behind it: this, and that where the desk refuses what was sent or asked.
+abbrev pub wanting : {T : Type 0} → Want T → Dialogue T → (Error → Dialogue T) → Dialogue T
+wanting (want.Answer r) d refused = Answer r
+wanting (want.Act (act.Ask copying part)) d refused = Ask copying part d
+wanting (want.Act (act.Send part)) d refused = Send part refused d
+wanting (want.Act act.HangUp) d refused = HangUp d
+wanting (want.Act (act.Call q)) d refused = Call q refused (λ r. heard r d)
+wanting want.Read d refused = d
 
 -- a message or a reply is wanted only where it is
 abbrev pub IsWanted : {S T : Type 0} → (dialogue : S → Dialogue T) → ((s : S) → Waiting (dialogue s)) → Want T → S → Type 0
@@ -84,8 +89,8 @@ IsWanted dialogue waits (want.Act (act.Call q)) s = HearsAt dialogue waits s
 IsWanted dialogue waits _ s = Unit {0}
 
 -- A script that stood at this dialogue wants this, and stands behind it.
-pub record GoesOn {S T : Type 0} (dialogue : S → Dialogue T) (waits : (s : S) → Waiting (dialogue s)) (from : Dialogue T) (w : Want T) (new : S) : Type 0 where
-  pub is : wanting w (dialogue new) ≡ from
+pub record GoesOn {S T : Type 0} (dialogue : S → Dialogue T) (refuses : S → Error → Dialogue T) (waits : (s : S) → Waiting (dialogue s)) (from : Dialogue T) (w : Want T) (new : S) : Type 0 where
+  pub is : wanting w (dialogue new) (refuses new) ≡ from
   pub wanted : IsWanted dialogue waits w new
 
 -- the reply is read no further

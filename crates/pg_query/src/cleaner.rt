@@ -2,6 +2,7 @@
 
 use crate::desk_call::{Cleanup, Reply};
 use crate::script::{Action, Script, Want};
+use pg_errors::Error;
 use pg_wire::{Message, WireFault};
 use std::alloc::{AllocError, Global};
 use std::collections::VecDeque;
@@ -12,11 +13,13 @@ pub(crate) struct Cleaner {
 }
 
 impl Script for Cleaner {
-    ghost use Rattle.pg_query.specs.Cleaners.{cleaner_dialogue, cleaner_waits, cleaner_steps};
+    ghost use Rattle.pg_query.specs.Cleaners.{cleaner_dialogue, cleaner_refuses, cleaner_waits, cleaner_steps};
 
     type Output = ();
 
     ghost dialogue = { cleaner_dialogue };
+
+    ghost refuses = { cleaner_refuses };
 
     ghost waits = { cleaner_waits };
 
@@ -42,6 +45,10 @@ impl Script for Cleaner {
     fn reply(&mut self, alloc: Global, reply: Reply) -> Result<Want<()>, AllocError> {
         // It asks nothing.
         Err(AllocError)
+    }
+
+    fn refused(&mut self, alloc: Global, error: Error) -> Result<Want<()>, AllocError> {
+        Ok(Want::Answer(Err(error)))
     }
 
     fn cleanup(&self, alloc: Global) -> Result<VecDeque<Cleanup>, AllocError> {

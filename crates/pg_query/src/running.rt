@@ -1,6 +1,7 @@
 //! The one loop that runs every script.
 
 ghost use Rattle.std.specs.Prelude.{◌≡◌, ◌≤◌, ◌<◌, [], length, MatchResult, MatchOption, IfOk, IfNone};
+ghost use Rattle.pg_query.specs.Faults.{of_fault};
 ghost use Rattle.pg_query.specs.Meaning.{meaning, meaning_at, Goes, GoesToAnswer, Reads, Waits, MatchPoll, Pulls, Leaves};
 ghost use Rattle.pg_query.specs.Scripts.{ReadsAt, HearsAt, IsWanted, heard, GoesOn, Falls};
 ghost use Rattle.pg_query.specs.declared.script.Want.TheVariants.{Act};
@@ -12,7 +13,7 @@ use crate::fault::{error_of, is_want_of_memory};
 use crate::script::{Action, Script, Want};
 use bytes::Bytes;
 use futures::task::Poll;
-use pg_desk::{Desk, Stamp, Take};
+use pg_desk::{Desk, DeskFault, Stamp, Take};
 use pg_errors::Error;
 use pg_wire::BackendMessages;
 use std::alloc::Global;
@@ -48,7 +49,7 @@ impl<S: Script> Running<S> {
     }
 
     fn next(&mut self, alloc: Global) -> Result<Want<S::Output>, Error>
-        ensures step { MatchResult result (λ want. GoesOn S.dialogue S.waits (S.dialogue self.old.script) want self.new.script) (λ e. e ≡ Error.OutOfMemory) }
+        ensures step { MatchResult result (λ want. GoesOn S.dialogue S.refuses S.waits (S.dialogue self.old.script) want self.new.script) (λ e. e ≡ Error.OutOfMemory) }
         ensures falls { IfOk result (λ want. Falls want (S.steps self.old.script) (S.steps self.new.script)) }
         ensures id { self.new.id ≡ self.old.id }
         ensures batch { self.new.batch ≡ self.old.batch }
@@ -59,7 +60,7 @@ impl<S: Script> Running<S> {
     /// Gives the script the next message that came. None comes exactly where there is none.
     fn pull(&mut self, alloc: Global) -> Result<Option<Want<S::Output>>, Error>
         requires { ReadsAt S.dialogue S.waits self.old.script }
-        ensures { Pulls S.dialogue S.waits self.old self.new result }
+        ensures { Pulls S.dialogue S.refuses S.waits self.old self.new result }
     {
         match self.batch.next() {
             Ok(None) => Ok(None),
@@ -82,12 +83,21 @@ impl<S: Script> Running<S> {
 
     fn reply(&mut self, alloc: Global, reply: Reply) -> Result<Want<S::Output>, Error>
         requires { HearsAt S.dialogue S.waits self.old.script }
-        ensures step { MatchResult result (λ want. GoesOn S.dialogue S.waits (heard reply (S.dialogue self.old.script)) want self.new.script) (λ e. e ≡ Error.OutOfMemory) }
+        ensures step { MatchResult result (λ want. GoesOn S.dialogue S.refuses S.waits (heard reply (S.dialogue self.old.script)) want self.new.script) (λ e. e ≡ Error.OutOfMemory) }
         ensures falls { IfOk result (λ want. Falls want (S.steps self.old.script) (S.steps self.new.script)) }
         ensures id { self.new.id ≡ self.old.id }
         ensures batch { self.new.batch ≡ self.old.batch }
     {
         Ok(self.script.reply(alloc, reply)?)
+    }
+
+    fn refused(&mut self, alloc: Global, fault: DeskFault) -> Result<Want<S::Output>, Error>
+        ensures step { MatchResult result (λ want. GoesOn S.dialogue S.refuses S.waits (S.refuses self.old.script (of_fault fault)) want self.new.script) (λ e. e ≡ Error.OutOfMemory) }
+        ensures falls { IfOk result (λ want. Falls want (S.steps self.old.script) (S.steps self.new.script)) }
+        ensures id { self.new.id ≡ self.old.id }
+        ensures batch { self.new.batch ≡ self.old.batch }
+    {
+        Ok(self.script.refused(alloc, error_of(fault))?)
     }
 
     fn ask<D: Desk>(
@@ -99,8 +109,8 @@ impl<S: Script> Running<S> {
         part: Bytes,
     ) -> Result<Want<S::Output>, Error>
         ensures goes { MatchResult result
-            (λ want. Goes D.becomes stamp desk.old (meaning_at S.dialogue self.old (Act (Ask copying part))) desk.new (meaning_at S.dialogue self.new want))
-            (λ e. GoesToAnswer D.becomes stamp desk.old (meaning_at S.dialogue self.old (Act (Ask copying part))) desk.new (Err e)) }
+            (λ want. Goes D.becomes stamp desk.old (meaning_at S.dialogue S.refuses self.old (Act (Ask copying part))) desk.new (meaning_at S.dialogue S.refuses self.new want))
+            (λ e. GoesToAnswer D.becomes stamp desk.old (meaning_at S.dialogue S.refuses self.old (Act (Ask copying part))) desk.new (Err e)) }
         ensures wanted { IfOk result (λ want. IsWanted S.dialogue S.waits want self.new.script) }
         ensures falls { IfOk result (λ want. Falls want (S.steps self.old.script) (S.steps self.new.script)) }
         ensures count { D.undelivered desk.new ≤ D.undelivered desk.old }
@@ -124,8 +134,8 @@ impl<S: Script> Running<S> {
         part: Bytes,
     ) -> Result<Want<S::Output>, Error>
         ensures goes { MatchResult result
-            (λ want. Goes D.becomes stamp desk.old (meaning_at S.dialogue self.old (Act (Send part))) desk.new (meaning_at S.dialogue self.new want))
-            (λ e. GoesToAnswer D.becomes stamp desk.old (meaning_at S.dialogue self.old (Act (Send part))) desk.new (Err e)) }
+            (λ want. Goes D.becomes stamp desk.old (meaning_at S.dialogue S.refuses self.old (Act (Send part))) desk.new (meaning_at S.dialogue S.refuses self.new want))
+            (λ e. GoesToAnswer D.becomes stamp desk.old (meaning_at S.dialogue S.refuses self.old (Act (Send part))) desk.new (Err e)) }
         ensures wanted { IfOk result (λ want. IsWanted S.dialogue S.waits want self.new.script) }
         ensures falls { IfOk result (λ want. Falls want (S.steps self.old.script) (S.steps self.new.script)) }
         ensures count { D.undelivered desk.new ≤ D.undelivered desk.old }
@@ -133,7 +143,7 @@ impl<S: Script> Running<S> {
     {
         let sent = match desk.book(alloc, stamp, part, false) {
             Ok(id) => id,
-            Err(fault) => return Err(error_of(fault)),
+            Err(fault) => return self.refused(alloc, fault),
         };
         match desk.hang_up(sent) {
             Ok(()) => self.next(alloc),
@@ -148,8 +158,8 @@ impl<S: Script> Running<S> {
         stamp: Stamp,
     ) -> Result<Want<S::Output>, Error>
         ensures goes { MatchResult result
-            (λ want. Goes D.becomes stamp desk.old (meaning_at S.dialogue self.old (Act HangUp)) desk.new (meaning_at S.dialogue self.new want))
-            (λ e. GoesToAnswer D.becomes stamp desk.old (meaning_at S.dialogue self.old (Act HangUp)) desk.new (Err e)) }
+            (λ want. Goes D.becomes stamp desk.old (meaning_at S.dialogue S.refuses self.old (Act HangUp)) desk.new (meaning_at S.dialogue S.refuses self.new want))
+            (λ e. GoesToAnswer D.becomes stamp desk.old (meaning_at S.dialogue S.refuses self.old (Act HangUp)) desk.new (Err e)) }
         ensures wanted { IfOk result (λ want. IsWanted S.dialogue S.waits want self.new.script) }
         ensures falls { IfOk result (λ want. Falls want (S.steps self.old.script) (S.steps self.new.script)) }
         ensures count { D.undelivered desk.new ≤ D.undelivered desk.old }
@@ -173,8 +183,8 @@ impl<S: Script> Running<S> {
     ) -> Result<Want<S::Output>, Error>
         requires { HearsAt S.dialogue S.waits self.old.script }
         ensures goes { MatchResult result
-            (λ want. Goes D.becomes stamp desk.old (meaning_at S.dialogue self.old (Act (Call desk_call))) desk.new (meaning_at S.dialogue self.new want))
-            (λ e. GoesToAnswer D.becomes stamp desk.old (meaning_at S.dialogue self.old (Act (Call desk_call))) desk.new (Err e)) }
+            (λ want. Goes D.becomes stamp desk.old (meaning_at S.dialogue S.refuses self.old (Act (Call desk_call))) desk.new (meaning_at S.dialogue S.refuses self.new want))
+            (λ e. GoesToAnswer D.becomes stamp desk.old (meaning_at S.dialogue S.refuses self.old (Act (Call desk_call))) desk.new (Err e)) }
         ensures wanted { IfOk result (λ want. IsWanted S.dialogue S.waits want self.new.script) }
         ensures falls { IfOk result (λ want. Falls want (S.steps self.old.script) (S.steps self.new.script)) }
         ensures count { D.undelivered desk.new ≤ D.undelivered desk.old }
@@ -182,7 +192,7 @@ impl<S: Script> Running<S> {
     {
         match ask_desk(desk, desk_call) {
             Ok(reply) => self.reply(alloc, reply),
-            Err(fault) => Err(error_of(fault)),
+            Err(fault) => self.refused(alloc, fault),
         }
     }
 
@@ -196,8 +206,8 @@ impl<S: Script> Running<S> {
     ) -> Result<Want<S::Output>, Error>
         requires { IsWanted S.dialogue S.waits (Act action) self.old.script }
         ensures goes { MatchResult result
-            (λ want. Goes D.becomes stamp desk.old (meaning_at S.dialogue self.old (Act action)) desk.new (meaning_at S.dialogue self.new want))
-            (λ e. GoesToAnswer D.becomes stamp desk.old (meaning_at S.dialogue self.old (Act action)) desk.new (Err e)) }
+            (λ want. Goes D.becomes stamp desk.old (meaning_at S.dialogue S.refuses self.old (Act action)) desk.new (meaning_at S.dialogue S.refuses self.new want))
+            (λ e. GoesToAnswer D.becomes stamp desk.old (meaning_at S.dialogue S.refuses self.old (Act action)) desk.new (Err e)) }
         ensures wanted { IfOk result (λ want. IsWanted S.dialogue S.waits want self.new.script) }
         ensures falls { IfOk result (λ want. Falls want (S.steps self.old.script) (S.steps self.new.script)) }
         ensures count { D.undelivered desk.new ≤ D.undelivered desk.old }
@@ -221,8 +231,8 @@ impl<S: Script> Running<S> {
     ) -> Option<Result<S::Output, Error>>
         requires { IsWanted S.dialogue S.waits want self.old.script }
         ensures goes { MatchOption result
-            (Reads D.becomes S.dialogue S.waits stamp desk.old (meaning_at S.dialogue self.old want) desk.new self.new)
-            (λ r. GoesToAnswer D.becomes stamp desk.old (meaning_at S.dialogue self.old want) desk.new r) }
+            (Reads D.becomes S.dialogue S.waits stamp desk.old (meaning_at S.dialogue S.refuses self.old want) desk.new self.new)
+            (λ r. GoesToAnswer D.becomes stamp desk.old (meaning_at S.dialogue S.refuses self.old want) desk.new r) }
         ensures count { D.undelivered desk.new ≤ D.undelivered desk.old }
         ensures batch { length self.new.batch ≤ length self.old.batch }
     {

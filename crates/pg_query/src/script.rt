@@ -2,6 +2,7 @@
 
 ghost use Rattle.std.specs.Prelude.{◌≡◌, ◌<◌, ℕ, IfOk};
 ghost use Rattle.pg_spec.specs.RawMessages.{RawMessage};
+ghost use Rattle.pg_faults.specs.declared.error.Error.{Error};
 ghost use Rattle.pg_query.specs.Dialogue.{Dialogue, feed_one};
 ghost use Rattle.pg_query.specs.Messages.{Means};
 ghost use Rattle.pg_query.specs.Scripts.{Waiting, IsMessage, IsReply, heard, GoesOn, Stops, Falls, cleanup_of};
@@ -42,6 +43,9 @@ pub trait Script: Drop {
     /// it.
     ghost dialogue: { Self → Dialogue Self.Output };
 
+    /// What it asks and answers from here on where the desk refuses what it sent or asked.
+    ghost refuses: { Self → Error → Dialogue Self.Output };
+
     /// What it waits for.
     ghost waits: { (s : Self) → Waiting (dialogue s) };
 
@@ -50,7 +54,7 @@ pub trait Script: Drop {
 
     /// What it wants at its begin, and behind each action.
     fn next(&mut self, alloc: Global) -> Result<Want<Self::Output>, AllocError>
-        ensures goes_on { IfOk result (λ want. GoesOn dialogue waits (dialogue self.old) want self.new) }
+        ensures goes_on { IfOk result (λ want. GoesOn dialogue refuses waits (dialogue self.old) want self.new) }
         ensures falls { IfOk result (λ want. Falls want (steps self.old) (steps self.new)) };
 
     /// The next message of the request that is read, or what is wrong with it. Behind a malformed one
@@ -60,13 +64,18 @@ pub trait Script: Drop {
         alloc: Global,
         message: Result<Message, WireFault>,
     ) -> Result<Want<Self::Output>, AllocError>
-        ensures goes_on { (raw : RawMessage) → Means raw message → IsMessage (waits self.old) → IfOk result (λ want. GoesOn dialogue waits (feed_one raw (dialogue self.old)) want self.new) }
+        ensures goes_on { (raw : RawMessage) → Means raw message → IsMessage (waits self.old) → IfOk result (λ want. GoesOn dialogue refuses waits (feed_one raw (dialogue self.old)) want self.new) }
         ensures stops { (raw : RawMessage) → Means raw message → IsMessage (waits self.old) → IfOk result (λ want. Stops message want) };
 
     /// The reply to what it asked of the desk.
     fn reply(&mut self, alloc: Global, reply: Reply) -> Result<Want<Self::Output>, AllocError>
-        ensures goes_on { IsReply (waits self.old) → IfOk result (λ want. GoesOn dialogue waits (heard reply (dialogue self.old)) want self.new) }
+        ensures goes_on { IsReply (waits self.old) → IfOk result (λ want. GoesOn dialogue refuses waits (heard reply (dialogue self.old)) want self.new) }
         ensures falls { IsReply (waits self.old) → IfOk result (λ want. Falls want (steps self.old) (steps self.new)) };
+
+    /// What it wants where the desk refused what it sent or asked, for this error.
+    fn refused(&mut self, alloc: Global, error: Error) -> Result<Want<Self::Output>, AllocError>
+        ensures goes_on { IfOk result (λ want. GoesOn dialogue refuses waits (refuses self.old error) want self.new) }
+        ensures falls { IfOk result (λ want. Falls want (steps self.old) (steps self.new)) };
 
     /// What is left to do where the command is given up while it reads.
     fn cleanup(&self, alloc: Global) -> Result<VecDeque<Cleanup>, AllocError>

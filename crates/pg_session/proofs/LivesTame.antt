@@ -12,7 +12,7 @@ use Rattle.pg_desk.specs.declared.event.Take.{Take}
 use Rattle.pg_desk.specs.declared.event.Take.TheVariants as taking
 use Rattle.pg_faults.specs.declared.error.Error.{Error}
 use Rattle.pg_faults.specs.declared.error.Error.TheVariants.{Closed}
-use Rattle.pg_query.specs.Dialogue.{Dialogue, Answer, Ask, Send, Leave, Read, HangUp, Call, Hear, feed, feed_one, Steps, Walks}
+use Rattle.pg_query.specs.Dialogue.{Dialogue, Answer, Ask, Send, Leave, Read, Put, Finish, Close, HangUp, Call, Hear, feed, feed_one, Steps, Walks}
 use Rattle.pg_query.specs.Faults.{of_fault}
 use Rattle.pg_query.specs.Lives.{Turn, Lives}
 use Rattle.pg_query.specs.Meaning.{Place}
@@ -31,11 +31,14 @@ IsLast _ = ⊥
 abbrev pub Tame : {T : Type 0} → Dialogue T → Type 0
 Tame (Answer r) = Unit {0}
 Tame (Ask copying part d) = Tame d
-Tame (Send part d) = ⊥
+Tame (Send part refused d) = ⊥
+Tame (Put cleanup part d) = ⊥
+Tame (Finish part d) = ⊥
+Tame (Close part d) = ⊥
 Tame (Leave id d) = ⊥
 Tame (Read cleanup decides next) = (ms : List RawMessage) → Tame (next ms)
 Tame (HangUp d) = IsLast d
-Tame (Call q next) = ⊥
+Tame (Call q refused next) = ⊥
 Tame (Hear next) = ⊥
 
 tame-if : {T : Type 0} (b : Bool) (d e : Dialogue T) → Tame d → Tame e → Tame (if b then d else e)
@@ -45,12 +48,15 @@ tame-if false d e h k = k
 tame-fed-one : {T : Type 0} (m : RawMessage) (d : Dialogue T) → Tame d → Tame (feed_one m d)
 tame-fed-one m (Answer r) h = tt
 tame-fed-one m (Ask copying part d) h = h
-tame-fed-one m (Send part d) h = absurd h
+tame-fed-one m (Send part refused d) h = absurd h
+tame-fed-one m (Put cleanup part d) h = absurd h
+tame-fed-one m (Finish part d) h = absurd h
+tame-fed-one m (Close part d) h = absurd h
 tame-fed-one m (Leave id d) h = absurd h
 tame-fed-one m (Read cleanup decides next) h =
     tame-if (decides (m ∷ [])) (next (m ∷ [])) (Read cleanup (λ ms. decides (m ∷ ms)) (λ ms. next (m ∷ ms))) (h (m ∷ [])) (λ ms. h (m ∷ ms))
 tame-fed-one m (HangUp d) h = h
-tame-fed-one m (Call q next) h = absurd h
+tame-fed-one m (Call q refused next) h = absurd h
 tame-fed-one m (Hear next) h = absurd h
 
 tame-fed : {T : Type 0} (ms : List RawMessage) (d : Dialogue T) → Tame d → Tame (feed ms d)
@@ -104,10 +110,13 @@ read stamp (Read cleanup decides next) id (call.CloseRequests r) d' id' i t s = 
 read stamp (Read cleanup decides next) id (call.Fail r) d' id' i t s = absurd s
 read stamp (Answer r) id e d' id' i t s = absurd i
 read stamp (Ask copying part d) id e d' id' i t s = absurd i
-read stamp (Send part d) id e d' id' i t s = absurd i
+read stamp (Send part refused d) id e d' id' i t s = absurd i
+read stamp (Put cleanup part d) id e d' id' i t s = absurd i
+read stamp (Finish part d) id e d' id' i t s = absurd i
+read stamp (Close part d) id e d' id' i t s = absurd i
 read stamp (Leave k d) id e d' id' i t s = absurd i
 read stamp (HangUp d) id e d' id' i t s = absurd i
-read stamp (Call q next) id e d' id' i t s = absurd i
+read stamp (Call q refused next) id e d' id' i t s = absurd i
 read stamp (Hear next) id e d' id' i t s = absurd i
 
 hung : {T : Type 0} (stamp : Stamp) (d : Dialogue T) (id : ℕ) (e : Event) (d' : Dialogue T) (id' : ℕ) → IsLast d → Steps stamp (HangUp d) id e d' id' →
@@ -123,22 +132,28 @@ hung stamp (Answer r) id (call.Deliver b c x) d' id' t s = absurd s
 hung stamp (Answer r) id (call.CloseRequests x) d' id' t s = absurd s
 hung stamp (Answer r) id (call.Fail x) d' id' t s = absurd s
 hung stamp (Ask copying part d) id e d' id' t s = absurd t
-hung stamp (Send part d) id e d' id' t s = absurd t
+hung stamp (Send part refused d) id e d' id' t s = absurd t
+hung stamp (Put cleanup part d) id e d' id' t s = absurd t
+hung stamp (Finish part d) id e d' id' t s = absurd t
+hung stamp (Close part d) id e d' id' t s = absurd t
 hung stamp (Leave k d) id e d' id' t s = absurd t
 hung stamp (Read cleanup decides next) id e d' id' t s = absurd t
 hung stamp (HangUp d) id e d' id' t s = absurd t
-hung stamp (Call q next) id e d' id' t s = absurd t
+hung stamp (Call q refused next) id e d' id' t s = absurd t
 hung stamp (Hear next) id e d' id' t s = absurd t
 
 stepped : {T : Type 0} (stamp : Stamp) (d : Dialogue T) (id : ℕ) (e : Event) (d' : Dialogue T) (id' : ℕ) → Tame d → Steps stamp d id e d' id' →
     Stepped e d'
 stepped stamp (Answer r) id e d' id' t s = absurd s
 stepped stamp (Ask copying part d) id e d' id' t s = asked stamp copying part d id e d' id' t s
-stepped stamp (Send part d) id e d' id' t s = absurd t
+stepped stamp (Send part refused d) id e d' id' t s = absurd t
+stepped stamp (Put cleanup part d) id e d' id' t s = absurd t
+stepped stamp (Finish part d) id e d' id' t s = absurd t
+stepped stamp (Close part d) id e d' id' t s = absurd t
 stepped stamp (Leave k d) id e d' id' t s = absurd t
 stepped stamp (Read cleanup decides next) id e d' id' t s = read stamp (Read cleanup decides next) id e d' id' tt t s
 stepped stamp (HangUp d) id e d' id' t s = hung stamp d id e d' id' t s
-stepped stamp (Call q next) id e d' id' t s = absurd t
+stepped stamp (Call q refused next) id e d' id' t s = absurd t
 stepped stamp (Hear next) id e d' id' t s = absurd t
 
 -- ---- walks
@@ -148,11 +163,14 @@ last-ends : {T : Type 0} (stamp : Stamp) (d : Dialogue T) (id : ℕ) (es : List 
 last-ends {T} stamp (Answer r) id [] d' id' l w reads = subst (λ (x : Dialogue T). IsRead x) w.0 reads
 last-ends stamp (Answer r) id (e ∷ es) d' id' l w reads = absurd w.2
 last-ends stamp (Ask copying part d) id es d' id' l w reads = absurd l
-last-ends stamp (Send part d) id es d' id' l w reads = absurd l
+last-ends stamp (Send part refused d) id es d' id' l w reads = absurd l
+last-ends stamp (Put cleanup part d) id es d' id' l w reads = absurd l
+last-ends stamp (Finish part d) id es d' id' l w reads = absurd l
+last-ends stamp (Close part d) id es d' id' l w reads = absurd l
 last-ends stamp (Leave k d) id es d' id' l w reads = absurd l
 last-ends stamp (Read cleanup decides next) id es d' id' l w reads = absurd l
 last-ends stamp (HangUp d) id es d' id' l w reads = absurd l
-last-ends stamp (Call q next) id es d' id' l w reads = absurd l
+last-ends stamp (Call q refused next) id es d' id' l w reads = absurd l
 last-ends stamp (Hear next) id es d' id' l w reads = absurd l
 
 pub tame-walked : {T : Type 0} (stamp : Stamp) (d : Dialogue T) (id : ℕ) (es : List Event) (d' : Dialogue T) (id' : ℕ) → Tame d →
@@ -201,9 +219,12 @@ pub taken-there : {T : Type 0} (stamp : Stamp) (d : Dialogue T) (id which : ℕ)
     Steps stamp d id (call.Take which r) d' id' → IsRead d
 taken-there stamp (Answer x) id which r d' id' t s = absurd s
 taken-there stamp (Ask copying part d) id which r d' id' t s = absurd s
-taken-there stamp (Send part d) id which r d' id' t s = absurd t
+taken-there stamp (Send part refused d) id which r d' id' t s = absurd t
+taken-there stamp (Put cleanup part d) id which r d' id' t s = absurd t
+taken-there stamp (Finish part d) id which r d' id' t s = absurd t
+taken-there stamp (Close part d) id which r d' id' t s = absurd t
 taken-there stamp (Leave k d) id which r d' id' t s = absurd t
 taken-there stamp (Read cleanup decides next) id which r d' id' t s = tt
 taken-there stamp (HangUp d) id which r d' id' t s = absurd s
-taken-there stamp (Call q next) id which r d' id' t s = absurd t
+taken-there stamp (Call q refused next) id which r d' id' t s = absurd t
 taken-there stamp (Hear next) id which r d' id' t s = absurd t

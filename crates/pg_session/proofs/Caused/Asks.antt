@@ -30,7 +30,8 @@ use Rattle.pg_connect.specs.Passed.{IsEngineCall, AllEngineCalls}
 use Rattle.pg_query.specs.declared.desk_call.DeskCall.{DeskCall}
 use Rattle.pg_query.specs.declared.desk_call.DeskCall.TheVariants as desk_call
 use Rattle.pg_query.specs.declared.desk_call.Reply.{Reply}
-use Rattle.pg_query.specs.Dialogue.{Dialogue, Answer, Ask, Send, Leave, Read, HangUp, Call, Hear, Steps, Walks, Told, feed_one, feed, after_reply}
+use Rattle.pg_query.specs.Faults.{of_fault}
+use Rattle.pg_query.specs.Dialogue.{Dialogue, Answer, Ask, Send, Leave, Read, Put, Finish, Close, HangUp, Call, Hear, Steps, Walks, Told, feed_one, feed, after_reply}
 use Rattle.pg_query.specs.Meaning.{Place}
 use Rattle.pg_query.specs.Meaning as meaning
 use Rattle.pg_query.specs.Reading.{ends}
@@ -151,25 +152,31 @@ tame-untouched a h = record { state = h.state; fits = fits-touched h.state a fal
 abbrev pub Asks : {T : Type 0} → Dialogue T → Type 0
 Asks (Answer r) = Unit {0}
 Asks (Ask copying part d) = IsQuery part × Asks d
-Asks (Send part d) = IsQuery part × Asks d
+Asks (Send part refused d) = IsQuery part × ((e : Error) → Asks (refused e)) × Asks d
 Asks (Leave id d) = Asks d
 Asks (Read cleanup decides next) = (ms : List RawMessage) → Asks (next ms)
+Asks (Put cleanup part d) = ⊥
+Asks (Finish part d) = ⊥
+Asks (Close part d) = ⊥
 Asks (HangUp d) = Asks d
-Asks (Call q next) = (r : Reply) → Asks (next r)
+Asks (Call q refused next) = ((e : Error) → Asks (refused e)) × ((r : Reply) → Asks (next r))
 Asks (Hear next) = (r : Reply) → Asks (next r)
 
 asks-fed-one : {T : Type 0} (m : RawMessage) (d : Dialogue T) → Asks d → Asks (feed_one m d)
 asks-fed-one m (Answer r) h = h
 asks-fed-one m (Ask copying part d) h = h
-asks-fed-one m (Send part d) h = (h.0, asks-fed-one m d h.1)
+asks-fed-one m (Send part refused d) h = (h.0, λ e. asks-fed-one m (refused e) (h.1 e), asks-fed-one m d h.2)
 asks-fed-one m (Leave id d) h = asks-fed-one m d h
 asks-fed-one {T} m (Read cleanup decides next) h = by_test (decides (m ∷ []))
   where
     by_test : (b : Bool) → Asks (if b then next (m ∷ []) else Read cleanup (λ ms. decides (m ∷ ms)) (λ ms. next (m ∷ ms)))
     by_test true = h (m ∷ [])
     by_test false = λ ms. h (m ∷ ms)
+asks-fed-one m (Put cleanup part d) h = absurd h
+asks-fed-one m (Finish part d) h = absurd h
+asks-fed-one m (Close part d) h = absurd h
 asks-fed-one m (HangUp d) h = h
-asks-fed-one m (Call q next) h = λ r. asks-fed-one m (next r) (h r)
+asks-fed-one m (Call q refused next) h = (λ e. asks-fed-one m (refused e) (h.0 e), λ r. asks-fed-one m (next r) (h.1 r))
 asks-fed-one m (Hear next) h = λ r. asks-fed-one m (next r) (h r)
 
 asks-fed : {T : Type 0} (ms : List RawMessage) (d : Dialogue T) → Asks d → Asks (feed ms d)
@@ -182,9 +189,9 @@ mild-told desk_call.NextStatement _ r h = absurd h
 mild-told desk_call.NextPortal (NextPortal answer) r h = tt
 mild-told desk_call.NextPortal _ r h = absurd h
 
-asks-reply : {T : Type 0} (r : Result Reply DeskFault) (next : Reply → Dialogue T) → ((r : Reply) → Asks (next r)) → Asks (after_reply r next)
-asks-reply (Ok r) next h = h r
-asks-reply (Err e) next h = tt
+asks-reply : {T : Type 0} (r : Result Reply DeskFault) (refused : Error → Dialogue T) (next : Reply → Dialogue T) → ((e : Error) → Asks (refused e)) → ((r : Reply) → Asks (next r)) → Asks (after_reply r refused next)
+asks-reply (Ok r) refused next k h = h r
+asks-reply (Err e) refused next k h = k (of_fault e)
 
 -- a step books a query, or nothing
 record GoesOn {T : Type 0} (e : Event) (d : Dialogue T) : Type 0 where
@@ -199,9 +206,9 @@ step stamp (Answer r) id e d' id' h q = absurd h
 step stamp (Ask copying part d) id (Book stamp' part' copying' (Ok new)) d' id' h q = on _ d d' (subst IsQuery (sym h.1) q.0) q.1 h.3
 step stamp (Ask copying part d) id (Book stamp' part' copying' (Err e)) d' id' h q = on _ _ d' (subst IsQuery (sym h.1) q.0) tt h.3
 step stamp (Ask copying part d) id _ d' id' h q = absurd h
-step stamp (Send part d) id (Book stamp' part' copying (Ok new)) d' id' h q = on _ (Leave new d) d' (subst IsQuery (sym h.1) q.0) q.1 h.3
-step stamp (Send part d) id (Book stamp' part' copying (Err e)) d' id' h q = on _ _ d' (subst IsQuery (sym h.1) q.0) tt h.3
-step stamp (Send part d) id _ d' id' h q = absurd h
+step stamp (Send part refused d) id (Book stamp' part' copying (Ok new)) d' id' h q = on _ (Leave new d) d' (subst IsQuery (sym h.1) q.0) q.2 h.3
+step stamp (Send part refused d) id (Book stamp' part' copying (Err e)) d' id' h q = on _ (refused (of_fault e)) d' (subst IsQuery (sym h.1) q.0) (q.1 (of_fault e)) h.3
+step stamp (Send part refused d) id _ d' id' h q = absurd h
 step stamp (Leave sent d) id (HangUpEvent which (Ok x)) d' id' h q = on _ d d' tt q h.1
 step stamp (Leave sent d) id (HangUpEvent which (Err e)) d' id' h q = on _ _ d' tt tt h.1
 step stamp (Leave sent d) id _ d' id' h q = absurd h
@@ -215,7 +222,10 @@ step stamp (Read cleanup decides next) id _ d' id' h q = absurd h
 step stamp (HangUp d) id (HangUpEvent which (Ok x)) d' id' h q = on _ d d' tt q h.1
 step stamp (HangUp d) id (HangUpEvent which (Err e)) d' id' h q = on _ _ d' tt tt h.1
 step stamp (HangUp d) id _ d' id' h q = absurd h
-step stamp (Call ask next) id e d' id' h q = on e (after_reply h.0 next) d' (mild-told ask e h.0 h.1) (asks-reply h.0 next q) h.2
+step stamp (Put cleanup part d) id e d' id' h q = absurd h
+step stamp (Finish part d) id e d' id' h q = absurd h
+step stamp (Close part d) id e d' id' h q = absurd h
+step stamp (Call ask refused next) id e d' id' h q = on e (after_reply h.0 refused next) d' (mild-told ask e h.0 h.1) (asks-reply h.0 refused next q.0 q.1) h.2
 step stamp (Hear next) id e d' id' h q = absurd h
 
 -- the same of several

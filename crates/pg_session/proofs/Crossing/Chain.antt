@@ -25,7 +25,7 @@ use Rattle.pg_connect.specs.Reads.{Carries}
 use Rattle.pg_query.specs.declared.desk_call.DeskCall.{DeskCall}
 use Rattle.pg_query.specs.declared.desk_call.DeskCall.TheVariants as desk_call
 use Rattle.pg_query.specs.declared.desk_call.Reply.{Reply}
-use Rattle.pg_query.specs.Dialogue.{Dialogue, Answer, Ask, Send, Leave, Read, HangUp, Call, Hear, Steps, Walks, Told}
+use Rattle.pg_query.specs.Dialogue.{Dialogue, Answer, Ask, Send, Leave, Read, Put, Finish, Close, HangUp, Call, Hear, Steps, Walks, Told}
 use Rattle.pg_query.specs.Meaning.{Place}
 use Rattle.pg_query.specs.Meaning as meaning
 use Rattle.pg_query.specs.declared.simple_message.SimpleMessage.{SimpleMessage}
@@ -50,22 +50,28 @@ never_out : {T : Type 0} (stamp : Stamp) (d : Dialogue T) (id : ℕ) (part : Lis
     Steps stamp d id (NextOut (Ok (out.Part part))) d' id' → ⊥
 never_out stamp (Answer r) id part d' id' h = h
 never_out stamp (Ask copying p d) id part d' id' h = h
-never_out stamp (Send p d) id part d' id' h = h
+never_out stamp (Send p refused d) id part d' id' h = h
+never_out stamp (Put cleanup p d) id part d' id' h = h
+never_out stamp (Finish p d) id part d' id' h = h
+never_out stamp (Close p d) id part d' id' h = h
 never_out stamp (Leave sent d) id part d' id' h = h
 never_out stamp (Read cleanup decides next) id part d' id' h = h
 never_out stamp (HangUp d) id part d' id' h = h
-never_out stamp (Call q next) id part d' id' h = not_told q (NextOut (Ok (out.Part part))) h.0 (λ r told. told) (λ r told. told) h.1
+never_out stamp (Call q refused next) id part d' id' h = not_told q (NextOut (Ok (out.Part part))) h.0 (λ r told. told) (λ r told. told) h.1
 never_out stamp (Hear next) id part d' id' h = h
 
 never_in : {T : Type 0} (stamp : Stamp) (d : Dialogue T) (id : ℕ) (batch : List RawMessage) (complete : Bool) (d' : Dialogue T) (id' : ℕ) →
     Steps stamp d id (DeliverEvent batch complete delivering.Taken) d' id' → ⊥
 never_in stamp (Answer r) id batch complete d' id' h = h
 never_in stamp (Ask copying p d) id batch complete d' id' h = h
-never_in stamp (Send p d) id batch complete d' id' h = h
+never_in stamp (Send p refused d) id batch complete d' id' h = h
+never_in stamp (Put cleanup p d) id batch complete d' id' h = h
+never_in stamp (Finish p d) id batch complete d' id' h = h
+never_in stamp (Close p d) id batch complete d' id' h = h
 never_in stamp (Leave sent d) id batch complete d' id' h = h
 never_in stamp (Read cleanup decides next) id batch complete d' id' h = h
 never_in stamp (HangUp d) id batch complete d' id' h = h
-never_in stamp (Call q next) id batch complete d' id' h = not_told q (DeliverEvent batch complete delivering.Taken) h.0 (λ r told. told) (λ r told. told) h.1
+never_in stamp (Call q refused next) id batch complete d' id' h = not_told q (DeliverEvent batch complete delivering.Taken) h.0 (λ r told. told) (λ r told. told) h.1
 never_in stamp (Hear next) id batch complete d' id' h = h
 
 -- the same of one event

@@ -12,7 +12,7 @@ use Rattle.pg_desk.specs.declared.event.Take.TheVariants as taking
 use Rattle.pg_desk.specs.History.{State, after, after_all, IsLegal}
 use Rattle.pg_hub.specs.Fits.{Fits, moves_one, moves}
 use Rattle.pg_hub.specs.Standing.{Standing}
-use Rattle.pg_query.specs.Dialogue.{Dialogue, Answer, Ask, Send, Leave, Read, HangUp, Call, Hear, Steps, Walks, feed_one, feed}
+use Rattle.pg_query.specs.Dialogue.{Dialogue, Answer, Ask, Send, Leave, Read, Put, Finish, Close, HangUp, Call, Hear, Steps, Walks, feed_one, feed}
 use Rattle.pg_query.specs.Reading.{ends}
 use Rattle.pg_query.specs.Requests.{reads_unless}
 use Rattle.pg_query.specs.Scripts.{IsRead}
@@ -35,9 +35,12 @@ reads-fed-one {T} m (Read cleanup decides next) h = by_test (decides (m ∷ []))
     by_test false = λ ms. h (m ∷ ms)
 reads-fed-one m (HangUp d) h = h
 reads-fed-one m (Ask copying part d) h = absurd h
-reads-fed-one m (Send part d) h = absurd h
+reads-fed-one m (Send part refused d) h = absurd h
+reads-fed-one m (Put cleanup part d) h = absurd h
+reads-fed-one m (Finish part d) h = absurd h
+reads-fed-one m (Close part d) h = absurd h
 reads-fed-one m (Leave id d) h = absurd h
-reads-fed-one m (Call q next) h = absurd h
+reads-fed-one m (Call q refused next) h = absurd h
 reads-fed-one m (Hear next) h = absurd h
 
 reads-fed : {T : Type 0} (ms : List RawMessage) (d : Dialogue T) → ReadsToAnswer d → ReadsToAnswer (feed ms d)
@@ -102,9 +105,12 @@ step {T} stamp (HangUp d) id (HangUpEvent which (Ok x)) d' id' h q = record {
 step stamp (HangUp d) id (HangUpEvent which (Err e)) d' id' h q = answered _ _ d' tt h.1
 step stamp (HangUp d) id _ d' id' h q = absurd h
 step stamp (Ask copying part d) id e d' id' h q = absurd q
-step stamp (Send part d) id e d' id' h q = absurd q
+step stamp (Send part refused d) id e d' id' h q = absurd q
+step stamp (Put cleanup part d) id e d' id' h q = absurd q
+step stamp (Finish part d) id e d' id' h q = absurd q
+step stamp (Close part d) id e d' id' h q = absurd q
 step stamp (Leave sent d) id e d' id' h q = absurd q
-step stamp (Call ask next) id e d' id' h q = absurd q
+step stamp (Call ask refused next) id e d' id' h q = absurd q
 step stamp (Hear next) id e d' id' h q = absurd q
 
 -- nothing comes behind an answer

@@ -13,7 +13,7 @@ use Rattle.pg_spec.specs.SimpleQuery.{Item, Complete, Row, SimpleAnswer, SimpleN
 use Rattle.pg_client.specs.Simple.{AsksQuery, answer_from, asks_by, told}
 use Rattle.pg_connect.proofs.Tags.{is_ready_message}
 use Rattle.pg_faults.specs.declared.error.Error.{Error}
-use Rattle.pg_query.specs.Dialogue.{Dialogue, Answer, Ask, Send, Leave, Read, HangUp, Call, Hear, feed, feed_one}
+use Rattle.pg_query.specs.Dialogue.{Dialogue, Answer, Ask, Send, Leave, Read, Put, Finish, Close, HangUp, Call, Hear, feed, feed_one}
 use Rattle.pg_query.specs.Reading.{ends}
 use Rattle.pg_query.specs.Requests.{reads_unless}
 use Rattle.pg_query.specs.declared.simple_message.SimpleMessage.{SimpleMessage}
@@ -30,11 +30,14 @@ IsAnswer _ = ⊥
 abbrev pub AnswersLate : {T : Type 0} → (seen : Bool) → Dialogue T → Type 0
 AnswersLate seen (Answer r) = seen ≡ true
 AnswersLate seen (Ask copying part d) = ⊥
-AnswersLate seen (Send part d) = ⊥
+AnswersLate seen (Send part refused d) = ⊥
+AnswersLate seen (Put cleanup part d) = ⊥
+AnswersLate seen (Finish part d) = ⊥
+AnswersLate seen (Close part d) = ⊥
 AnswersLate seen (Leave id d) = ⊥
 AnswersLate seen (Read cleanup decides next) = (ms : List RawMessage) → decides ms ≡ true → AnswersLate (seen || list_any is_ready ms) (next ms)
 AnswersLate seen (HangUp d) = IsAnswer d
-AnswersLate seen (Call q next) = ⊥
+AnswersLate seen (Call q refused next) = ⊥
 AnswersLate seen (Hear next) = ⊥
 
 -- it answers without a request, or books one first
@@ -70,7 +73,10 @@ or-neither false c h = (refl, h)
 late-one : {T : Type 0} (m : RawMessage) (seen : Bool) (d : Dialogue T) → AnswersLate seen d → AnswersLate (seen || is_ready m) (feed_one m d)
 late-one m seen (Answer r) h = or-first seen (is_ready m) h
 late-one m seen (Ask copying part d) h = absurd h
-late-one m seen (Send part d) h = absurd h
+late-one m seen (Send part refused d) h = absurd h
+late-one m seen (Put cleanup part d) h = absurd h
+late-one m seen (Finish part d) h = absurd h
+late-one m seen (Close part d) h = absurd h
 late-one m seen (Leave id d) h = absurd h
 late-one m seen (Read cleanup decides next) h = by (decides (m ∷ [])) refl
   where
@@ -79,7 +85,7 @@ late-one m seen (Read cleanup decides next) h = by (decides (m ∷ [])) refl
     by true e = subst (λ (b : Bool). AnswersLate b (next (m ∷ []))) (ap (λ (b : Bool). seen || b) (or-none (is_ready m))) (h (m ∷ []) e)
     by false e = λ ms k. subst (λ (b : Bool). AnswersLate b (next (m ∷ ms))) (or-then seen (is_ready m) (list_any is_ready ms)) (h (m ∷ ms) k)
 late-one m seen (HangUp d) h = h
-late-one m seen (Call q next) h = absurd h
+late-one m seen (Call q refused next) h = absurd h
 late-one m seen (Hear next) h = absurd h
 
 pub late-fed : {T : Type 0} (ms : List RawMessage) (seen : Bool) (d : Dialogue T) → AnswersLate seen d → AnswersLate (seen || list_any is_ready ms) (feed ms d)

@@ -13,7 +13,7 @@ use Rattle.pg_faults.specs.declared.error.Error.{Error}
 use Rattle.pg_faults.specs.declared.error.Error.TheVariants.{Closed}
 use Rattle.pg_hub.specs.Fits.{moves_one, moves}
 use Rattle.pg_desk.proofs.Soundness.{let-go-none}
-use Rattle.pg_query.specs.Dialogue.{Dialogue, Answer, Ask, Send, Leave, Read, HangUp, Call, Hear, Steps, Walks}
+use Rattle.pg_query.specs.Dialogue.{Dialogue, Answer, Ask, Send, Leave, Read, Put, Finish, Close, HangUp, Call, Hear, Steps, Walks}
 use Rattle.pg_query.specs.Faults.{of_fault}
 use Rattle.pg_query.specs.Scripts.{IsRead}
 use Rattle.pg_query.specs.declared.desk_call.Cleanup.{Cleanup}
@@ -98,22 +98,28 @@ hang-step stamp s (Answer r) k (call.HangUp which (Ok x)) d' k' lt needs last st
 hang-step stamp s (Answer r) k (call.HangUp which (Err e)) d' k' lt needs last st = absurd needs
 hang-step stamp s (Answer r) k e d' k' lt needs last st = absurd st
 hang-step stamp s (Ask copying part d) k e d' k' lt needs last st = absurd last
-hang-step stamp s (Send part d) k e d' k' lt needs last st = absurd last
+hang-step stamp s (Send part refused d) k e d' k' lt needs last st = absurd last
+hang-step stamp s (Put cleanup part d) k e d' k' lt needs last st = absurd last
+hang-step stamp s (Finish part d) k e d' k' lt needs last st = absurd last
+hang-step stamp s (Close part d) k e d' k' lt needs last st = absurd last
 hang-step stamp s (Leave id d) k e d' k' lt needs last st = absurd last
 hang-step stamp s (Read cleanup decides next) k e d' k' lt needs last st = absurd last
 hang-step stamp s (HangUp d) k e d' k' lt needs last st = absurd last
-hang-step stamp s (Call q next) k e d' k' lt needs last st = absurd last
+hang-step stamp s (Call q refused next) k e d' k' lt needs last st = absurd last
 hang-step stamp s (Hear next) k e d' k' lt needs last st = absurd last
 
 step : {T : Type 0} (stamp : Stamp) (s : State) (d : Dialogue T) (k : ℕ) (e : Event) (d' : Dialogue T) (k' : ℕ) → AllCut s.deliveries → s.failed ≡ false →
     Allows s e → Needs s e → MayAnswer s d k → Steps stamp d k e d' k' → GoesOnLate s (after s e) d' k k' (moves_one s e)
 step stamp s (Answer r) k e d' k' cut whole allows needs h st = absurd st
 step stamp s (Ask copying part d) k e d' k' cut whole allows needs h st = absurd h.late
-step stamp s (Send part d) k e d' k' cut whole allows needs h st = absurd h.late
+step stamp s (Send part refused d) k e d' k' cut whole allows needs h st = absurd h.late
+step stamp s (Put cleanup part d) k e d' k' cut whole allows needs h st = absurd h.late
+step stamp s (Finish part d) k e d' k' cut whole allows needs h st = absurd h.late
+step stamp s (Close part d) k e d' k' cut whole allows needs h st = absurd h.late
 step stamp s (Leave id d) k e d' k' cut whole allows needs h st = absurd h.late
 step stamp s (Read cleanup decides next) k e d' k' cut whole allows needs h st = read-step stamp s cleanup decides next k e d' k' cut whole allows needs h st
 step stamp s (HangUp d) k e d' k' cut whole allows needs h st = hang-step stamp s d k e d' k' h.booked needs h.late st
-step stamp s (Call q next) k e d' k' cut whole allows needs h st = absurd h.late
+step stamp s (Call q refused next) k e d' k' cut whole allows needs h st = absurd h.late
 step stamp s (Hear next) k e d' k' cut whole allows needs h st = absurd h.late
 
 -- ---- a poll
@@ -185,9 +191,12 @@ walk-begins {T} stamp s (Ask copying part d) k (call.Book stamp' part' copying' 
 walk-begins stamp s (Ask copying part d) k (call.Book stamp' part' copying' (Err e) ∷ es) d' k' cut whole exact h (mid, n, st, w) =
     none-begun stamp s mid n (Err (of_fault e)) es d' k' st.3 w
 walk-begins stamp s (Ask copying part d) k (e ∷ es) d' k' cut whole exact h w = absurd w.2
-walk-begins stamp s (Send part d) k es d' k' cut whole exact h w = absurd h
+walk-begins stamp s (Send part refused d) k es d' k' cut whole exact h w = absurd h
+walk-begins stamp s (Put cleanup part d) k es d' k' cut whole exact h w = absurd h
+walk-begins stamp s (Finish part d) k es d' k' cut whole exact h w = absurd h
+walk-begins stamp s (Close part d) k es d' k' cut whole exact h w = absurd h
 walk-begins stamp s (Leave id d) k es d' k' cut whole exact h w = absurd h
 walk-begins stamp s (Read cleanup decides next) k es d' k' cut whole exact h w = absurd h
 walk-begins stamp s (HangUp d) k es d' k' cut whole exact h w = absurd h
-walk-begins stamp s (Call q next) k es d' k' cut whole exact h w = absurd h
+walk-begins stamp s (Call q refused next) k es d' k' cut whole exact h w = absurd h
 walk-begins stamp s (Hear next) k es d' k' cut whole exact h w = absurd h
