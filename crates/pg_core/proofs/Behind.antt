@@ -7,6 +7,7 @@ use Rattle.pg_core.specs.Behind.{behind}
 use Rattle.pg_query.specs.declared.desk_call.Cleanup.{Cleanup}
 use Rattle.pg_core.specs.Runs.{IsTidy, ReadsNothing}
 use Rattle.pg_core.specs.Times.{ReadsNo, IsSane, IsInTime, IsCommand, LacksMemory, IsFaithful}
+use Rattle.pg_core.proofs.Gone.{no-reads}
 
 module _ {A T : Type 0} (extra : List Cleanup) (f : Result A Error → Dialogue T) (later : (r : Result A Error) → IsCommand (f r)) where
   nothing-behind : (d : Dialogue A) → ReadsNothing d → ReadsNothing (behind extra d f)
@@ -23,7 +24,7 @@ module _ {A T : Type 0} (extra : List Cleanup) (f : Result A Error → Dialogue 
   nothing-behind (Hear next) h = absurd h
 
   no-behind : (d : Dialogue A) → ReadsNo d → ReadsNo (behind extra d f)
-  no-behind (Answer r) h = (later r).reads_no
+  no-behind (Answer r) h = no-reads (f r) (later r).nothing
   no-behind (Ask c p d) h = tt
   no-behind (Send p refused d) h = (λ e. no-behind (refused e) (h.0 e), no-behind d h.1)
   no-behind (Leave k d) h = no-behind d h
@@ -106,7 +107,6 @@ module _ {A T : Type 0} (extra : List Cleanup) (f : Result A Error → Dialogue 
     tidy = tidy-behind d h.tidy;
     nothing = nothing-behind d h.nothing;
     sane = sane-behind d h.sane;
-    reads_no = no-behind d h.reads_no;
     in_time = time-behind d h.in_time;
     faithful = faithful-behind g d h.faithful;
   }

@@ -12,7 +12,7 @@ use Rattle.pg_faults.specs.declared.error.Error.{Error}
 use Rattle.pg_faults.specs.declared.error.Error.TheVariants.{OutOfMemory}
 use Rattle.pg_query.specs.Faults.{of_fault}
 use Rattle.pg_query.specs.Dialogue as code
-use Rattle.pg_query.specs.Dialogue.{Dialogue, Answer, feed, feed_one, Told, Steps}
+use Rattle.pg_query.specs.Dialogue.{Dialogue, Answer, feed, feed_one, after_reply, Told, Steps}
 use Rattle.pg_query.specs.Lives.{Deed}
 use Rattle.pg_query.specs.Meaning.{Place}
 use Rattle.pg_query.specs.Scripts.{IsRead}
@@ -87,6 +87,14 @@ failed-ends s h = ap (λ (b : Bool). s.closed || b) h ∙ or-true s.closed
     or-true : (b : Bool) → (b || true) ≡ true
     or-true true = refl
     or-true false = refl
+
+-- nor had it failed before
+pub was-whole : (s : State) (es : List Event) → ended (after_all s es) ≡ false → s.failed ≡ false
+was-whole s es open_ = by s.failed refl
+  where
+    by : (b : Bool) → s.failed ≡ b → s.failed ≡ false
+    by true e = absurd (not-ended s es open_ (failed-ends s e))
+    by false e = e
 
 -- ---- one event
 

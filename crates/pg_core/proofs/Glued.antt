@@ -23,15 +23,15 @@ use Rattle.pg_core.proofs.Faithful.{granted-or-lacks}
 use Rattle.pg_core.proofs.Upright.{upright-turn}
 
 pub glued : {T : Type 0} (course : Course DeskCall Reply) (who : Who) (d : Dialogue T) (place : ℕ) (trail : List Moment) (s : State) (p : Place T) (ds : List Deed) (q : Place T) (stamp : Stamp) (former : List DeskCall) →
-    IsUpright d trail s p → Leads p.dialogue p.reads ds q.dialogue q.reads → IsLegal s (events_of ds) → s.failed ≡ false → ended (after_all s (events_of ds)) ≡ false → PollEnds ds q →
+    IsUpright d trail s p → Leads p.dialogue p.reads ds q.dialogue q.reads → IsLegal s (events_of ds) → ended (after_all s (events_of ds)) ≡ false → PollEnds ds q →
     stamp ≡ stamp_of who place → AllUnder stamp ds → Counts former s → IsOwnTurn course.trace who.handle place place → IsNext course who.handle d trail place → CameBy course place (came_of (state_behind s ds)) →
-    IsTurnOf tells course who d trail (moment_of place (came_of (state_behind s ds)) ds) ⊎ (q.dialogue ≡ Answer (Err OutOfMemory))
-glued {T} course who d place trail s p ds q stamp former h l legal whole open_ ends same under counts own next came = by turn.1 (granted-or-lacks s p ds q h.faithful l legal open_ ends)
+    IsTurnOf tells course who d trail (length s.book) former (moment_of place (came_of (state_behind s ds)) ds) ⊎ (q.dialogue ≡ Answer (Err OutOfMemory))
+glued {T} course who d place trail s p ds q stamp former h l legal open_ ends same under counts own next came = by turn.1 (granted-or-lacks s p ds q h.faithful l legal open_ ends)
   where
     turn : OwnTurn d place trail s ds q × TurnedWell d (moment_of place (came_of (state_behind s ds)) ds ∷ trail) (state_behind s ds) q
-    turn = upright-turn d place trail s p ds q h l legal whole open_ ends
+    turn = upright-turn d place trail s p ds q h l legal open_ ends
 
-    so : IsSettled (goes_on (ran_by d trail) (moment_of place (came_of (state_behind s ds)) ds)).left → AreGranted (bookings_in ds) → AreGranted (answers_in ds) → IsTurnOf tells course who d trail (moment_of place (came_of (state_behind s ds)) ds)
+    so : IsSettled (goes_on (ran_by d trail) (moment_of place (came_of (state_behind s ds)) ds)).left → AreGranted (bookings_in ds) → AreGranted (answers_in ds) → IsTurnOf tells course who d trail (length s.book) former (moment_of place (came_of (state_behind s ds)) ds)
     so settled booked answered =
         let stored = (stored-part s (events_of ds)).legal legal in
         record {
@@ -39,9 +39,7 @@ glued {T} course who d place trail s p ds q stamp former h l legal whole open_ e
           next = next;
           came = came;
           within = turn.0.within;
-          number = length s.book;
           numbered = (books-so who place stamp same p.dialogue p.reads ds q.dialogue q.reads s under l stored).numbered;
-          former = former;
           told = (told-so who place stamp same ds former s under stored counts).told;
           booked = booked;
           answered = answered;
@@ -49,7 +47,7 @@ glued {T} course who d place trail s p ds q stamp former h l legal whole open_ e
         }
 
     by : TurnedWell d (moment_of place (came_of (state_behind s ds)) ds ∷ trail) (state_behind s ds) q →
-        (AreGranted (bookings_in ds) × (AreGranted (answers_in ds) × IsFaithful q.dialogue)) ⊎ (q.dialogue ≡ Answer (Err OutOfMemory)) → IsTurnOf tells course who d trail (moment_of place (came_of (state_behind s ds)) ds) ⊎ (q.dialogue ≡ Answer (Err OutOfMemory))
+        (AreGranted (bookings_in ds) × (AreGranted (answers_in ds) × IsFaithful q.dialogue)) ⊎ (q.dialogue ≡ Answer (Err OutOfMemory)) → IsTurnOf tells course who d trail (length s.book) former (moment_of place (came_of (state_behind s ds)) ds) ⊎ (q.dialogue ≡ Answer (Err OutOfMemory))
     by w (inr e) = inr e
     by (StaysUpright upright reads) (inl g) = inl (so (inl reads) g.0 g.1.0)
     by (AnsweredWell r e is) (inl g) = inl (so (inr (r, is)) g.0 g.1.0)

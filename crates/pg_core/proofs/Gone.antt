@@ -22,6 +22,7 @@ use Rattle.pg_query.specs.declared.desk_call.Reply.{Reply}
 use Rattle.pg_core.specs.Dialogues.{decided_after}
 use Rattle.pg_query.proofs.RequestLaws.{Leads}
 use Rattle.pg_core.specs.Lists.{events_of, IsReached}
+use Rattle.pg_core.specs.Runs.{ReadsNothing}
 use Rattle.pg_core.specs.Times.{ReadsNo, IsSane, IsThere, Fits, IsNoHangUp, HangsUpNone}
 
 -- only requests that are booked are hung up
@@ -39,6 +40,20 @@ NoneGone [] = Unit {0}
 NoneGone (a ∷ ds) = IsNotGone a.event × NoneGone ds
 
 -- ---- what messages leave as it is
+
+-- what reads and hangs up nothing reads nothing
+pub no-reads : {T : Type 0} (d : Dialogue T) → ReadsNothing d → ReadsNo d
+no-reads (Answer r) h = tt
+no-reads (code.Ask copying part d) h = tt
+no-reads (code.Send part refused d) h = (λ e. no-reads (refused e) (h.0 e), no-reads d h.1)
+no-reads (code.Leave id d) h = no-reads d h
+no-reads (code.Read cleanup decides next) h = absurd h
+no-reads (code.Put cleanup part d) h = absurd h
+no-reads (code.Finish part d) h = absurd h
+no-reads (code.Close part d) h = absurd h
+no-reads (code.HangUp d) h = absurd h
+no-reads (code.Call q refused next) h = (λ e. no-reads (refused e) (h.0 e), λ r. no-reads (next r) (h.1 r))
+no-reads (code.Hear next) h = absurd h
 
 reads-no-one : {T : Type 0} (m : RawMessage) (d : Dialogue T) → ReadsNo d → ReadsNo (feed_one m d)
 reads-no-one m (code.Answer r) h = tt

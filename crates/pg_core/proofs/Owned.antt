@@ -72,3 +72,26 @@ pub own-questions : (tells : List DeskCall → DeskCall → Reply) (who : Who) (
 own-questions tells who turn before asked qs h =
     filter-append (λ a. is_of who.handle who.command (record { stamp = a.stamp; parts = [] })) asked qs
     ∙ ap (λ (l : List (Asked DeskCall Reply)). questions_of asked who.handle who.command ++ l) (all-asked tells who turn before qs h)
+
+-- another's are none of its
+is-other : (who other : Who) (turn : ℕ) (b : Booking) → ((other.handle == who.handle) && (other.command == who.command)) ≡ false → b.stamp ≡ stamp_of other turn → is_of who.handle who.command b ≡ false
+is-other who other turn b apart e = ap (λ (s : Stamp). (s.owner == who.handle) && (s.command == who.command)) e ∙ apart
+
+none-asked : (tells : List DeskCall → DeskCall → Reply) (who other : Who) (turn : ℕ) (before : List DeskCall) (qs : List (Asked DeskCall Reply)) →
+    ((other.handle == who.handle) && (other.command == who.command)) ≡ false → AreToldIn tells other turn before qs → questions_of qs who.handle who.command ≡ []
+none-asked tells who other turn before [] apart h = refl
+none-asked tells who other turn before (a ∷ qs) apart (stamp, reply, h) =
+    ap (λ (b : Bool). if b then a ∷ questions_of qs who.handle who.command else questions_of qs who.handle who.command) (is-other who other turn (record { stamp = a.stamp; parts = [] }) apart stamp)
+    ∙ none-asked tells who other turn (before ++ a.question ∷ []) qs apart h
+
+pub others-questions : (tells : List DeskCall → DeskCall → Reply) (who other : Who) (turn : ℕ) (before : List DeskCall) (asked qs : List (Asked DeskCall Reply)) →
+    ((other.handle == who.handle) && (other.command == who.command)) ≡ false → AreToldIn tells other turn before qs →
+    questions_of (asked ++ qs) who.handle who.command ≡ questions_of asked who.handle who.command
+others-questions tells who other turn before asked qs apart h =
+    filter-append (λ a. is_of who.handle who.command (record { stamp = a.stamp; parts = [] })) asked qs
+    ∙ ap (λ (l : List (Asked DeskCall Reply)). questions_of asked who.handle who.command ++ l) (none-asked tells who other turn before qs apart h)
+    ∙ append-nil (questions_of asked who.handle who.command)
+
+pub others-requests-apart : (who other : Who) (turn : ℕ) (book : List Booking) (rs : List Request) → ((other.handle == who.handle) && (other.command == who.command)) ≡ false → AreNumbered other turn (length book) rs →
+    requests_of (book ++ map (λ r. r.booking) rs) who.handle who.command ≡ requests_of book who.handle who.command
+others-requests-apart who other turn book rs apart h = others-requests who other turn book rs (λ b t e. is-other who other t b apart e) h

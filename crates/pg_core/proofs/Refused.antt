@@ -1,5 +1,5 @@
 -- Where a legal list refuses a command that decides in time, memory lacked, or its request is gone.
-use Rattle.std.proofs.Common.{◌≡◌, ◌⊎◌, inl, inr, ℕ, ◌≤◌, nat_lt, List, [], ◌∷◌, ◌++◌, length, take, Bool, true, false, if◌then◌else◌, Option, Some, None, Result, Ok, Err, refl, sym, ap, subst, ◌∙◌, arith}
+use Rattle.std.proofs.Common.{◌≡◌, ◌⊎◌, inl, inr, ℕ, ◌≤◌, ◌||◌, nat_lt, List, [], ◌∷◌, ◌++◌, length, take, Bool, true, false, if◌then◌else◌, Option, Some, None, Result, Ok, Err, refl, sym, ap, subst, ◌∙◌, arith}
 use Rattle.std.proofs.lemmas.Bool.Decides.{nat_tests}
 use Rattle.std.proofs.lemmas.List.{map-append, take-append-le}
 use Rattle.std.specs.List.{list_any}
@@ -9,15 +9,15 @@ use Rattle.pg_desk.specs.declared.event.DeskFault.{DeskFault}
 use Rattle.pg_desk.specs.declared.event.DeskFault.TheVariants as fault
 use Rattle.pg_desk.specs.declared.event.Take.TheVariants as taking
 use Rattle.pg_desk.specs.declared.event.Event.{Event}
-use Rattle.pg_desk.specs.declared.event.Event.TheVariants.{Take as TakeEvent, HangUp}
-use Rattle.pg_desk.specs.History.{State, finished, has_ended, joined, waiting, is_hung_up, after, after_all, take_answer, take_of_waiting, Allows, IsFrontOf, IsLegal, kept}
-use Rattle.pg_desk.specs.Kept.{stored-part}
+use Rattle.pg_desk.specs.declared.event.Event.TheVariants.{Book, Take as TakeEvent, HangUp, NextStatement, NextPortal, NextOut, Deliver as DeliverEvent, CloseRequests, Fail}
+use Rattle.pg_desk.specs.History.{State, finished, has_ended, joined, waiting, is_hung_up, after, after_all, take_answer, take_of_waiting, ended, Allows, IsFrontOf, IsLegal, kept}
+use Rattle.pg_desk.specs.Kept.{after-joined, stored-part}
 use Rattle.pg_desk.proofs.Soundness.{AllCut, legal-kept}
 use Rattle.pg_faults.specs.declared.error.Error.{Error}
 use Rattle.pg_faults.specs.declared.error.Error.TheVariants.{OutOfMemory}
 use Rattle.pg_query.specs.Faults.{of_fault}
 use Rattle.pg_query.specs.Dialogue as code
-use Rattle.pg_query.specs.Dialogue.{Dialogue, Answer, Steps}
+use Rattle.pg_query.specs.Dialogue.{Dialogue, Answer, Steps, feed}
 use Rattle.pg_query.specs.declared.desk_call.DeskCall.TheVariants as desk_call
 use Rattle.pg_query.specs.Lives.{Deed}
 use Rattle.pg_query.specs.Meaning.{Place}
@@ -28,7 +28,7 @@ use Rattle.pg_core.specs.Deeds.{Serves, EndsRefused, got_after}
 use Rattle.pg_core.specs.Lists.{events_of, came_of, got_of, state_behind, IsReached}
 use Rattle.pg_core.specs.Runs.{Ran, of_request, At, Waits, ReadsNothing}
 use Rattle.pg_core.specs.Times.{IsTimely}
-use Rattle.pg_core.specs.Trails.{Moment, ran_by, goes_on, IsRunning, moment_of, Leads-to, Waiting, Answering, Refusing, PollsOn}
+use Rattle.pg_core.specs.Trails.{Moment, ran_by, goes_on, IsRunning, moment_of, LedTo, Waiting, Answering, Refusing, PollsOn}
 use Rattle.pg_core.proofs.Steps.{all-taken, firm, poll-served, reached-on, taken-within}
 use Rattle.pg_core.proofs.Timely.{IsUndecided, in-time, undecided, group-ends, never-over}
 use Rattle.pg_core.proofs.Trail.{polled}
@@ -193,7 +193,7 @@ module _ {T : Type 0} (d : Dialogue T) (trail : List Moment) (s : State) (p : Pl
           (undecided (came_of t) (ran_by d trail).at (ran_by d trail).read (ran_by d trail).left _ _)
           (ap (λ (x : Option ℕ). ends_in is_ready (of_request (came_of t) x)) e ∙ ap (λ (x : ℕ). ends_in is_ready (came_of t x)) same ∙ ends)
 
-      by : Leads-to d (moment_of 0 (came_of t) before ∷ trail) (got_of s) before q → ⊥
+      by : LedTo d (moment_of 0 (came_of t) before ∷ trail) (got_of s) before q → ⊥
       by (Waiting h there) = by-at r.at refl h.at there
       by (Answering x e gave) = subst IsRead e reads
       by (Refusing x) = subst IsRead x.is reads

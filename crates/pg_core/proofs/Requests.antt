@@ -52,4 +52,4 @@ request-so {T} stops frame reading h = by (reading [])
     )
 
     by : (o : Option (Result T Error)) → IsCommand (asks stops frame reading)
-    by o = let b = behind (reading []) in record { tidy = b.0; nothing = tt; sane = b.1.0; reads_no = tt; in_time = b.1.1.0; faithful = b.1.1.1 }
+    by o = let b = behind (reading []) in record { tidy = b.0; nothing = tt; sane = b.1.0; in_time = b.1.1.0; faithful = b.1.1.1 }

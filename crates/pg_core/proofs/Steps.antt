@@ -19,7 +19,7 @@ use Rattle.pg_core.specs.Deeds.{Serves, got_after}
 use Rattle.pg_core.specs.Lists.{events_of, came_of, got_of, Owns, IsApart, state_behind, EndsEmpty, IsReached, SparesAll}
 use Rattle.pg_core.specs.Outcomes.{LivesSo}
 use Rattle.pg_core.specs.Runs.{of_request, At, IsTidy, ReadsNothing, Answered, Waits}
-use Rattle.pg_core.specs.Trails.{Moment, ran_by, IsRunning, moment_of, Leads-to, Waiting, Answering, Refusing, PollsOn, Turned, RunsOn, HasAnswered, WasRefused, PollEnds, Gave, Pauses, OwnTurn}
+use Rattle.pg_core.specs.Trails.{Moment, ran_by, IsRunning, moment_of, LedTo, Waiting, Answering, Refusing, PollsOn, Turned, RunsOn, HasAnswered, WasRefused, PollEnds, Gave, Pauses, OwnTurn}
 use Rattle.pg_core.proofs.Lists.{IsFirm, NoneAhead, list-serves, grows, ahead-one}
 use Rattle.pg_core.proofs.Outcome.{life}
 use Rattle.pg_core.proofs.Trail.{polled, others}
@@ -159,7 +159,7 @@ own-turn {T} d place trail s p ds q reached runs l legal ends = record { met = c
     same-at None = refl
     same-at (Some k) = sym (served.1 k)
 
-    led : Leads-to d (moment_of place (came_of t) ds ∷ trail) (got_of s) ds q → Turned d (moment_of place (came_of t) ds ∷ trail) t ds q
+    led : LedTo d (moment_of place (came_of t) ds ∷ trail) (got_of s) ds q → Turned d (moment_of place (came_of t) ds ∷ trail) t ds q
     led (Waiting h reads) = RunsOn (others d (moment_of place (came_of t) ds ∷ trail) (got_after (got_of s) ds) (got_of t) q (same-at (ran_by d (moment_of place (came_of t) ds ∷ trail)).at) h) reads
     led (Answering r e is) = HasAnswered r e is
     led (Refusing h) = WasRefused h

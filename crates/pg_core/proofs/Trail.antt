@@ -20,9 +20,9 @@ use Rattle.pg_core.proofs.Living.{Went, went}
 use Rattle.pg_query.proofs.RequestLaws.{Leads}
 use Rattle.pg_core.specs.Deeds.{Serves, bookings_in, answers_in, got_after, granted}
 use Rattle.pg_core.specs.Runs as runs
-use Rattle.pg_core.specs.Runs.{Ran, of_request, run, ReadsNothing, IsTidy, At, Holds, Ends, Answered, Waits, Stands, Comes}
+use Rattle.pg_core.specs.Runs.{Ran, of_request, stays, run, ReadsNothing, IsTidy, At, Holds, Ends, Answered, Waits, Stands, Comes}
 use Rattle.pg_core.specs.Outcomes.{asked}
-use Rattle.pg_core.specs.Trails.{point_of, Moment, goes_on, ran_by, AreMet, IsRunning, moment_of, Leads-to, Waiting, Answering, Refusing, PollsOn, NoneBetween, IsTurnOf, AreTurnsOf, begun_at}
+use Rattle.pg_core.specs.Trails.{point_of, Moment, goes_on, ran_by, AreMet, IsRunning, moment_of, LedTo, Waiting, Answering, Refusing, PollsOn, NoneBetween, IsTurnOf, AreTurnsOf, begun_at}
 use Rattle.pg_core.proofs.Core.{comes}
 use Rattle.pg_core.proofs.Goes.{Plain, plain, step_of, goes-so}
 
@@ -87,15 +87,15 @@ plainly : {T : Type 0} (course : Course DeskCall Reply) (handle : ℕ) (at : Poi
 plainly course handle at d s w = record { stuck = w.stuck; unfolds = w.unfolds [] }
 
 -- one turn, by the law of one turn
-turn-went : {T : Type 0} (tells : List DeskCall → DeskCall → Reply) (course : Course DeskCall Reply) (who : Who) (d : code.Dialogue T) (m : Moment) (before : List Moment) → IsTurnOf tells course who d before m →
+turn-went : {T : Type 0} (tells : List DeskCall → DeskCall → Reply) (course : Course DeskCall Reply) (who : Who) (d : code.Dialogue T) (m : Moment) (before : List Moment) (number : ℕ) (former : List DeskCall) → IsTurnOf tells course who d before number former m →
     (goes_on (ran_by d before) m).asked ≡ granted m.answers →
     WentSo course who.handle (point_of m.place (ran_by d before)) (asked (ran_by d before).left) (step_of m.place (goes_on (ran_by d before) m))
-turn-went {T} tells course who d m before t same =
+turn-went {T} tells course who d m before number former t same =
     subst (λ (s : Plain T). WentSo course who.handle (point_of m.place (ran_by d before)) (asked (ran_by d before).left) s)
-    (goes-so tells course who m.place m.came t.came 0 t.number t.former (ran_by d before).at (ran_by d before).read (ran_by d before).left m.bookings m.answers t.within t.booked t.answered t.numbered t.told same t.settled)
+    (goes-so tells course who m.place m.came t.came 0 number former (ran_by d before).at (ran_by d before).read (ran_by d before).left m.bookings m.answers t.within t.booked t.answered t.numbered t.told same t.settled)
     (plainly course who.handle (point_of m.place (ran_by d before)) (asked (ran_by d before).left)
-    (goes tells course who t.number t.former (point_of m.place (ran_by d before)) (asked (ran_by d before).left) 0)
-    (went tells course who t.number t.former (point_of m.place (ran_by d before)) (asked (ran_by d before).left) 0 t.own))
+    (goes tells course who number former (point_of m.place (ran_by d before)) (asked (ran_by d before).left) 0)
+    (went tells course who number former (point_of m.place (ran_by d before)) (asked (ran_by d before).left) 0 t.own))
 
 -- where it reads, from the former turn
 from-former : {T : Type 0} (course : Course DeskCall Reply) (handle : ℕ) (former next : ℕ) (s : Ran T) (d : code.Dialogue T) → s.left ≡ d → IsRead d → former < next → NoneBetween course handle former next →
@@ -130,11 +130,11 @@ from-former course handle former next s (code.Hear next_d) is reads lt none stuc
 
 carried : {T : Type 0} (tells : List DeskCall → DeskCall → Reply) (course : Course DeskCall Reply) (who : Who) (d : code.Dialogue T) (m : Moment) (before : List Moment) → AreTurnsOf tells course who d (m ∷ before) → AreMet d (m ∷ before) →
     Carries course who d m before
-carried tells course who d m [] (t, ts) (requests, same, met) =
-    let w = turn-went tells course who d m [] t same in
+carried tells course who d m [] (number, asked_before, t, ts) (requests, same, met) =
+    let w = turn-went tells course who d m [] number asked_before t same in
     record { stuck = w.stuck; back = w.unfolds }
-carried {T} tells course who d m (former ∷ before) (t, ts) (requests, same, met) =
-    let w = turn-went tells course who d m (former ∷ before) t same in
+carried {T} tells course who d m (former ∷ before) (number, asked_before, t, ts) (requests, same, met) =
+    let w = turn-went tells course who d m (former ∷ before) number asked_before t same in
     let h = carried tells course who d former before ts met in
     let s = ran_by d (former ∷ before) in
     let r = goes_on s m in
@@ -203,7 +203,7 @@ polled {T} d trail came got p place ds q h front l serves = record {
     r : Ran T
     r = run came s.at s.read s.left (bookings_in ds) (answers_in ds)
 
-    by : Ends came got ds q.dialogue q.reads → Stands came r ds q.dialogue q.reads → Leads-to d (moment_of place came ds ∷ trail) got ds q
+    by : Ends came got ds q.dialogue q.reads → Stands came r ds q.dialogue q.reads → LedTo d (moment_of place came ds ∷ trail) got ds q
     by ends (runs.Gave x is left) = Answering x is left
     by (Answered x e) (runs.Reads here there reads tidy le is) = absurd (subst IsRead e there)
     by (Waits w all) (runs.Reads here there reads tidy le is) = Waiting

@@ -16,8 +16,8 @@ use Rattle.pg_core.specs.Lists.{events_of, came_of, got_of, state_behind, IsReac
 use Rattle.pg_core.specs.Runs.{of_request, At}
 use Rattle.pg_core.specs.Times.{Fits, IsTimely, HangsUpNone, IsCommand, IsFaithful, IsUpright, TurnedWell, StaysUpright, AnsweredWell, LackedMemory}
 use Rattle.pg_core.specs.Trails.{Moment, ran_by, IsRunning, moment_of, Turned, RunsOn, HasAnswered, WasRefused, PollEnds, OwnTurn}
-use Rattle.pg_core.proofs.Faithful.{granted-or-lacks}
-use Rattle.pg_core.proofs.Gone.{IsNotGone, NoneGone, Stays, none-gone, none-hung, fits-on, fits-none}
+use Rattle.pg_core.proofs.Faithful.{granted-or-lacks, was-whole}
+use Rattle.pg_core.proofs.Gone.{IsNotGone, NoneGone, Stays, no-reads, none-gone, none-hung, fits-on, fits-none}
 use Rattle.pg_core.proofs.Refused.{HasGone, refused-why, timely-as, timely-back}
 use Rattle.pg_core.proofs.Steps.{own-turn, others-turn, reached-on, taken-within, spared}
 use Rattle.pg_core.proofs.Timely.{in-time}
@@ -32,14 +32,14 @@ upright-begins {T} d s p h is reached = record {
   reached = reached;
   runs = begins d (got_of s) p is h.tidy h.nothing;
   timely = (h.in_time, inr refl);
-  fits = subst (λ (x : Dialogue T). Fits s x p.reads) (sym is) (fits-none s d p.reads h.sane h.reads_no);
+  fits = subst (λ (x : Dialogue T). Fits s x p.reads) (sym is) (fits-none s d p.reads h.sane (no-reads d h.nothing));
   faithful = subst (λ (x : Dialogue T). IsFaithful x) (sym is) h.faithful;
 }
 
 pub upright-turn : {T : Type 0} (d : Dialogue T) (place : ℕ) (trail : List Moment) (s : State) (p : Place T) (ds : List Deed) (q : Place T) → IsUpright d trail s p → Leads p.dialogue p.reads ds q.dialogue q.reads →
-    IsLegal s (events_of ds) → s.failed ≡ false → ended (after_all s (events_of ds)) ≡ false → PollEnds ds q →
+    IsLegal s (events_of ds) → ended (after_all s (events_of ds)) ≡ false → PollEnds ds q →
     OwnTurn d place trail s ds q × TurnedWell d (moment_of place (came_of (state_behind s ds)) ds ∷ trail) (state_behind s ds) q
-upright-turn {T} d place trail s p ds q h l legal whole open_ ends = (turn, by turn.turned)
+upright-turn {T} d place trail s p ds q h l legal open_ ends = (turn, by turn.turned)
   where
     t : State
     t = state_behind s ds
@@ -57,7 +57,7 @@ upright-turn {T} d place trail s p ds q h l legal whole open_ ends = (turn, by t
     trail' = moment_of place (came_of t) ds ∷ trail
 
     walked : Stays s ds q.dialogue q.reads
-    walked = none-gone s p.dialogue p.reads ds q.dialogue q.reads h.fits (none-hung s h.reached) whole legal l
+    walked = none-gone s p.dialogue p.reads ds q.dialogue q.reads h.fits (none-hung s h.reached) (was-whole s (events_of ds) open_) legal l
 
     stays : IsRunning d trail' (got_of t) q → IsRead (ran_by d trail').left → (AreGranted (bookings_in ds) × (AreGranted (answers_in ds) × IsFaithful q.dialogue)) ⊎ (q.dialogue ≡ Answer (Err OutOfMemory)) → TurnedWell d trail' t q
     stays runs reads (inr e) = LackedMemory e

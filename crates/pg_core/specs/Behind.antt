@@ -4,7 +4,7 @@ use Rattle.pg_faults.specs.declared.error.Error.{Error}
 use Rattle.pg_query.specs.declared.desk_call.Cleanup.{Cleanup}
 use Rattle.pg_query.specs.Dialogue.{Dialogue, Answer, Ask, Send, Leave, Read, Put, Finish, Close, HangUp, Call, Hear}
 
--- A dialogue, and another behind its answer. What is left to do where the first is given up is followed by what is left of more.
+-- A dialogue, and another behind its answer. What is left to do where the first is given up is followed by `more`.
 abbrev pub behind : {A T : Type 0} → (more : List Cleanup) → Dialogue A → (Result A Error → Dialogue T) → Dialogue T
 behind more (Answer r) f = f r
 behind more (Ask copying part d) f = Ask copying part (behind more d f)

@@ -27,12 +27,12 @@ portals_in (desk_call.NextPortal ∷ qs) = portals_in qs + 1
 abbrev pub number_to : (top drawn : ℕ) → Reply
 number_to top n = if nat_lt n top then reply.Number n else reply.Spent
 
--- numbers by how many were drawn; past the last of 32 bits it is spent
+-- numbers from 0, by how many were drawn; at 2^32 - 1 they are spent
 abbrev pub tells : List DeskCall → DeskCall → Reply
 tells before desk_call.NextStatement = number_to (2 ^ 32 - 1) (statements_in before)
 tells before desk_call.NextPortal = number_to (2 ^ 32 - 1) (portals_in before)
 
--- the counters of a state are those of what was asked so far
+-- the counters of a state are those of what was asked so far: numbers from 0, spent at 2^32 - 1
 pub record Counts (before : List DeskCall) (s : State) : Type 0 where
   pub statements : number_to (2 ^ 32 - 1) (statements_in before) ≡ number_to (2 ^ 32 - 1) s.statements
   pub portals : number_to (2 ^ 32 - 1) (portals_in before) ≡ number_to (2 ^ 32 - 1) s.portals

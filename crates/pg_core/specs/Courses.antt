@@ -55,7 +55,7 @@ abbrev pub reply_to : {Q R : Type 0} → Course Q R → Option ℕ → List RawM
 reply_to course None = []
 reply_to course (Some k) = unwrap_or (slice_get course.replies k) []
 
--- how many messages of that reply were delivered when a turn began
+-- how many messages were delivered from that reply on, those of later replies too, when a turn began
 abbrev pub delivered_to : {Q R : Type 0} → Course Q R → Option ℕ → (place : ℕ) → ℕ
 delivered_to course None place = 0
 delivered_to course (Some k) place = delivered_before course.trace place - sum_by length (take k course.replies)

@@ -18,7 +18,7 @@ pub data Dialogue (Q R A : Type 0) : Type 0 where
   -- asks the desk, and goes on by what it is told
   Calls : Q → (R → Dialogue Q R A) → Dialogue Q R A
 
--- how many messages are read: as many as the shortest front that decides has
+-- how many messages are read: as many as the shortest front of one message or more that decides has
 abbrev pub decided_after : (List RawMessage → Bool) → List RawMessage → Option ℕ
 decided_after decides [] = None
 decided_after decides (m ∷ ms) = if decides (m ∷ []) then Some 1 else option_map (λ n. n + 1) (decided_after (λ front. decides (m ∷ front)) ms)

@@ -53,7 +53,8 @@ IsInTime (Hear next) = Unit {0}
 abbrev pub IsTimely : {T : Type 0} → (ℕ → List RawMessage) → Option ℕ → ℕ → Dialogue T → Type 0
 IsTimely came at n d = IsInTime d × (ReadsNo d ⊎ (list_any is_ready (take n (of_request came at)) ≡ false))
 
--- Behind a hang-up nothing is read before the next request, and no request that is sent is left in between.
+-- Behind a hang-up nothing is read before the next request. No `Leave` stands in it (a walk comes to one behind a request that it sent), and
+-- no part of a copy is put.
 abbrev pub IsSane : {T : Type 0} → Dialogue T → Type 0
 IsSane (Answer r) = Unit {0}
 IsSane (Ask copying part d) = IsSane d
@@ -113,7 +114,6 @@ pub record IsCommand {T : Type 0} (d : Dialogue T) : Type 0 where
   pub tidy : IsTidy d
   pub nothing : ReadsNothing d
   pub sane : IsSane d
-  pub reads_no : ReadsNo d
   pub in_time : IsInTime d
   pub faithful : IsFaithful d
 

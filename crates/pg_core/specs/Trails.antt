@@ -27,12 +27,12 @@ point_of turn s = record { turn = turn; request = s.at; read = s.read; parts = [
 abbrev pub CameBy : Course DeskCall Reply → (place : ℕ) → (ℕ → List RawMessage) → Type 0
 CameBy course place came = (k : ℕ) → came k ≡ take (delivered_to course (Some k) place) (reply_to course (Some k))
 
--- requests of one turn: their numbers follow each other
+-- requests of one turn: their numbers follow each other, and they bear its stamp
 abbrev pub AreNumbered : Who → (turn number : ℕ) → List Request → Type 0
 AreNumbered who turn number [] = Unit {0}
 AreNumbered who turn number (r ∷ rs) = (r.number ≡ number) × (r.booking.stamp ≡ stamp_of who turn) × AreNumbered who turn (number + 1) rs
 
--- questions of one turn: each is told by those before it
+-- questions of one turn: each is told by those before it, and bears its stamp
 abbrev pub AreToldIn : (List DeskCall → DeskCall → Reply) → Who → (turn : ℕ) → (before : List DeskCall) → List (Asked DeskCall Reply) → Type 0
 AreToldIn tells who turn before [] = Unit {0}
 AreToldIn tells who turn before (a ∷ qs) = (a.stamp ≡ stamp_of who turn) × (a.reply ≡ tells before a.question) × AreToldIn tells who turn (before ++ a.question ∷ []) qs
@@ -79,16 +79,16 @@ abbrev pub moment_of : (place : ℕ) → (ℕ → List RawMessage) → List Deed
 moment_of place came ds = record { place = place; came = came; bookings = bookings_in ds; answers = answers_in ds }
 
 -- where a poll led: it waits, and runs on; or it answered; or a take or a hanging up was refused
-pub data Leads-to {T : Type 0} (d : code.Dialogue T) (trail : List Moment) (got : ℕ → List RawMessage) (ds : List Deed) (q : Place T) : Type 0 where
-  Waiting : IsRunning d trail (got_after got ds) q → IsRead (ran_by d trail).left → Leads-to d trail got ds q
-  Answering : (r : Result T Error) → q.dialogue ≡ code.Answer r → (ran_by d trail).left ≡ code.Answer r → Leads-to d trail got ds q
-  Refusing : EndsRefused ds q.dialogue → Leads-to d trail got ds q
+pub data LedTo {T : Type 0} (d : code.Dialogue T) (trail : List Moment) (got : ℕ → List RawMessage) (ds : List Deed) (q : Place T) : Type 0 where
+  Waiting : IsRunning d trail (got_after got ds) q → IsRead (ran_by d trail).left → LedTo d trail got ds q
+  Answering : (r : Result T Error) → q.dialogue ≡ code.Answer r → (ran_by d trail).left ≡ code.Answer r → LedTo d trail got ds q
+  Refusing : EndsRefused ds q.dialogue → LedTo d trail got ds q
 
 -- One poll is one turn of the function: what it booked and asked, and where it led.
 pub record PollsOn {T : Type 0} (d : code.Dialogue T) (m : Moment) (before : List Moment) (got : ℕ → List RawMessage) (ds : List Deed) (q : Place T) : Type 0 where
   pub met : AreMet d (m ∷ before)
   pub within : (ran_by d before).read ≤ length (of_request m.came (ran_by d before).at)
-  pub leads : Ends m.came got ds q.dialogue q.reads → Leads-to d (m ∷ before) got ds q
+  pub leads : Ends m.came got ds q.dialogue q.reads → LedTo d (m ∷ before) got ds q
 
 -- no turn of the handle lies between
 abbrev pub NoneBetween : Course DeskCall Reply → (handle former next : ℕ) → Type 0
@@ -99,15 +99,13 @@ abbrev pub IsNext : {T : Type 0} → Course DeskCall Reply → (handle : ℕ) �
 IsNext course handle d [] place = Unit {0}
 IsNext course handle d (m ∷ before) place = (m.place < place) × NoneBetween course handle m.place place × IsRead (ran_by d (m ∷ before)).left
 
--- one turn in a session
-pub record IsTurnOf {T : Type 0} (tells : List DeskCall → DeskCall → Reply) (course : Course DeskCall Reply) (who : Who) (d : code.Dialogue T) (before : List Moment) (m : Moment) : Type 0 where
+-- one turn in a session, before which so many requests were booked and these questions asked
+pub record IsTurnOf {T : Type 0} (tells : List DeskCall → DeskCall → Reply) (course : Course DeskCall Reply) (who : Who) (d : code.Dialogue T) (before : List Moment) (number : ℕ) (former : List DeskCall) (m : Moment) : Type 0 where
   pub own : IsOwnTurn course.trace who.handle m.place m.place
   pub next : IsNext course who.handle d before m.place
   pub came : CameBy course m.place m.came
   pub within : (ran_by d before).read ≤ length (of_request m.came (ran_by d before).at)
-  pub number : ℕ
   pub numbered : AreNumbered who m.place number (granted m.bookings)
-  pub former : List DeskCall
   pub told : AreToldIn tells who m.place former (granted m.answers)
   -- the desk refused nothing
   pub booked : AreGranted m.bookings
@@ -117,7 +115,7 @@ pub record IsTurnOf {T : Type 0} (tells : List DeskCall → DeskCall → Reply) 
 -- all turns of a command
 abbrev pub AreTurnsOf : {T : Type 0} → (List DeskCall → DeskCall → Reply) → Course DeskCall Reply → Who → code.Dialogue T → List Moment → Type 0
 AreTurnsOf tells course who d [] = Unit {0}
-AreTurnsOf tells course who d (m ∷ before) = IsTurnOf tells course who d before m × AreTurnsOf tells course who d before
+AreTurnsOf tells course who d (m ∷ before) = (number : ℕ) × (former : List DeskCall) × IsTurnOf tells course who d before number former m × AreTurnsOf tells course who d before
 
 -- the turn in which it began
 abbrev pub begun_at : Moment → List Moment → ℕ

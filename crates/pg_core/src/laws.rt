@@ -1,7 +1,7 @@
 //! What the polls of a command come to: its outcome over any desk, and how it unfolds turn by turn over one
 //! legal list of what all did.
 
-ghost use Rattle.std.specs.Prelude.{◌≡◌, ◌<◌, ◌≤◌, ◌⊎◌, [], ◌∷◌, ◌++◌, map, Bool, false, true, List, ℕ, Option, Result, Err, is_some, filter, length};
+ghost use Rattle.std.specs.Prelude.{◌≡◌, ◌<◌, ◌≤◌, ◌⊎◌, ◌==◌, ◌&&◌, [], ◌∷◌, ◌++◌, map, Bool, false, true, List, ℕ, Option, Result, Err, is_some, filter, length};
 ghost use Rattle.pg_core.specs.Counters.{Counts, ToldSo, tells};
 ghost use Rattle.pg_query.proofs.RequestLaws.{Leads};
 ghost use Rattle.pg_core.specs.Deeds.{Serves, IsNew, got_after, bookings_in, answers_in};
@@ -22,7 +22,7 @@ ghost use Rattle.pg_query.specs.Requests.{asks};
 ghost use Rattle.pg_query.specs.declared.desk_call.Cleanup.{Cleanup};
 ghost use Rattle.pg_query.specs.declared.desk_call.DeskCall.{DeskCall};
 ghost use Rattle.pg_query.specs.declared.desk_call.Reply.{Reply};
-ghost use Rattle.pg_spec.specs.Book.{Booking, is_of};
+ghost use Rattle.pg_spec.specs.Book.{Booking};
 ghost use Rattle.pg_spec.specs.RawMessages.{RawMessage, ends_in, groups, is_ready, sync_of};
 ghost use Rattle.pg_spec.specs.Turns.{IsOwnTurn, delivered_before};
 
@@ -62,7 +62,7 @@ pub fn a_poll_is_a_turn<T>()
         PollsOn d (moment_of place came ds) trail got ds q }
 {}
 
-/// Where the equations lead to an answer, the command unfolds.
+/// Where the equations lead to an answer, the command unfolds, by the requests and questions that its turns name.
 pub fn a_trail_unfolds<T>()
     ensures { (tells : List DeskCall → DeskCall → Reply) (course : Course DeskCall Reply) (who : Who) (d : Dialogue T) (m : Moment) (before : List Moment) (a : Result T Error) →
         AreTurnsOf tells course who d (m ∷ before) → AreMet d (m ∷ before) → (ran_by d (m ∷ before)).left ≡ Answer a →
@@ -89,7 +89,7 @@ pub fn own_turn_keeps<T>()
         Leads p.dialogue p.reads ds q.dialogue q.reads → IsLegal s (kept (events_of ds)) → PollEnds ds q → OwnTurn d place trail s ds q }
 {}
 
-/// Turns of others, in a legal list, keep them too.
+/// Turns of others, in a legal list, which take nothing of the request that it reads, keep them too.
 pub fn others_turn_keeps<T>()
     ensures { (d : Dialogue T) (trail : List Moment) (s : State) (p : Place T) (L : List Deed) → IsReached s → IsRunning d trail (got_of s) p → IsLegal s (kept (events_of L)) → SparesAll p.reads L →
         IsRunning d trail (got_of (state_behind s L)) p }
@@ -127,7 +127,7 @@ pub fn a_command_begins_upright<T>()
 /// A turn of its own, in a legal list of an open hub: it waits and stays upright, or it answers as its equations say, or memory lacked.
 pub fn own_turn_stays_upright<T>()
     ensures { (d : Dialogue T) (place : ℕ) (trail : List Moment) (s : State) (p : Place T) (ds : List Deed) (q : Place T) → IsUpright d trail s p → Leads p.dialogue p.reads ds q.dialogue q.reads →
-        IsLegal s (events_of ds) → s.failed ≡ false → ended (after_all s (events_of ds)) ≡ false → PollEnds ds q →
+        IsLegal s (events_of ds) → ended (after_all s (events_of ds)) ≡ false → PollEnds ds q →
         OwnTurn d place trail s ds q × TurnedWell d (moment_of place (came_of (state_behind s ds)) ds ∷ trail) (state_behind s ds) q }
 {}
 
@@ -140,25 +140,32 @@ pub fn others_turn_stays_upright<T>()
 /// A poll of an upright command, in a legal list of an open hub, is a turn that the law of its life asks for, or memory lacked.
 pub fn a_poll_is_a_turn_of_the_course<T>()
     ensures { (course : Course DeskCall Reply) (who : Who) (d : Dialogue T) (place : ℕ) (trail : List Moment) (s : State) (p : Place T) (ds : List Deed) (q : Place T) (former : List DeskCall) →
-        IsUpright d trail s p → Leads p.dialogue p.reads ds q.dialogue q.reads → IsLegal s (events_of ds) → s.failed ≡ false → ended (after_all s (events_of ds)) ≡ false → PollEnds ds q →
+        IsUpright d trail s p → Leads p.dialogue p.reads ds q.dialogue q.reads → IsLegal s (events_of ds) → ended (after_all s (events_of ds)) ≡ false → PollEnds ds q →
         AllUnder (stamp_of who place) ds → Counts former s → IsOwnTurn course.trace who.handle place place → IsNext course who.handle d trail place →
         CameBy course place (came_of (state_behind s ds)) →
-        IsTurnOf tells course who d trail (moment_of place (came_of (state_behind s ds)) ds) ⊎ (q.dialogue ≡ Answer (Err OutOfMemory)) }
+        IsTurnOf tells course who d trail (length s.book) former (moment_of place (came_of (state_behind s ds)) ds) ⊎ (q.dialogue ≡ Answer (Err OutOfMemory)) }
 {}
 
-/// A command's requests in a book that grew by those of its turn.
+/// A command's requests in a book that grew by those of its turn are those before and these.
 pub fn own_requests_grow()
     ensures { (who : Who) (turn : ℕ) (book : List Booking) (rs : List Request) → AreNumbered who turn (length book) rs →
         requests_of (book ++ map (λ r. r.booking) rs) who.handle who.command ≡ requests_of book who.handle who.command ++ rs }
 {}
 
-/// A command's requests in a book that grew by another's.
+/// Bookings of another command leave a command's requests as they are.
 pub fn others_requests_are_none()
-    ensures { (who other : Who) (turn : ℕ) (book : List Booking) (rs : List Request) → ((b : Booking) (t : ℕ) → b.stamp ≡ stamp_of other t → is_of who.handle who.command b ≡ false) →
+    ensures { (who other : Who) (turn : ℕ) (book : List Booking) (rs : List Request) → ((other.handle == who.handle) && (other.command == who.command)) ≡ false →
         AreNumbered other turn (length book) rs → requests_of (book ++ map (λ r. r.booking) rs) who.handle who.command ≡ requests_of book who.handle who.command }
 {}
 
-/// A command's questions in a list that grew by those of its turn.
+/// Questions of another command leave a command's questions as they are.
+pub fn others_questions_are_none()
+    ensures { (tells : List DeskCall → DeskCall → Reply) (who other : Who) (turn : ℕ) (before : List DeskCall) (asked qs : List (Asked DeskCall Reply)) →
+        ((other.handle == who.handle) && (other.command == who.command)) ≡ false → AreToldIn tells other turn before qs →
+        questions_of (asked ++ qs) who.handle who.command ≡ questions_of asked who.handle who.command }
+{}
+
+/// A command's questions in a list that grew by those of its turn are those before and these.
 pub fn own_questions_grow()
     ensures { (tells : List DeskCall → DeskCall → Reply) (who : Who) (turn : ℕ) (before : List DeskCall) (asked qs : List (Asked DeskCall Reply)) → AreToldIn tells who turn before qs →
         questions_of (asked ++ qs) who.handle who.command ≡ questions_of asked who.handle who.command ++ qs }
