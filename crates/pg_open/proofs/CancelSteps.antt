@@ -109,12 +109,8 @@ module _ {L T F S E : Type 0} (k : Known L T F S E) (view : MaybeTls L S → Lin
   pub choice-fails : (before now : ConnectTls L T F S E) (answer : Result (MaybeTls L S) Error) (e : Error) → CancelStands k view info link tls (Choosing before) →
       (StandsAt k before.settings link tls before.asked before.stage → TlsAnswers k before.settings link tls now.asked now.stage (Ready answer)) → answer ≡ Err e → CancelFails k view info link tls (Choosing now) e
   choice-fails before now answer e st follows is =
-      by e (subst (λ (r : Result (MaybeTls L S) Error). TlsAnswers k (cancel_settings info) link tls now.asked now.stage (Ready r)) is
-      (answered before.settings before.asked now.asked before.stage now.stage (Ready answer) st.0 st.1 follows))
-    where
-      by : (e : Error) → TlsFails k (cancel_settings info) link tls now.asked now.stage e → CancelFails k view info link tls (Choosing now) e
-      by error.OutOfMemory f = tt
-      by e f = f
+      subst (λ (r : Result (MaybeTls L S) Error). TlsAnswers k (cancel_settings info) link tls now.asked now.stage (Ready r)) is
+      (answered before.settings before.asked now.asked before.stage now.stage (Ready answer) st.0 st.1 follows)
 
   -- the choice goes on
   pub choice-goes-on : (before now : ConnectTls L T F S E) → CancelStands k view info link tls (Choosing before) →
@@ -146,7 +142,11 @@ module _ {L T F S E : Type 0} (k : Known L T F S E) (view : MaybeTls L S → Lin
     sent = sent-all (cancel_frame info) (view u.from) (view before) (view now) old new u.sends u.flushed s end;
   }
 
-  -- a call failed
+  -- memory lacks for the CancelRequest: nothing of it was sent
+  pub lacks-first : (now : MaybeTls L S) → IsGiven k view info link tls now → CancelFails k view info link tls (Over (Some now)) error.OutOfMemory
+  lacks-first now given = record { from = now; given = given; unsent = cancel_frame info; sends = sends-none (cancel_frame info) (view now); fails = tt }
+
+  -- a call failed, or memory lacked
   pub send-fails : (before now : MaybeTls L S) (old new : Transfer) (e : Error) → IsUnderWay k view info link tls before old → Said old new (view before) (view now) →
       SaidEnds old new (view before) (view now) (Err e) → CancelFails k view info link tls (Over (Some now)) e
   send-fails before now old new (error.Io cause.Link) u s end = record {
@@ -154,8 +154,13 @@ module _ {L T F S E : Type 0} (k : Known L T F S E) (view : MaybeTls L S → Lin
     given = u.given;
     unsent = new.unsent.items;
     sends = sends-on (cancel_frame info) (view u.from) (view before) (view now) old new u.sends s end.1;
-    is = refl;
-    faults = rose_later (view u.from).faults (view before).faults (view now).faults u.sends.link.counts.faults end.0;
+    fails = rose_later (view u.from).faults (view before).faults (view now).faults u.sends.link.counts.faults end.0;
   }
-  send-fails before now old new error.OutOfMemory u s end = tt
+  send-fails before now old new error.OutOfMemory u s end = record {
+    from = u.from;
+    given = u.given;
+    unsent = new.unsent.items;
+    sends = sends-on (cancel_frame info) (view u.from) (view before) (view now) old new u.sends s end;
+    fails = tt;
+  }
   send-fails before now old new _ u s end = absurd end

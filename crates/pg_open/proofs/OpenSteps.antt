@@ -1,10 +1,12 @@
 -- Where opening a connection stands behind each step of a poll.
-use Rattle.std.proofs.Common.{◌≡◌, ◌≤◌, IfOk, IfErr, inl, inr, ℕ, Bool, true, false, ◌||◌, List, Some, Result, Ok, Err, refl, sym, ◌∙◌, ap, subst, arith}
+use Rattle.std.proofs.Common.{◌≡◌, ◌≤◌, inl, inr, ℕ, Bool, true, false, ◌||◌, List, [], append-nil, Some, Result, Ok, Err, refl, sym, ◌∙◌, ap, subst, arith}
 use Rattle.futures.specs.Poll.{OnPending}
 use Rattle.futures.specs.declared.task.Poll.{Poll}
 use Rattle.futures.specs.declared.task.Poll.TheVariants.{Ready, Pending}
 use Rattle.pg_spec.specs.Links.{LinkView}
+use Rattle.pg_spec.specs.RawMessages.{messages}
 use Rattle.pg_spec.specs.Startup.{Login}
+use Rattle.pg_spec.specs.Startup as dialogues
 use Rattle.pg_faults.specs.declared.error.Error.{Error}
 use Rattle.pg_faults.specs.declared.error.Error.TheVariants as error
 use Rattle.pg_config.specs.Views.{settings_of}
@@ -17,7 +19,7 @@ use Rattle.pg_tls.specs.declared.choice.TlsChoice.TheVariants as choice
 use Rattle.pg_tls.specs.declared.maybe_tls.MaybeTls.{MaybeTls}
 use Rattle.pg_tls.specs.declared.maybe_tls.MaybeTls.TheVariants as maybe
 use Rattle.pg_open.specs.Choosing.{Chose, StandsAt, TlsAnswers, TlsFails, WaitsOn}
-use Rattle.pg_open.specs.Opening.{CanStart, GoesOnFrom, HandsOut, IsOpening, IsReached, IsStarting, OpenAnswers, OpenFails, OpenGoesOn, OpenStands, Outside, StartAnswers, StartsOn, WasGoing, WasOpened, login_over, moved_before, seen, tls_settings}
+use Rattle.pg_open.specs.Opening.{CanStart, Finishes, GoesOnFrom, HandsOut, IsOpening, IsReached, IsStarting, OpenAnswers, OpenFails, OpenGoesOn, OpenStands, Outside, StartAnswers, StartsOn, WasGoing, WasOpened, login_over, moved_before, seen, tls_settings}
 use Rattle.pg_open.specs.declared.open_stages.OpenSettings.{OpenSettings}
 use Rattle.pg_open.specs.declared.open_stages.OpenStage.{OpenStage}
 use Rattle.pg_open.specs.declared.open_stages.OpenStage.TheVariants.{Fresh, Choosing, Starting, Over}
@@ -37,6 +39,32 @@ done-of l asked begin now s answer x a is = subst (λ (r : Result (Unit {0}) Err
 pub failed-of : (l : Login) (asked : ℕ) (begin now : LinkView) (s : Startup) (answer : Result (Unit {0}) Error) (e : Error) → StartupAnswers l asked begin now s (Ready answer) → answer ≡ Err e →
     startups.Failed l asked begin now s e
 failed-of l asked begin now s answer e a is = subst (λ (r : Result (Unit {0}) Error). StartupAnswers l asked begin now s (Ready r)) is a
+
+-- behind a startup that is done memory lacks
+pub done-lacks : (l : Login) (asked : ℕ) (begin now : LinkView) (s : Startup) → startups.Opened l asked begin now s → startups.Failed l asked begin now s error.OutOfMemory
+done-lacks l asked begin now s p = record {
+  got = p.got;
+  sent = s.opening.items;
+  unsent = [];
+  read = p.read;
+  rest = messages s.bytes.buffer.items;
+  first = p.first;
+  wrote = p.wrote;
+  done = true;
+  at = dialogues.First;
+  frame = p.frame;
+  given = p.given;
+  taken = p.taken;
+  came = p.came.messages;
+  last = p.last;
+  out = append-nil s.opening.items ∙ p.opening;
+  stands = p.done;
+  shut = p.shut;
+  count = p.count;
+  link = p.link;
+  fails = tt;
+  within = omega (arith, p.count, p.within);
+}
 
 module _ {L T F S E : Type 0} (o : Outside L T F S E) (want : OpenSettings) (link : L) (tls : T) where
   -- ---- the choice of TLS
@@ -68,13 +96,11 @@ module _ {L T F S E : Type 0} (o : Outside L T F S E) (want : OpenSettings) (lin
   -- the choice failed
   pub choice-ends : (before now : ConnectTls L T F S E) (answer : Result (MaybeTls L S) Error) (e : Error) → OpenStands o want link tls (Choosing before) →
       (StandsAt o.tls before.settings link tls before.asked before.stage → TlsAnswers o.tls before.settings link tls now.asked now.stage (Ready answer)) → answer ≡ Err e → OpenFails o want link tls (Choosing now) e
-  choice-ends before now answer e st follows is =
-      by e (subst (λ (r : Result (MaybeTls L S) Error). TlsAnswers o.tls (tls_settings want) link tls now.asked now.stage (Ready r)) is
-      (answered before.settings before.asked now.asked before.stage now.stage (Ready answer) st.1 st.2 follows))
-    where
-      by : (e : Error) → TlsFails o.tls (tls_settings want) link tls now.asked now.stage e → OpenFails o want link tls (Choosing now) e
-      by error.OutOfMemory f = tt
-      by e f = (st.0, f)
+  choice-ends before now answer e st follows is = (
+    st.0,
+    subst (λ (r : Result (MaybeTls L S) Error). TlsAnswers o.tls (tls_settings want) link tls now.asked now.stage (Ready r)) is
+        (answered before.settings before.asked now.asked before.stage now.stage (Ready answer) st.1 st.2 follows),
+  )
 
   -- the choice goes on
   pub choice-on : (before now : ConnectTls L T F S E) (moved : Bool) → OpenStands o want link tls (Choosing before) →
@@ -113,11 +139,7 @@ module _ {L T F S E : Type 0} (o : Outside L T F S E) (want : OpenSettings) (lin
       Made (frame_of (settings_of want.config.now)) (Err e) → stage ≡ Over (Some from) → answer ≡ Ready (Err e) → StartAnswers o want link tls from from asked (moved_before asked from) moved stage answer
   not-written from asked moved e stage answer reached made left is =
       subst (λ (r : Poll (Result (Opened L T F S E) Error)). StartAnswers o want link tls from from asked (moved_before asked from) moved stage r) (sym is)
-      (subst (λ (s : OpenStage L T F S E). OpenFails o want link tls s e) (sym left) (by e made))
-    where
-      by : (e : Error) → Made (frame_of (settings_of want.config.now)) (Err e) → OpenFails o want link tls (Over (Some from)) e
-      by error.OutOfMemory m = tt
-      by e m = inl (record { asked = asked; reached = reached; made = m })
+      (subst (λ (s : OpenStage L T F S E). OpenFails o want link tls s e) (sym left) (inl (record { asked = asked; reached = reached; made = made })))
 
   -- the startup is done
   pub was-opened : (from before now : MaybeTls L S) (asked : ℕ) (old new : Startup) (opened : Opened L T F S E) → IsStarting o want link tls from before old asked →
@@ -132,24 +154,23 @@ module _ {L T F S E : Type 0} (o : Outside L T F S E) (want : OpenSettings) (lin
     hands_out = hands;
   }
 
-  -- the connection is handed out, or memory lacks
-  pub opens : (from before now : MaybeTls L S) (asked : ℕ) (early moved : Bool) (old new : Startup) (stage : OpenStage L T F S E) (answer : Result (Opened L T F S E) Error) → IsStarting o want link tls from before old asked →
-      startups.Opened (login_over o want from) asked (seen o from) (seen o now) new → new.bytes.max_bytes ≡ old.bytes.max_bytes → IfOk answer (HandsOut want new asked) →
-      IfOk answer (λ opened. opened.connection.link ≡ now) → IfErr answer (λ e. e ≡ error.OutOfMemory) → StartAnswers o want link tls from before asked early moved stage (Ready answer)
-  opens from before now asked early moved old new stage (Ok opened) st done limit hands is lacks = was-opened from before now asked old new opened st done limit hands is
-  opens from before now asked early moved old new stage (Err e) st done limit hands is lacks = subst (λ (x : Error). OpenFails o want link tls stage x) (sym lacks) tt
-
   -- the startup failed
   pub start-fails : (from before now : MaybeTls L S) (asked : ℕ) (early moved : Bool) (old new : Startup) (e : Error) (stage : OpenStage L T F S E) (answer : Poll (Result (Opened L T F S E) Error)) →
       IsStarting o want link tls from before old asked → startups.Failed (login_over o want from) asked (seen o from) (seen o now) new e → new.bytes.max_bytes ≡ old.bytes.max_bytes →
       stage ≡ Over (Some now) → answer ≡ Ready (Err e) → StartAnswers o want link tls from before asked early moved stage answer
   start-fails from before now asked early moved old new e stage answer st failed limit left is =
       subst (λ (r : Poll (Result (Opened L T F S E) Error)). StartAnswers o want link tls from before asked early moved stage r) (sym is)
-      (subst (λ (s : OpenStage L T F S E). OpenFails o want link tls s e) (sym left) (by e failed))
-    where
-      by : (e : Error) → startups.Failed (login_over o want from) asked (seen o from) (seen o now) new e → OpenFails o want link tls (Over (Some now)) e
-      by error.OutOfMemory f = tt
-      by e f = inr (record { asked = asked; from = from; reached = st.reached; startup = new; limit = limit ∙ st.limit; failed = f })
+      (subst (λ (s : OpenStage L T F S E). OpenFails o want link tls s e) (sym left)
+      (inr (record { asked = asked; from = from; reached = st.reached; startup = new; limit = limit ∙ st.limit; failed = failed })))
+
+  -- the connection is handed out, or memory lacks
+  pub opens : (from before now : MaybeTls L S) (asked : ℕ) (early moved : Bool) (old new : Startup) (stage : OpenStage L T F S E) (answer : Poll (Result (Opened L T F S E) Error)) → IsStarting o want link tls from before old asked →
+      startups.Opened (login_over o want from) asked (seen o from) (seen o now) new → new.bytes.max_bytes ≡ old.bytes.max_bytes → Finishes want new asked now stage answer → StartAnswers o want link tls from before asked early moved stage answer
+  opens from before now asked early moved old new stage (Ready (Ok opened)) st done limit f = was-opened from before now asked old new opened st done limit f.0 f.1
+  opens from before now asked early moved old new stage (Ready (Err e)) st done limit f =
+      start-fails from before now asked early moved old new e stage (Ready (Err e)) st
+      (subst (λ (x : Error). startups.Failed (login_over o want from) asked (seen o from) (seen o now) new x) (sym f.0) (done-lacks (login_over o want from) asked (seen o from) (seen o now) new done)) limit f.1 refl
+  opens from before now asked early moved old new stage Pending st done limit f = absurd f
 
   -- the startup goes on
   pub goes-on : (from before : MaybeTls L S) (early moved : Bool) (old : Startup) (s : Setup (MaybeTls L S)) → IsStarting o want link tls from before old s.asked →

@@ -148,8 +148,14 @@ module _ {L T F S E : Type 0} (k : Known L T F S E) (want : TlsSettings) (link :
     where
       by : (e : Error) → AskFailed (k.view link) (k.view now) r e → TlsFails k want link tls after (Over (Some now)) e
       by (error.Tls why) f = absurd f.fails
-      by error.OutOfMemory f = tt
+      by error.OutOfMemory f = inr (record { asks = o.asks; request = r; limit = limit ∙ o.limit; failed = f })
       by e f = record { asks = o.asks; request = r; limit = limit ∙ o.limit; failed = f }
+
+  -- memory lacks for the request, and the link is left as it was handed in
+  pub lacks-first : (asked : ℕ) (stage : Stage L T F S E) (result : Poll (Result (MaybeTls L S) Error)) → stage ≡ Over (Some link) → result ≡ Ready (Err error.OutOfMemory) → TlsAnswers k want link tls asked stage result
+  lacks-first asked stage result left is =
+      subst (λ (r : Poll (Result (MaybeTls L S) Error)). TlsAnswers k want link tls asked stage r) (sym is)
+      (subst (λ (s : Stage L T F S E). TlsFails k want link tls asked s error.OutOfMemory) (sym left) (inl refl))
 
   -- the byte came: what follows of the question's connector follows of this one
   pub ask-done : (q : Question L T) (now : L) (r : SslRequest) (asked after : ℕ) (b : ℕ) (stage : Stage L T F S E) (result : Poll (Result (MaybeTls L S) Error)) →

@@ -35,7 +35,7 @@ abbrev pub SaidEnds : (old new : Transfer) (before after : LinkView) → Result 
 SaidEnds old new before after (Ok true) = (new.unsent.items ≡ []) × (IsFlushed old before → IsFlushedFrom before after) × IsTrue after.shut
 SaidEnds old new before after (Ok false) = Rose before.quiet after.quiet × (after.shut ≡ before.shut)
 SaidEnds old new before after (Err (error.Io cause.Link)) = Rose before.faults after.faults × (after.shut ≡ before.shut)
-SaidEnds old new before after (Err error.OutOfMemory) = Unit {0}
+SaidEnds old new before after (Err error.OutOfMemory) = after.shut ≡ before.shut
 SaidEnds old new before after (Err _) = ⊥
 
 -- ---- the CancelRequest
@@ -64,6 +64,12 @@ pub record Sent (frame : List ℕ) (begin now : LinkView) : Type 0 where
   pub flushed : IsFlushedFrom begin now
   pub shut : IsTrue now.shut
   pub link : Keeps begin now
+
+-- why it wasn't sent: a call failed, or memory lacked
+abbrev pub SendFailsBy : (begin now : LinkView) → Error → Type 0
+SendFailsBy begin now (error.Io cause.Link) = Rose begin.faults now.faults
+SendFailsBy begin now error.OutOfMemory = Unit {0}
+SendFailsBy begin now e = ⊥
 
 module _ {L T F S E : Type 0} (k : Known L T F S E) (view : MaybeTls L S → LinkView) (info : SessionInfo) (link : L) (tls : T) where
   -- the choice was made, with this link or stream
@@ -94,23 +100,21 @@ module _ {L T F S E : Type 0} (k : Known L T F S E) (view : MaybeTls L S → Lin
     pub given : IsGiven from
     pub sent : Sent (cancel_frame info) (view from) (view now)
 
-  -- A call of the link or stream failed.
+  -- A call of the link or stream failed, or memory lacked. A front of the CancelRequest was taken.
   pub record SendFails (now : MaybeTls L S) (e : Error) : Type 0 where
     pub from : MaybeTls L S
     pub given : IsGiven from
     pub unsent : List ℕ
     pub sends : Sends (cancel_frame info) (view from) (view now) unsent
-    pub is : e ≡ error.Io cause.Link
-    pub faults : Rose (view from).faults (view now).faults
+    pub fails : SendFailsBy (view from) (view now) e
 
   -- what the link or stream is left as
   abbrev pub LeftWith : CancelStage L T F S E → (MaybeTls L S → Type 0) → Type 0
   LeftWith (Over left) P = MatchOption left ⊥ P
   LeftWith stage P = ⊥
 
-  -- why it failed: the choice did, or the link or stream
+  -- why it failed: the choice did, or the link or stream, or memory lacked
   abbrev pub CancelFails : CancelStage L T F S E → Error → Type 0
-  CancelFails stage error.OutOfMemory = Unit {0}
   CancelFails (Choosing choice) e = TlsFails k (cancel_settings info) link tls choice.asked choice.stage e
   CancelFails stage e = LeftWith stage (λ now. SendFails now e)
 

@@ -113,11 +113,11 @@ module _ {L T F S E : Type 0} (k : Known L T F S E) (want : TlsSettings) (link :
   LeftSo stage P = ⊥
 
   -- Why there is neither a link nor a stream: the handshake failed, the choice is an error, memory lacked, or no byte came. But
-  -- for a handshake and want of memory, the link is left as it was then.
+  -- for a handshake, the link is left as it was then; where memory lacked before the SSLRequest, as it was handed in.
   abbrev pub TlsFails : (asked : ℕ) → Stage L T F S E → Error → Type 0
   TlsFails asked stage (error.Tls cause.Handshake) = (fault : E) × Shook asked (Err fault)
   TlsFails asked stage (error.Tls why) = LeftSo stage (λ now. Chose now asked (choice.Fails why))
-  TlsFails asked stage error.OutOfMemory = Unit {0}
+  TlsFails asked stage error.OutOfMemory = LeftSo stage (λ now. (now ≡ link) ⊎ NotAnswered now error.OutOfMemory)
   TlsFails asked stage e = LeftSo stage (λ now. NotAnswered now e)
 
   -- the link as the choice left it, or the stream that the handshake gave

@@ -75,6 +75,12 @@ pub record HandsOut {L T F S E : Type 0} (want : OpenSettings) (s : Startup) (as
   pub sent : opened.sent ≡ sent_before asked ++ s.opening.items
   pub streams : IsFresh s s.opening.items opened.connection.streams
 
+-- what follows a startup that is done: all is handed out over this link or stream, or memory lacks and that is left
+abbrev pub Finishes : {L T F S E : Type 0} → OpenSettings → Startup → (asked : ℕ) → MaybeTls L S → OpenStage L T F S E → Poll (Result (Opened L T F S E) Error) → Type 0
+Finishes want s asked link stage (Ready (Ok opened)) = HandsOut want s asked opened × (opened.connection.link ≡ link)
+Finishes want s asked link stage (Ready (Err e)) = (e ≡ error.OutOfMemory) × (stage ≡ Over (Some link))
+Finishes want s asked link stage Pending = ⊥
+
 -- ---- what stands outside
 
 -- What is known of links, connectors and handshakes, and of streams: what they mean, and what a login can be bound by.
@@ -154,10 +160,9 @@ module _ {L T F S E : Type 0} (o : Outside L T F S E) (want : OpenSettings) (lin
     pub limit : startup.bytes.max_bytes ≡ want.max_bytes
     pub failed : startups.Failed (login_over o want from) asked (seen o from) (seen o now) startup e
 
-  -- Why there is no connection: it was refused before any byte, the choice of TLS or the startup failed, or memory lacks. But
-  -- for a handshake and want of memory, the link or stream is left as it was then.
+  -- Why there is no connection: it was refused before any byte, or the choice of TLS or the startup failed. But for a
+  -- handshake, the link or stream is left as it was then.
   abbrev pub OpenFails : OpenStage L T F S E → Error → Type 0
-  OpenFails stage error.OutOfMemory = Unit {0}
   OpenFails (Fresh now connector) e = (now ≡ link) × (connector ≡ tls) × IsRefusedFirst want e
   OpenFails (Choosing choice) e = CanStart want × TlsFails o.tls (tls_settings want) link tls choice.asked choice.stage e
   OpenFails (Starting s) e = ⊥

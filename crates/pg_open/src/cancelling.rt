@@ -127,6 +127,7 @@ impl<L: Link + Drop, T: TlsConnect<L> + Drop> CancelQuery<L, T> {
         let mut bytes = Transfer::new(alloc, 0, NO_LIMIT);
         let (process_id, secret_key) = key_of(&self.info);
         if pg_frames::cancel_request(process_id, secret_key, &mut bytes.unsent).is_err() {
+            self.stage = CancelStage::Over(Some(link));
             return Poll::Ready(Err(Error::OutOfMemory));
         }
         self.send(link, bytes)

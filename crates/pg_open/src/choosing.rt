@@ -103,7 +103,7 @@ impl<L: Link + Drop, T: TlsConnect<L> + Drop> ConnectTls<L, T> {
             TlsChoice::Asks => {
                 let limit = settings.max_bytes.min(NO_LIMIT);
                 let Ok(request) = SslRequest::new(alloc, limit) else {
-                    return Poll::Ready(Err(Error::OutOfMemory));
+                    return self.leave(link, Error::OutOfMemory);
                 };
                 self.ask(Question { link, tls, request })
             }

@@ -1,13 +1,14 @@
 //! A connection is opened over a link: the choice of TLS, the handshake, and the startup, polled until they answer.
 
-ghost use Rattle.std.specs.Prelude.{◌≡◌, ◌<◌, ◌≤◌, ◌^◌, ◌++◌, IfErr, IfOk, IsTrue, MatchResult, Ok, Err, Some};
+ghost use Rattle.std.specs.Prelude.{◌≡◌, ◌<◌, ◌≤◌, ◌^◌, ◌++◌, IfOk, IsTrue, MatchResult, Ok, Err, Some};
 ghost use Rattle.futures.specs.Poll.{OnPending};
 ghost use Rattle.pg_config.specs.Views.{settings_of};
 ghost use Rattle.pg_login.specs.Steps.{Made, frame_of};
 ghost use Rattle.pg_spec.specs.Links.{LinkView};
 ghost use Rattle.pg_spec.specs.Passwords.{is_nonce};
+ghost use Rattle.pg_startup.specs.StartupPolls.{IsFresh};
 ghost use Rattle.pg_startup.specs.Startups.{Opening};
-ghost use Rattle.pg_open.specs.Opening.{GoesOnFrom, HandsOut, IsOpening, IsReached, OpenAnswers, OpenIdles, OpenStands, OpenStays, StartAnswers, WasGoing, WasReached, login_by, moved_before, open_quiet, outside, sent_before, tls_settings};
+ghost use Rattle.pg_open.specs.Opening.{Finishes, GoesOnFrom, IsOpening, IsReached, OpenAnswers, OpenIdles, OpenStands, OpenStays, StartAnswers, WasGoing, WasReached, info_of, login_by, moved_before, open_quiet, outside, sent_before, tls_settings};
 
 use crate::may_start::may_start;
 use crate::{
@@ -162,7 +163,7 @@ impl<'a, L: Link + Drop, T: TlsConnect<L> + Drop> ConnectRaw<'a, L, T> {
             asked,
         } = starting;
         match startup.poll(alloc, &mut link) {
-            Poll::Ready(Ok(())) => Poll::Ready(self.open(alloc, link, startup, asked)),
+            Poll::Ready(Ok(())) => self.finish(alloc, link, startup, asked),
             Poll::Ready(Err(error)) => self.leave(link, error),
             Poll::Pending => {
                 self.moved = self.moved || startup.moved();
@@ -189,35 +190,52 @@ impl<'a, L: Link + Drop, T: TlsConnect<L> + Drop> ConnectRaw<'a, L, T> {
         Poll::Ready(Err(error))
     }
 
+    /// A startup is done: the connection is handed out, or memory lacks for what was sent.
+    fn finish(
+        &mut self,
+        alloc: Global,
+        link: MaybeTls<L, StreamOf<L, T>>,
+        startup: Startup<'a>,
+        asked: u64,
+    ) -> Poll<Result<Opened<L, T>, Error>>
+        requires small { startup.bytes.max_bytes < 2 ^ 63 }
+        requires within { startup.bytes.given ≤ startup.bytes.max_bytes }
+        ensures answer { Finishes self.old.settings startup.entry asked link self.new.stage result }
+        ensures same { self.new.settings ≡ self.old.settings }
+    {
+        match sent_in_all(alloc, asked, startup.opening.as_slice()) {
+            Ok(sent) => Poll::Ready(Ok(self.open(alloc, link, startup, sent))),
+            Err(OutOfMemory) => self.leave(link, Error::OutOfMemory),
+        }
+    }
+
     /// The connection behind a startup that is done.
     fn open(
         &self,
         alloc: Global,
         link: MaybeTls<L, StreamOf<L, T>>,
         startup: Startup<'a>,
-        asked: u64,
-    ) -> Result<Opened<L, T>, Error>
+        sent: Blob,
+    ) -> Opened<L, T>
         requires small { startup.bytes.max_bytes < 2 ^ 63 }
         requires within { startup.bytes.given ≤ startup.bytes.max_bytes }
-        ensures hands_out { IfOk result (HandsOut self.now.settings startup.entry asked) }
-        ensures link { IfOk result (λ opened. opened.connection.link ≡ link) }
-        ensures error { IfErr result (λ e. e ≡ Error.OutOfMemory) }
+        ensures info { result.info ≡ info_of self.now.settings startup.entry }
+        ensures sent { result.sent ≡ sent }
+        ensures streams { IsFresh startup.entry startup.entry.opening.items result.connection.streams }
+        ensures link { result.connection.link ≡ link }
     {
-        let (opening, (process_id, secret_key), streams) = startup.into_streams(alloc);
-        let Ok(sent) = sent_in_all(alloc, asked, opening.as_slice()) else {
-            return Err(Error::OutOfMemory);
-        };
+        let (_, (process_id, secret_key), streams) = startup.into_streams(alloc);
         let info = SessionInfo {
             process_id,
             secret_key,
             ssl_mode: self.settings.config.get_ssl_mode(),
             ssl_negotiation: self.settings.config.get_ssl_negotiation(),
         };
-        Ok(Opened {
+        Opened {
             info,
             sent,
             connection: Connection { link, streams },
-        })
+        }
     }
 
     /// Waits until the link or stream may be ready. While a handshake has the link, it is Ready at once.

@@ -3,7 +3,7 @@ use Rattle.std.proofs.lemmas.Int.{to_z-of_z}
 use Rattle.std.specs.Int.{w32, cast_signed, cast_unsigned}
 use Rattle.pg_tls.specs.Links.{view_of}
 use Rattle.pg_open.specs.Choosing.{known}
-use Rattle.pg_open.proofs.CancelSteps.{same-frame, under-way, written}
+use Rattle.pg_open.proofs.CancelSteps.{lacks-first, same-frame, under-way, written}
 use Rattle.pg_open.proofs.cancel_stages.CancelQuery.begin.Goals as goal
 
 pub returns-clause-answer : goal.returns-clause-answer
@@ -19,3 +19,8 @@ returns-clause-answer g c from tls given =
     (to_z-of_z w32 p c.key_of-process_id.ensures.fits.0 ∙ ap (λ (x : ℤ × ℤ). x.0) c.key_of-process_id.ensures.value)
     (to_z-of_z w32 q c.key_of-process_id.ensures.fits.1 ∙ ap (λ (x : ℤ × ℤ). x.1) c.key_of-process_id.ensures.value))
     c.new-bytes.ensures.flushed)
+
+pub returns-then-is_err-clause-answer : goal.returns-then-is_err-clause-answer
+returns-then-is_err-clause-answer g c from tls given =
+    lacks-first (known g.L.Link.view g.T.TlsConnect.connects g.T.TlsConnect.begins g.T.Future.TlsHandshake.polled) (view_of g.L.Link.view g.T.Future.Stream.Link.view)
+    c.args.self.now.info from tls c.args.link given

@@ -3,8 +3,8 @@ use Rattle.pg_open.specs.Opening.{login_over, outside, seen}
 use Rattle.pg_open.proofs.OpenSteps.{done-of, failed-of, opens, start-fails}
 use Rattle.pg_open.proofs.open_stages.ConnectRaw.go_on.Goals as goal
 
-pub open-requires-clause-within : goal.open-requires-clause-within
-open-requires-clause-within g c =
+pub finish-requires-clause-within : goal.finish-requires-clause-within
+finish-requires-clause-within g c =
     let o = (outside g.L.Link.view g.T.TlsConnect.connects g.T.TlsConnect.begins g.T.Future.TlsHandshake.polled g.T.Future.Stream.Link.view g.T.Future.Stream.TlsStream.binding) in
     let from = c.requires.going.2 in
     let l = login_over o c.args.self.now.settings from in
@@ -15,10 +15,10 @@ pub returns-in-Ready-Ok-clause-answer : goal.returns-in-Ready-Ok-clause-answer
 returns-in-Ready-Ok-clause-answer g c link tls from st =
     let o = (outside g.L.Link.view g.T.TlsConnect.connects g.T.TlsConnect.begins g.T.Future.TlsHandshake.polled g.T.Future.Stream.Link.view g.T.Future.Stream.TlsStream.binding) in
     let l = login_over o c.args.self.now.settings from in
-    opens o c.args.self.now.settings link tls from c.args.starting.link c.poll.new.link c.args.starting.asked c.args.self.now.moved c.args.self.now.moved c.args.starting.startup c.poll.new.self c.args.self.now.stage c.open.result st
+    opens o c.args.self.now.settings link tls from c.args.starting.link c.poll.new.link c.args.starting.asked c.args.self.now.moved c.finish.new.self.moved c.args.starting.startup c.poll.new.self c.finish.new.self.stage c.finish.result st
     (done-of l c.args.starting.asked (seen o from) (seen o c.poll.new.link) c.poll.new.self c.in-Ready-Ok.field-0 tt
     (c.in-Ready-Ok.ensures.answer l c.args.starting.asked (seen o from) st.opening) c.in-Ready-Ok.field-0-is)
-    c.in-Ready-Ok.ensures.same.limit c.open.ensures.hands_out c.open.ensures.link c.open.ensures.error
+    c.in-Ready-Ok.ensures.same.limit c.finish.ensures.answer
 
 pub returns-in-Ready-Err-clause-answer : goal.returns-in-Ready-Err-clause-answer
 returns-in-Ready-Err-clause-answer g c link tls from st =
