@@ -3,7 +3,7 @@
 ghost use Rattle.pg_open.specs.Cancelling.{IsStillOpen};
 
 use crate::connector::Connector;
-use crate::endings::{tell_chosen, tell_error};
+use crate::endings::{tell_choice, tell_chosen, tell_error};
 use crate::setting;
 use futures::task::Poll;
 use pg_cases::words::{at, text_at};
@@ -21,9 +21,10 @@ fn tell_stage(
     out: &mut String,
 ) -> Result<(), AllocError> {
     match stage {
+        CancelStage::Choosing(choice) => tell_choice(choice, out),
         CancelStage::Sending(link, _) => tell_chosen(link, out),
         CancelStage::Over(Some(link)) => tell_chosen(link, out),
-        _ => Ok(()),
+        CancelStage::Over(None) => Ok(()),
     }
 }
 
@@ -49,7 +50,8 @@ fn tell_polls(
             Poll::Pending => out.push_str(" pending")?,
         }
     }
-    out.push_str(" waits")
+    out.push_str(" waits")?;
+    tell_stage(&query.stage, out)
 }
 
 /// Cancels by the words: the process, the key, the connection string, the connector and what the server gives.

@@ -1,8 +1,9 @@
 //! How a case ends: what the links took, and the error.
 
-use crate::connector::Stream;
+use crate::connector::{Connector, Stream};
 use pg_cases::written;
 use pg_errors::Error;
+use pg_open::{ConnectTls, Stage};
 use pg_tls::MaybeTls;
 use pg_wire::MemoryLink;
 use std::alloc::AllocError;
@@ -33,6 +34,19 @@ pub(crate) fn tell_chosen(
             out.push_str(" tls")?;
             tell_link(&stream.inside, out)
         }
+    }
+}
+
+/// What the link took in a choice of TLS, unless a handshake has it.
+pub(crate) fn tell_choice(
+    choice: &ConnectTls<MemoryLink, Connector>,
+    out: &mut String,
+) -> Result<(), AllocError> {
+    match &choice.stage {
+        Stage::Fresh(link, _) => tell_link(link, out),
+        Stage::Asking(question) => tell_link(&question.link, out),
+        Stage::Shaking(_, _) => Ok(()),
+        Stage::Over(link) => tell_left(link, out),
     }
 }
 

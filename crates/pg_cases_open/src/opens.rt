@@ -4,14 +4,14 @@ ghost use Rattle.pg_open.specs.Opening.{IsOpening};
 ghost use Rattle.pg_cases_open.specs.Around.{around};
 
 use crate::connector::{Connector, Stream};
-use crate::endings::{tell_chosen, tell_error, tell_left, tell_link};
+use crate::endings::{tell_choice, tell_chosen, tell_error, tell_link};
 use crate::setting;
 use futures::task::Poll;
 use pg_cases::words::{at, text_at};
 use pg_cases::written;
 use pg_config::Config;
 use pg_connect::Connection;
-use pg_open::{ConnectRaw, ConnectTls, OpenStage, Opened, Stage, connect_raw};
+use pg_open::{ConnectRaw, OpenStage, Opened, connect_raw};
 use pg_tls::MaybeTls;
 use pg_wire::{LinkWait, MemoryLink};
 use std::alloc::{AllocError, Global};
@@ -63,17 +63,6 @@ fn tell_opened(opened: &Opened<MemoryLink, Connector>, out: &mut String) -> Resu
     let streams = &opened.connection.streams;
     write!(out, " notices {} left", streams.delayed.len())?;
     written::tell(streams.buffer.as_slice(), out)
-}
-
-/// What the link took in a choice that ended.
-fn tell_choice(
-    choice: &ConnectTls<MemoryLink, Connector>,
-    out: &mut String,
-) -> Result<(), AllocError> {
-    match &choice.stage {
-        Stage::Over(link) => tell_left(link, out),
-        _ => Ok(()),
-    }
 }
 
 /// What the links took where it stands.

@@ -37,7 +37,7 @@ pub struct Starting<'a, K> {
 /// Where opening a connection stands.
 #[derive(Drop)]
 pub enum OpenStage<'a, L, T: TlsConnect<L>> {
-    /// Nothing was begun. Settings that can't start up leave the link so.
+    /// Nothing was begun. Settings or a nonce that can't start up leave the link so.
     Fresh(L, T),
     /// The choice of TLS goes on, or ended by an error.
     Choosing(ConnectTls<L, T>),
@@ -51,7 +51,7 @@ pub enum OpenStage<'a, L, T: TlsConnect<L>> {
 #[derive(Drop)]
 pub struct ConnectRaw<'a, L, T: TlsConnect<L>> {
     pub settings: OpenSettings<'a>,
-    /// In the last poll the link or stream gave or took a byte, or gave its end, or a handshake was polled.
+    /// In the last poll the link or stream gave or took a byte, or a handshake was polled, if that was Pending.
     pub moved: bool,
     pub stage: OpenStage<'a, L, T>,
 }

@@ -1,6 +1,6 @@
 //! A connection is opened over a link: the choice of TLS, the handshake, and the startup, polled until they answer.
 
-ghost use Rattle.std.specs.Prelude.{◌≡◌, ◌<◌, ◌≤◌, ◌^◌, ◌++◌, IfOk, IsTrue, MatchResult, Ok, Err, Some};
+ghost use Rattle.std.specs.Prelude.{◌≡◌, ◌<◌, ◌≤◌, ◌^◌, ◌++◌, false, IfOk, IsTrue, MatchResult, Ok, Err, Some};
 ghost use Rattle.futures.specs.Poll.{OnPending};
 ghost use Rattle.pg_config.specs.Views.{settings_of};
 ghost use Rattle.pg_login.specs.Steps.{Made, frame_of};
@@ -31,7 +31,9 @@ use std::mem;
 
 /// Opens a connection over this link. The settings say whether there is TLS and how the client logs in; `has_hostname`:
 /// the host has a name, for which its certificate can stand. `nonce` is the client's, for a login that asks for a proof of
-/// the password. `max_bytes` is the most bytes that the link, or the stream over it, may give in all. It takes no memory.
+/// the password; one out of form is refused, whatever the login. `max_bytes` is the most bytes that the link, or the stream
+/// over it, may give in all, and below 2^63: the byte that answers the SSLRequest and the stream's bytes count together, those
+/// of the handshake don't. It takes no memory.
 pub fn connect_raw<'a, L: Link + Drop, T: TlsConnect<L> + Drop>(
     link: L,
     tls: T,
@@ -47,6 +49,7 @@ pub fn connect_raw<'a, L: Link + Drop, T: TlsConnect<L> + Drop>(
     ensures nonce { result.settings.nonce.now ≡ nonce.now }
     ensures hostname { result.settings.has_hostname ≡ has_hostname }
     ensures limit { result.settings.max_bytes ≡ max_bytes }
+    ensures unmoved { result.moved ≡ false }
 {
     ConnectRaw {
         settings: OpenSettings {
@@ -61,7 +64,11 @@ pub fn connect_raw<'a, L: Link + Drop, T: TlsConnect<L> + Drop>(
 }
 
 impl<'a, L: Link + Drop, T: TlsConnect<L> + Drop> ConnectRaw<'a, L, T> {
-    /// Goes on until there is an answer: the connection behind its startup, or why there is none.
+    /// Goes on until there is an answer: the connection behind its startup, or why there is none. Config(NoUser) comes
+    /// exactly where the settings name no user, else Config(Nonce) exactly where the nonce isn't in form, before any byte;
+    /// then the errors of `ConnectTls::poll`; Encode where the startup frame can't be written; then those of `Startup::poll`.
+    /// Pending comes only where a call of the link or stream wasn't ready, or the handshake was pending. Behind an answer it
+    /// isn't polled again.
     pub fn poll(&mut self, alloc: Global) -> Poll<Result<Opened<L, T>, Error>>
         requires open { IsOpening (outside L.view T.connects T.begins T.Future.polled T.Future.Stream.view T.Future.Stream.binding) self.old.settings self.old.stage }
         ensures answer { (link : L) (tls : T) → OpenStands (outside L.view T.connects T.begins T.Future.polled T.Future.Stream.view T.Future.Stream.binding) self.old.settings link tls self.old.stage →
@@ -267,8 +274,7 @@ impl<'a, L: Link + Drop, T: TlsConnect<L> + Drop> ConnectRaw<'a, L, T> {
         }
     }
 
-    /// Whether the link or stream gave or took a byte, or gave its end, or a handshake was polled, in the last poll, if that
-    /// was Pending.
+    /// Whether the link or stream gave or took a byte, or a handshake was polled, in the last poll, if that was Pending.
     pub fn moved(&self) -> bool
         ensures { result ≡ self.now.moved }
     {

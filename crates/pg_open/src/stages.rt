@@ -53,7 +53,7 @@ pub struct ConnectTls<L, T: TlsConnect<L>> {
     pub settings: TlsSettings,
     /// How many bytes the link gave: the one that answers an SSLRequest, or none.
     pub asked: u64,
-    /// In the last poll the link gave or took a byte, or gave its end, or a handshake was polled.
+    /// In the last poll the link gave or took a byte, or a handshake was polled, if that was Pending.
     pub moved: bool,
     pub stage: Stage<L, T>,
 }
