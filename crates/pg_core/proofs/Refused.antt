@@ -1,5 +1,5 @@
 -- Where a legal list refuses a command that decides in time, memory lacked, or its request is gone.
-use Rattle.std.proofs.Common.{◌≡◌, ◌⊎◌, inl, inr, ℕ, ◌≤◌, ◌||◌, nat_lt, List, [], ◌∷◌, ◌++◌, length, take, Bool, true, false, if◌then◌else◌, Option, Some, None, Result, Ok, Err, refl, sym, ap, subst, ◌∙◌, arith}
+use Rattle.std.proofs.Common.{◌≡◌, ◌⊎◌, inl, inr, ℕ, ◌≤◌, nat_lt, List, [], ◌∷◌, ◌++◌, length, take, Bool, true, false, if◌then◌else◌, Option, Some, None, Result, Ok, Err, refl, sym, ap, subst, ◌∙◌, arith}
 use Rattle.std.proofs.lemmas.Bool.Decides.{nat_tests}
 use Rattle.std.proofs.lemmas.List.{map-append, take-append-le}
 use Rattle.std.specs.List.{list_any}
@@ -9,9 +9,9 @@ use Rattle.pg_desk.specs.declared.event.DeskFault.{DeskFault}
 use Rattle.pg_desk.specs.declared.event.DeskFault.TheVariants as fault
 use Rattle.pg_desk.specs.declared.event.Take.TheVariants as taking
 use Rattle.pg_desk.specs.declared.event.Event.{Event}
-use Rattle.pg_desk.specs.declared.event.Event.TheVariants.{Book, Take as TakeEvent, HangUp, NextStatement, NextPortal, NextOut, Deliver as DeliverEvent, CloseRequests, Fail}
-use Rattle.pg_desk.specs.History.{State, finished, has_ended, joined, waiting, is_hung_up, after, after_all, take_answer, take_of_waiting, ended, Allows, IsFrontOf, IsLegal, kept}
-use Rattle.pg_desk.specs.Kept.{after-joined, stored-part}
+use Rattle.pg_desk.specs.declared.event.Event.TheVariants.{Take as TakeEvent, HangUp}
+use Rattle.pg_desk.specs.History.{State, finished, has_ended, joined, waiting, is_hung_up, after, after_all, take_answer, take_of_waiting, Allows, IsFrontOf, IsLegal, kept}
+use Rattle.pg_desk.specs.Kept.{stored-part}
 use Rattle.pg_desk.proofs.Soundness.{AllCut, legal-kept}
 use Rattle.pg_faults.specs.declared.error.Error.{Error}
 use Rattle.pg_faults.specs.declared.error.Error.TheVariants.{OutOfMemory}
