@@ -15,7 +15,7 @@ use Rattle.pg_startup.specs.Transfers.{IsFlushed}
 use Rattle.pg_startup.specs.declared.transfer.Transfer.{Transfer}
 use Rattle.pg_tls.specs.declared.maybe_tls.MaybeTls.{MaybeTls}
 use Rattle.pg_open.specs.Cancelling.{CancelFails, CancelStands, IsGiven, IsSending, IsUnderWay, Said, SaidEnds, Sends, Sent, WasSent, cancel_frame, cancel_settings}
-use Rattle.pg_open.specs.Choosing.{Known, StandsAt, TlsAnswers, TlsFails}
+use Rattle.pg_open.specs.Choosing.{Known, StandsAt, TlsAnswers}
 use Rattle.pg_open.specs.declared.cancel_stages.CancelStage.{CancelStage}
 use Rattle.pg_open.specs.declared.cancel_stages.CancelStage.TheVariants.{Choosing, Sending, Over}
 use Rattle.pg_open.specs.declared.cancel_stages.SessionInfo.{SessionInfo}

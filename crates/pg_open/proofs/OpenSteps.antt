@@ -1,5 +1,5 @@
 -- Where opening a connection stands behind each step of a poll.
-use Rattle.std.proofs.Common.{◌≡◌, ◌≤◌, inl, inr, ℕ, Bool, true, false, ◌||◌, List, [], append-nil, Some, Result, Ok, Err, refl, sym, ◌∙◌, ap, subst, arith}
+use Rattle.std.proofs.Common.{◌≡◌, ◌≤◌, inl, inr, ℕ, Bool, true, false, ◌||◌, [], append-nil, Some, Result, Ok, Err, refl, sym, ◌∙◌, subst, arith}
 use Rattle.futures.specs.Poll.{OnPending}
 use Rattle.futures.specs.declared.task.Poll.{Poll}
 use Rattle.futures.specs.declared.task.Poll.TheVariants.{Ready, Pending}
@@ -11,6 +11,7 @@ use Rattle.pg_faults.specs.declared.error.Error.{Error}
 use Rattle.pg_faults.specs.declared.error.Error.TheVariants as error
 use Rattle.pg_config.specs.Views.{settings_of}
 use Rattle.pg_login.specs.Steps.{Made, frame_of}
+use Rattle.pg_connect.specs.Calm.{MissesOne, StaysCalm}
 use Rattle.pg_startup.specs.StartupPolls.{GoesOn, StartupAnswers}
 use Rattle.pg_startup.specs.Startups as startups
 use Rattle.pg_startup.specs.declared.startup.Startup.{Startup}
@@ -18,8 +19,8 @@ use Rattle.pg_tls.specs.declared.choice.TlsChoice.{TlsChoice}
 use Rattle.pg_tls.specs.declared.choice.TlsChoice.TheVariants as choice
 use Rattle.pg_tls.specs.declared.maybe_tls.MaybeTls.{MaybeTls}
 use Rattle.pg_tls.specs.declared.maybe_tls.MaybeTls.TheVariants as maybe
-use Rattle.pg_open.specs.Choosing.{Chose, StandsAt, TlsAnswers, TlsFails, WaitsOn}
-use Rattle.pg_open.specs.Opening.{CanStart, Finishes, GoesOnFrom, HandsOut, IsOpening, IsReached, IsStarting, OpenAnswers, OpenFails, OpenGoesOn, OpenStands, Outside, StartAnswers, StartsOn, WasGoing, WasOpened, login_over, moved_before, seen, tls_settings}
+use Rattle.pg_open.specs.Choosing.{Chose, StandsAt, TlsAnswers, WaitsOn}
+use Rattle.pg_open.specs.Opening.{CanStart, Finishes, GoesOnFrom, HandsOut, IsOpening, IsReached, IsStarting, LeavesLess, OpenAnswers, OpenFails, OpenGoesOn, OpenStands, Outside, StartAnswers, StartsOn, WasGoing, WasOpened, login_over, moved_before, seen, tls_settings}
 use Rattle.pg_open.specs.declared.open_stages.OpenSettings.{OpenSettings}
 use Rattle.pg_open.specs.declared.open_stages.OpenStage.{OpenStage}
 use Rattle.pg_open.specs.declared.open_stages.OpenStage.TheVariants.{Fresh, Choosing, Starting, Over}
@@ -175,9 +176,9 @@ module _ {L T F S E : Type 0} (o : Outside L T F S E) (want : OpenSettings) (lin
   -- the startup goes on
   pub goes-on : (from before : MaybeTls L S) (early moved : Bool) (old : Startup) (s : Setup (MaybeTls L S)) → IsStarting o want link tls from before old s.asked →
       startups.Opening (login_over o want from) s.asked (seen o from) (seen o s.link) s.startup → s.startup.bytes.max_bytes ≡ old.bytes.max_bytes → moved ≡ (early || s.startup.bytes.moved) →
-      GoesOn s.startup (seen o before) (seen o s.link) → StartsOn o want link tls from before s.asked early moved (Starting s)
-  goes-on from before early moved old s st opening limit moves waits =
-      (record { reached = st.reached; limit = limit ∙ st.limit; opening = opening }, refl, moves, waits)
+      GoesOn s.startup (seen o before) (seen o s.link) → StaysCalm (seen o before) (seen o s.link) → MissesOne (seen o before) (seen o s.link) → StartsOn o want link tls from before s.asked early moved (Starting s)
+  goes-on from before early moved old s st opening limit moves waits calm one =
+      (record { reached = st.reached; limit = limit ∙ st.limit; opening = opening }, refl, moves, waits, calm, one)
 
   -- a startup that goes on hasn't answered
   starts-opening : (from before : MaybeTls L S) (asked : ℕ) (early moved : Bool) (new : OpenStage L T F S E) → StartsOn o want link tls from before asked early moved new → IsOpening o want new
@@ -224,13 +225,18 @@ module _ {L T F S E : Type 0} (o : Outside L T F S E) (want : OpenSettings) (lin
 
   -- a poll of the startup answers for it
   pub goes-answers : (s : Setup (MaybeTls L S)) (moved : Bool) (new : OpenStage L T F S E) (answer : Poll (Result (Opened L T F S E) Error)) → GoesOnFrom o want link tls s false moved new answer →
-      OpenStands o want link tls (Starting s) → OpenAnswers o want link tls moved (Starting s) new answer
-  goes-answers s moved new answer follows st = by answer (follows st.0 st.1)
+      OnPending answer (LeavesLess s.startup new) → OpenStands o want link tls (Starting s) → OpenAnswers o want link tls moved (Starting s) new answer
+  goes-answers s moved new answer follows nearer st = by answer (follows st.0 st.1) nearer
     where
-      by : (answer : Poll (Result (Opened L T F S E) Error)) → StartAnswers o want link tls st.0 s.link s.asked false moved new answer → OpenAnswers o want link tls moved (Starting s) new answer
-      by (Ready (Ok opened)) a = a
-      by (Ready (Err e)) a = a
-      by Pending a = (st.0, a)
+      by : (answer : Poll (Result (Opened L T F S E) Error)) → StartAnswers o want link tls st.0 s.link s.asked false moved new answer → OnPending answer (LeavesLess s.startup new) → OpenAnswers o want link tls moved (Starting s) new answer
+      by (Ready (Ok opened)) a less = a
+      by (Ready (Err e)) a less = a
+      by Pending a less = (st.0, a, less)
+
+-- what follows a startup that is done is an answer
+pub finishes-now : {L T F S E : Type 0} (P : Type 0) (want : OpenSettings) (s : Startup) (asked : ℕ) (link : MaybeTls L S) (stage : OpenStage L T F S E) (answer : Poll (Result (Opened L T F S E) Error)) → Finishes want s asked link stage answer → OnPending answer P
+finishes-now P want s asked link stage (Ready x) f = tt
+finishes-now P want s asked link stage Pending f = absurd f
 
 -- a startup that was met goes on
 pub going-of : {L T F S E : Type 0} (o : Outside L T F S E) (want : OpenSettings) (old met : OpenStage L T F S E) (s : Setup (MaybeTls L S)) → met ≡ old → met ≡ Starting s → IsOpening o want old → WasGoing o want s

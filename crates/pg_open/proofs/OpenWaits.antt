@@ -1,8 +1,8 @@
 -- A wait changes nothing of where opening a connection stands.
-use Rattle.std.proofs.Common.{◌≡◌, ℕ, Bool, true, false, IsTrue, List, ◌++◌, inl, inr, refl, sym, ◌∙◌, ap, subst}
+use Rattle.std.proofs.Common.{◌≡◌, ℕ, true, false, IsTrue, List, ◌++◌, inl, inr, refl, sym, ◌∙◌, ap, subst}
 use Rattle.pg_spec.specs.Links.{LinkView}
 use Rattle.pg_spec.specs.Startup.{Login}
-use Rattle.pg_wire.specs.LinkCalls.{IsFault, IsStill, Keeps, SameBytes, SameWriting, WaitAnswers}
+use Rattle.pg_wire.specs.LinkCalls.{Keeps, SameBytes, SameWriting, WaitAnswers}
 use Rattle.pg_wire.specs.declared.link.LinkWait.{LinkWait}
 use Rattle.pg_wire.specs.declared.link.LinkWait.TheVariants as waits
 use Rattle.pg_connect.proofs.Joining.{keeps_then}
@@ -11,8 +11,8 @@ use Rattle.pg_startup.specs.Startups.{Opening, WasAnswered}
 use Rattle.pg_startup.specs.declared.ssl_request.SslRequest.{SslRequest}
 use Rattle.pg_startup.specs.declared.startup.Startup.{Startup}
 use Rattle.pg_tls.specs.declared.maybe_tls.MaybeTls.{MaybeTls}
-use Rattle.pg_open.specs.Choosing.{IsAsked, Known, StandsAt, Waits}
-use Rattle.pg_open.specs.Opening.{IsOpening, IsStarting, OpenIdles, OpenStands, OpenStays, Outside, is_first, is_untouched, login_over, seen, tls_settings}
+use Rattle.pg_open.specs.Choosing.{Known, StandsAt, Waits}
+use Rattle.pg_open.specs.Opening.{IsOpening, IsStarting, OpenIdles, OpenStands, OpenStays, Outside, is_first, login_over, seen, tls_settings}
 use Rattle.pg_open.specs.declared.open_stages.OpenSettings.{OpenSettings}
 use Rattle.pg_open.specs.declared.open_stages.OpenStage.{OpenStage}
 use Rattle.pg_open.specs.declared.open_stages.OpenStage.TheVariants.{Fresh, Choosing, Starting, Over}

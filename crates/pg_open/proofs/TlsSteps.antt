@@ -91,7 +91,7 @@ begun-first k moved link tls (Over left) w = absurd w
 -- the first poll asks over the link as it was handed in
 pub asked-first : {L T F S E : Type 0} (k : Known L T F S E) (moved : Bool) (q : Question L T) (new : Stage L T F S E) → WaitsOn k moved (Asking q) new → WaitsOn k moved (Fresh q.link q.tls) new
 asked-first k moved q (Fresh l t) w = absurd w
-asked-first k moved q (Asking now) w = w
+asked-first k moved q (Asking now) w = (w.0, w.1, tt)
 asked-first k moved q (Shaking now n) w = w
 asked-first k moved q (Over left) w = absurd w
 

@@ -11,7 +11,8 @@ use Rattle.pg_wire.specs.declared.link.LinkWait.TheVariants as waits
 use Rattle.pg_faults.specs.declared.cause.Cause.TheVariants as cause
 use Rattle.pg_faults.specs.declared.error.Error.{Error}
 use Rattle.pg_faults.specs.declared.error.Error.TheVariants as error
-use Rattle.pg_startup.specs.SslRequests.{AskFailed, Asked, Asking as IsAsking, AsksOn}
+use Rattle.pg_connect.specs.Calm.{MissesOne, StaysCalm}
+use Rattle.pg_startup.specs.SslRequests.{AskFailed, Asked, Asking as IsAsking, AsksLess, AsksOn}
 use Rattle.pg_startup.specs.declared.ssl_request.SslRequest.{SslRequest}
 use Rattle.pg_tls.specs.Choices as choices
 use Rattle.pg_tls.specs.declared.choice.TlsChoice.{TlsChoice}
@@ -148,11 +149,22 @@ abbrev pub StoodSo : {L T F S E : Type 0} → Stage L T F S E → F → Type 0
 StoodSo (Shaking now quiet) before = now ≡ before
 StoodSo stage before = Unit {0}
 
+-- less is left to be sent of a request that was made before the poll, where something moved, and never more
+abbrev pub AsksLessThan : {L T F S E : Type 0} → (old : Stage L T F S E) → SslRequest → Type 0
+AsksLessThan (Asking before) now = AsksLess before.request now
+AsksLessThan stage now = Unit {0}
+
+-- A poll of the request went on between these: a call wasn't ready, at most one, and on a steady link none was a lull.
+pub record AsksCalmly (s : SslRequest) (before after : LinkView) : Type 0 where
+  pub on : AsksOn s before after
+  pub calm : StaysCalm before after
+  pub one : MissesOne before after
+
 module _ {L T F S E : Type 0} (k : Known L T F S E) where
   -- a poll goes on only where a call of the link wasn't ready in it, or the handshake was pending in it
   abbrev pub WaitsOn : (moved : Bool) (old new : Stage L T F S E) → Type 0
   WaitsOn moved old (Fresh link tls) = ⊥
-  WaitsOn moved old (Asking q) = (moved ≡ q.request.bytes.moved) × MatchOption (link_in old) ⊥ (λ before. AsksOn q.request (k.view before) (k.view q.link))
+  WaitsOn moved old (Asking q) = (moved ≡ q.request.bytes.moved) × MatchOption (link_in old) ⊥ (λ before. AsksCalmly q.request (k.view before) (k.view q.link)) × AsksLessThan old q.request
   WaitsOn moved old (Shaking now quiet) = (moved ≡ true) × ((before : F) × StoodSo old before × k.polled before now Pending)
   WaitsOn moved old (Over left) = ⊥
 

@@ -16,7 +16,8 @@ use Rattle.pg_faults.specs.declared.cause.Cause.TheVariants as cause
 use Rattle.pg_faults.specs.declared.error.Error.{Error}
 use Rattle.pg_faults.specs.declared.error.Error.TheVariants as error
 use Rattle.pg_login.specs.Steps.{Made, frame_of}
-use Rattle.pg_startup.specs.StartupPolls.{GoesOn, IsFresh}
+use Rattle.pg_connect.specs.Calm.{MissesOne, StaysCalm}
+use Rattle.pg_startup.specs.StartupPolls.{GoesOn, IsFresh, IsNearer}
 use Rattle.pg_startup.specs.Startups as startups
 use Rattle.pg_startup.specs.declared.startup.Startup.{Startup}
 use Rattle.pg_tls.specs.Links.{binding_of, view_of}
@@ -113,6 +114,11 @@ moved_before asked (maybe.Tls stream) = true
 
 -- ---- where it stands
 
+-- less is left of a startup to be done, where something moved, and never more
+abbrev pub LeavesLess : {L T F S E : Type 0} → (before : Startup) → (new : OpenStage L T F S E) → Type 0
+LeavesLess before (Starting s) = IsNearer before s.startup
+LeavesLess before stage = ⊥
+
 module _ {L T F S E : Type 0} (o : Outside L T F S E) (want : OpenSettings) (link : L) (tls : T) where
   -- A startup may begin, and the choice of TLS gave this link or stream; the link had given so many bytes.
   pub record IsReached (asked : ℕ) (from : MaybeTls L S) : Type 0 where
@@ -168,16 +174,17 @@ module _ {L T F S E : Type 0} (o : Outside L T F S E) (want : OpenSettings) (lin
   OpenFails (Starting s) e = ⊥
   OpenFails (Over left) e = MatchOption left ⊥ (λ now. IsNotWritten now e ⊎ StartFails now e)
 
-  -- The startup goes on: a call wasn't ready since the link or stream stood so. `early`: something had moved in the poll before.
+  -- The startup goes on: a call wasn't ready since the link or stream stood so, at most one, and on a steady one none was a lull.
+  -- `early`: something had moved in the poll before.
   abbrev pub StartsOn : (from before : MaybeTls L S) → (asked : ℕ) → (early moved : Bool) → OpenStage L T F S E → Type 0
   StartsOn from before asked early moved (Starting s) = IsStarting from s.link s.startup asked × (s.asked ≡ asked) × (moved ≡ (early || s.startup.bytes.moved))
-      × GoesOn s.startup (seen o before) (seen o s.link)
+      × GoesOn s.startup (seen o before) (seen o s.link) × StaysCalm (seen o before) (seen o s.link) × MissesOne (seen o before) (seen o s.link)
   StartsOn from before asked early moved stage = ⊥
 
-  -- A poll goes on: the choice of TLS or the startup does. Where the choice was made in this poll, a call of what it gave wasn't
-  -- ready since.
+  -- A poll goes on: the choice of TLS or the startup does, with less left where something moved. Where the choice was made in this
+  -- poll, a call of what it gave wasn't ready since.
   abbrev pub OpenGoesOn : (moved : Bool) → (old new : OpenStage L T F S E) → Type 0
-  OpenGoesOn moved (Starting before) new = (from : MaybeTls L S) × StartsOn from before.link before.asked false moved new
+  OpenGoesOn moved (Starting before) new = (from : MaybeTls L S) × StartsOn from before.link before.asked false moved new × LeavesLess before.startup new
   OpenGoesOn moved (Fresh now connector) (Choosing choice) = OpenStands (Choosing choice) × (moved ≡ choice.moved) × WaitsOn o.tls choice.moved (choosing.Fresh now connector) choice.stage
   OpenGoesOn moved (Choosing before) (Choosing choice) = OpenStands (Choosing choice) × (moved ≡ choice.moved) × WaitsOn o.tls choice.moved before.stage choice.stage
   OpenGoesOn moved (Fresh now connector) (Starting s) = (from : MaybeTls L S) × StartsOn from from s.asked (moved_before s.asked from) moved (Starting s)

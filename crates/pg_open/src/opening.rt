@@ -8,7 +8,7 @@ ghost use Rattle.pg_spec.specs.Links.{LinkView};
 ghost use Rattle.pg_spec.specs.Passwords.{is_nonce};
 ghost use Rattle.pg_startup.specs.StartupPolls.{IsFresh};
 ghost use Rattle.pg_startup.specs.Startups.{Opening};
-ghost use Rattle.pg_open.specs.Opening.{Finishes, GoesOnFrom, IsOpening, IsReached, OpenAnswers, OpenIdles, OpenStands, OpenStays, StartAnswers, WasGoing, WasReached, info_of, login_by, moved_before, open_quiet, outside, sent_before, tls_settings};
+ghost use Rattle.pg_open.specs.Opening.{Finishes, GoesOnFrom, IsOpening, IsReached, LeavesLess, OpenAnswers, OpenIdles, OpenStands, OpenStays, StartAnswers, WasGoing, WasReached, info_of, login_by, moved_before, open_quiet, outside, sent_before, tls_settings};
 
 use crate::may_start::may_start;
 use crate::{
@@ -162,6 +162,7 @@ impl<'a, L: Link + Drop, T: TlsConnect<L> + Drop> ConnectRaw<'a, L, T> {
     ) -> Poll<Result<Opened<L, T>, Error>>
         requires going { WasGoing (outside L.view T.connects T.begins T.Future.polled T.Future.Stream.view T.Future.Stream.binding) self.old.settings starting }
         ensures answer { (link : L) (tls : T) → GoesOnFrom (outside L.view T.connects T.begins T.Future.polled T.Future.Stream.view T.Future.Stream.binding) self.old.settings link tls starting.entry self.old.moved self.new.moved self.new.stage result }
+        ensures nearer { OnPending result (LeavesLess starting.entry.startup self.new.stage) }
         ensures same { self.new.settings ≡ self.old.settings }
     {
         let Starting {

@@ -1,6 +1,6 @@
 use Rattle.std.proofs.Common.{ap}
 use Rattle.pg_open.specs.Opening.{login_over, outside, seen}
-use Rattle.pg_open.proofs.OpenSteps.{done-of, failed-of, opens, start-fails}
+use Rattle.pg_open.proofs.OpenSteps.{done-of, failed-of, finishes-now, opens, start-fails}
 use Rattle.pg_open.proofs.open_stages.ConnectRaw.go_on.Goals as goal
 
 pub finish-requires-clause-within : goal.finish-requires-clause-within
@@ -29,3 +29,7 @@ returns-in-Ready-Err-clause-answer g c link tls from st =
     (failed-of l c.args.starting.asked (seen o from) (seen o c.poll.new.link) c.poll.new.self c.in-Ready-Err.field-0 c.in-Ready-Err.error
     (c.in-Ready-Err.ensures.answer l c.args.starting.asked (seen o from) st.opening) c.in-Ready-Err.field-0-is)
     c.in-Ready-Err.ensures.same.limit (ap (λ s. s.stage) c.leave.ensures.left) c.leave.ensures.answer
+
+pub returns-in-Ready-Ok-clause-nearer : goal.returns-in-Ready-Ok-clause-nearer
+returns-in-Ready-Ok-clause-nearer g c =
+    finishes-now _ c.args.self.now.settings c.poll.new.self c.args.starting.asked c.poll.new.link c.finish.new.self.stage c.finish.result c.finish.ensures.answer

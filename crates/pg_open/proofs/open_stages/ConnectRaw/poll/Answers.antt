@@ -34,7 +34,7 @@ returns-in-Starting-clause-answer g c link tls =
     met-answers (outside g.L.Link.view g.T.TlsConnect.connects g.T.TlsConnect.begins g.T.Future.TlsHandshake.polled g.T.Future.Stream.Link.view g.T.Future.Stream.TlsStream.binding) c.args.self.now.settings link tls
     c.args.self.now.stage c.replace.result (Starting c.in-Starting.starting) c.go_on.new.self.stage c.go_on.new.self.moved c.go_on.result c.replace.ensures.value c.in-Starting.is
     (goes-answers (outside g.L.Link.view g.T.TlsConnect.connects g.T.TlsConnect.begins g.T.Future.TlsHandshake.polled g.T.Future.Stream.Link.view g.T.Future.Stream.TlsStream.binding) c.args.self.now.settings link tls
-    c.in-Starting.starting c.go_on.new.self.moved c.go_on.new.self.stage c.go_on.result (c.go_on.ensures.answer link tls))
+    c.in-Starting.starting c.go_on.new.self.moved c.go_on.new.self.stage c.go_on.result (c.go_on.ensures.answer link tls) c.go_on.ensures.nearer)
 
 pub returns-in-Starting-clause-open : goal.returns-in-Starting-clause-open
 returns-in-Starting-clause-open g c =
@@ -45,4 +45,4 @@ returns-in-Starting-clause-open g c =
     (met-answers (outside g.L.Link.view g.T.TlsConnect.connects g.T.TlsConnect.begins g.T.Future.TlsHandshake.polled g.T.Future.Stream.Link.view g.T.Future.Stream.TlsStream.binding) c.args.self.now.settings link tls
     c.args.self.now.stage c.replace.result (Starting c.in-Starting.starting) c.go_on.new.self.stage c.go_on.new.self.moved c.go_on.result c.replace.ensures.value c.in-Starting.is
     (goes-answers (outside g.L.Link.view g.T.TlsConnect.connects g.T.TlsConnect.begins g.T.Future.TlsHandshake.polled g.T.Future.Stream.Link.view g.T.Future.Stream.TlsStream.binding) c.args.self.now.settings link tls
-    c.in-Starting.starting c.go_on.new.self.moved c.go_on.new.self.stage c.go_on.result (c.go_on.ensures.answer link tls)) c.requires.open.2)
+    c.in-Starting.starting c.go_on.new.self.moved c.go_on.new.self.stage c.go_on.result (c.go_on.ensures.answer link tls) c.go_on.ensures.nearer) c.requires.open.2)
