@@ -38,7 +38,8 @@ pub fn serves_itself()
     ensures { (got : ℕ → List RawMessage) (ds : List Deed) → IsNew got ds → Serves (got_after got ds) got ds }
 {}
 
-/// A life of a command over any desk that gave of each request what comes next: its bookings, questions and answer are the outcome of its dialogue.
+/// A life of a command over any desk that gave of each request what comes next: where nothing was refused, its bookings, questions and answer are
+/// the outcome of its dialogue, or memory lacked; what it did before the first refusal is a front of that.
 pub fn outcome_of_a_life<T>()
     ensures { (came : ℕ → List RawMessage) (p : Place T) (ts : List Turn) (q : Place T) (r : Result T Error) → IsTidy p.dialogue → ReadsNothing p.dialogue → Lives p ts q →
         Serves came (λ k. []) (deeds ts) → (q.dialogue ≡ Answer r) ⊎ (r ≡ Err OutOfMemory) → LivesSo came p.dialogue (deeds ts) q.dialogue r }
@@ -55,7 +56,7 @@ pub fn turns_of_others_keep<T>()
         of_request more (ran_by d trail).at ≡ of_request got (ran_by d trail).at → IsRunning d trail got p → IsRunning d trail more p }
 {}
 
-/// A poll is one turn more in the equations: it waits, or answers as they say, or the desk refused.
+/// A poll is one turn more in the equations: it waits, or answers as they say, or the desk refused a take or a hanging up.
 pub fn a_poll_is_a_turn<T>()
     ensures { (d : Dialogue T) (trail : List Moment) (came got : ℕ → List RawMessage) (p : Place T) (place : ℕ) (ds : List Deed) (q : Place T) → IsRunning d trail got p →
         IsFrontOf (of_request got (ran_by d trail).at) (of_request came (ran_by d trail).at) → Leads p.dialogue p.reads ds q.dialogue q.reads → Serves came got ds →
@@ -76,7 +77,7 @@ pub fn a_legal_list_serves()
         Serves (came_of (state_behind (start n m) L)) (λ k. []) (filter own L) }
 {}
 
-/// A life among the deeds of a legal list: its bookings, questions and answer are the outcome of its dialogue on the server's replies to its own requests, as far as they came.
+/// A life among the deeds of a legal list: the same, on the server's replies to its own requests, as far as they came.
 pub fn outcome_in_a_legal_list<T>()
     ensures { (mine : ℕ → Bool) (own : Deed → Bool) (n m : ℕ) (L : List Deed) (p : Place T) (ts : List Turn) (q : Place T) (r : Result T Error) → IsLegal (start n m) (kept (events_of L)) → IsApart mine own L →
         IsTidy p.dialogue → ReadsNothing p.dialogue → Lives p ts q → deeds ts ≡ filter own L → (q.dialogue ≡ Answer r) ⊎ (r ≡ Err OutOfMemory) →
