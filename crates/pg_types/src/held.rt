@@ -4,11 +4,12 @@ ghost use Rattle.std.specs.Prelude.{◌≡◌, IfOk};
 
 use crate::OutOfMemory;
 use std::alloc::Global;
+use std::fmt;
 use std::marker::Model;
 
 /// A value on the heap, seen as the value itself: so that a type may hold another, and so that what is rarely
-/// there takes the room of a pointer.
-#[derive(Debug, Drop)]
+/// there takes the room of a pointer. Its debug text is that of the value.
+#[derive(Drop)]
 pub struct Held<T> {
     inner: Box<T>,
 }
@@ -61,4 +62,10 @@ impl<T: PartialEq> PartialEq for Held<T> {
 
 impl<T: Eq> Eq for Held<T> {
     ghost laws = { T.Eq.laws };
+}
+
+impl<T: fmt::Debug> fmt::Debug for Held<T> {
+    fn fmt<W: fmt::Write>(&self, f: &mut fmt::Formatter<W>) -> fmt::Result {
+        fmt::Debug::fmt(self.get(), f)
+    }
 }
