@@ -1,8 +1,7 @@
 //! A value of any supported type.
 
-use crate::held::Held;
 use crate::wide::Wide;
-use pg_types::{Blob, List, Text};
+use pg_types::{Blob, Held, List, Text};
 
 /// A dimension of an array (PostgreSQL documentation, "Arrays").
 #[derive(Clone, Copy, Debug, PartialEq, Eq, Drop)]

@@ -8,7 +8,6 @@ mod datum_from_sql;
 mod datum_to_sql;
 mod display;
 mod escape;
-mod held;
 pub mod laws;
 mod lists;
 mod numeric;
@@ -26,7 +25,6 @@ mod wide;
 mod writing;
 
 pub use datum::{Bound, Datum, Dim};
-pub use held::Held;
 pub use reading::read_datum;
 pub use wide::Wide;
 pub use writing::write_datum;

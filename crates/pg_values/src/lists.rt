@@ -3,8 +3,7 @@
 ghost use Rattle.std.specs.Prelude.{◌≡◌, ◌++◌, ◌∷◌, [], MatchResult};
 ghost use Rattle.pg_types.specs.declared.fault.ValueFault.TheVariants as fault;
 
-use crate::held::Held;
-use pg_types::{List, ValueFault};
+use pg_types::{Held, List, ValueFault};
 use std::alloc::Global;
 
 /// Adds an item behind the others.
@@ -21,8 +20,8 @@ pub(crate) fn push<T: Drop>(items: &mut List<T>, item: T) -> Result<(), ValueFau
 pub(crate) fn with_room<T>(alloc: Global, room: usize) -> Result<List<T>, ValueFault>
     ensures { MatchResult result (λ items. items ≡ []) (λ f. f ≡ fault.OutOfMemory) }
 {
-    match Vec::with_capacity(alloc, room) {
-        Ok(items) => Ok(List::new(items)),
+    match List::with_room(alloc, room) {
+        Ok(items) => Ok(items),
         Err(_) => Err(ValueFault::OutOfMemory),
     }
 }
