@@ -20,7 +20,7 @@ fn tell_notice(notice: &DbError, out: &mut String) -> Result<(), AllocError> {
 
 fn tell_aside(aside: &AsyncMessage, out: &mut String) -> Result<(), AllocError> {
     match aside {
-        AsyncMessage::Notice(notice) => tell_notice(notice, out),
+        AsyncMessage::Notice(notice) => tell_notice(notice.get(), out),
         AsyncMessage::Notification(notification) => tell_notification(notification, out),
     }
 }

@@ -6,7 +6,7 @@ ghost use Rattle.pg_errors.specs.Notices.{ReadsNotification};
 
 use crate::db_error::ParseFields;
 use pg_faults::{Cause, DbError, Error};
-use pg_types::{OutOfMemory, Text};
+use pg_types::{Held, OutOfMemory, Text};
 use pg_wire::{Message, NotificationResponseBody};
 use std::alloc::Global;
 
@@ -22,7 +22,7 @@ pub struct Notification {
 #[derive(Debug, Drop, PartialEq, Eq)]
 pub enum AsyncMessage {
     /// What the server says that is no error.
-    Notice(DbError),
+    Notice(Held<DbError>),
     /// What another session, or this one, said on a channel.
     Notification(Notification),
 }
@@ -98,7 +98,8 @@ impl AsyncMessage {
     {
         match message {
             Message::NoticeResponse(body) => {
-                Ok(Some(AsyncMessage::Notice(DbError::parse(alloc, body)?)))
+                let notice = DbError::parse(alloc, body)?;
+                Ok(Some(AsyncMessage::Notice(Held::new(alloc, notice)?)))
             }
             Message::NotificationResponse(body) => Ok(Some(AsyncMessage::Notification(
                 Notification::read(alloc, body)?,
@@ -112,7 +113,10 @@ impl AsyncMessage {
         ensures { IfOk result (λ m. m ≡ self.now) }
     {
         match self {
-            AsyncMessage::Notice(notice) => Ok(AsyncMessage::Notice(notice.copy(alloc)?)),
+            AsyncMessage::Notice(notice) => {
+                let notice = notice.get().copy(alloc)?;
+                Ok(AsyncMessage::Notice(Held::new(alloc, notice)?))
+            }
             AsyncMessage::Notification(notification) => {
                 Ok(AsyncMessage::Notification(notification.copy(alloc)?))
             }

@@ -117,7 +117,7 @@ fn put_async(alloc: Global, out: &mut String, message: &AsyncMessage) -> Result<
 {
     put(out, "async ")?;
     match message {
-        AsyncMessage::Notice(notice) => put_notice(alloc, out, notice),
+        AsyncMessage::Notice(notice) => put_notice(alloc, out, notice.get()),
         AsyncMessage::Notification(notification) => put_notification(alloc, out, notification),
     }
 }
