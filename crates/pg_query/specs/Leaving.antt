@@ -20,10 +20,12 @@ pub data Holds : Type 0 where
   -- a request is read
   Request : Holds
 
+-- no request is read: each was let go
 abbrev pub IsLetGo : Holds → Type 0
 IsLetGo Nothing = Unit {0}
 IsLetGo Request = ⊥
 
+-- a request is read
 abbrev pub IsHeld : Holds → Type 0
 IsHeld Nothing = ⊥
 IsHeld Request = Unit {0}
@@ -83,6 +85,7 @@ IsOwed (call.Take id (Err e)) = e ≡ fault.OutOfMemory
 IsOwed (call.HangUp id (Err e)) = e ≡ fault.OutOfMemory
 IsOwed _ = Unit {0}
 
+-- the same in each deed
 abbrev pub AllOwed : List Deed → Type 0
 AllOwed [] = Unit {0}
 AllOwed (d ∷ ds) = IsOwed d.event × AllOwed ds

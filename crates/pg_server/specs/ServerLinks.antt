@@ -111,9 +111,11 @@ abbrev pub DoesAt : {S : Type 0} → (old new : Served S) → (done : Crossed) �
 DoesAt old new done r None = (r ≡ steps.Done) × (new ≡ record old { crossed = done })
 DoesAt old new done r (Some fault) = (r ≡ steps.Failed) × (new ≡ record old { crossed = failed old.crossed })
 
+-- what `flush` answers and does: all that was taken is passed on
 abbrev pub Flushes : {S : Type 0} → (old new : Served S) → LinkStep → Type 0
 Flushes old new r = DoesAt old new (record old.crossed { flushed = true }) r old.fault
 
+-- what `shutdown` answers and does: the writing side is ended
 abbrev pub EndsWriting : {S : Type 0} → (old new : Served S) → LinkStep → Type 0
 EndsWriting old new r = DoesAt old new (record old.crossed { shut = true }) r old.fault
 
