@@ -156,7 +156,7 @@ fn space_in(bytes: &[u8]) -> Option<usize>
     memchr(b' ', bytes)
 }
 
-/// The number that decimal digits spell, of at most `most`; None where they spell none.
+/// The number that decimal digits spell, where it is at most `most`. None for anything else, a larger number too.
 pub fn number_of(digits: &[u8], most: u64) -> Option<u64>
     ensures { Means (IsNumber most) digits.now result }
 {
