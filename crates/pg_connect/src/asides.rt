@@ -2,12 +2,14 @@
 
 ghost use Rattle.std.specs.Prelude.{◌≡◌, ◌<◌, true, [], None, drop, Some, length, IfOk, IfErr, is_ok, OnOk};
 ghost use Rattle.pg_spec.specs.Links.{LinkView};
+ghost use Rattle.pg_errors.specs.Parsing.{ParsesError};
 ghost use Rattle.pg_connect.specs.Passes.{PassesOn};
 ghost use Rattle.pg_connect.specs.Reads.{IsUnreadable, KeepsReport, Sorts, TakesAside, MeansUnasked, IsUnasked, unreadable_as, ReadsFirst, HandedLate, LateEnds};
 
 use crate::{ConnectionFault, Off, Streams};
 use pg_errors::{AsyncMessage, Cause, DbError, Error, ParseFields};
-use pg_wire::{BackendMessages, Message, ParameterStatusBody, WireFault};
+use pg_types::Held;
+use pg_wire::{BackendMessages, ErrorResponseBody, Message, ParameterStatusBody, WireFault};
 use std::alloc::Global;
 
 impl Streams {
@@ -93,14 +95,22 @@ fn unreadable(e: Error) -> ConnectionFault
     }
 }
 
+/// Reads a notice.
+fn read_notice(alloc: Global, notice: &ErrorResponseBody) -> Result<Held<DbError>, Error>
+    ensures { ParsesError notice.now.fields result }
+{
+    let notice = DbError::parse(alloc, notice)?;
+    Ok(Held::new(alloc, notice)?)
+}
+
 impl Streams {
     /// Reads the first notice that is delayed, if there is one.
-    fn first_notice(&self, alloc: Global) -> Option<Result<DbError, ConnectionFault>>
+    fn first_notice(&self, alloc: Global) -> Option<Result<Held<DbError>, ConnectionFault>>
         ensures { ReadsFirst self.now result }
     {
         let notice = self.delayed.front()?;
-        match DbError::parse(alloc, notice) {
-            Ok(error) => Some(Ok(error)),
+        match read_notice(alloc, notice) {
+            Ok(notice) => Some(Ok(notice)),
             Err(e) => Some(Err(unreadable(e))),
         }
     }
