@@ -1,6 +1,6 @@
 -- All that passed through a connection since its startup began, and what a connection that stands there
 -- holds. A session speaks of histories and events alone: buffers and bytes stand only in `Stands`.
-use Rattle.std.specs.Prelude.{◌≡◌, ℕ, true, false, IsTrue, List, [], ◌++◌, length}
+use Rattle.std.specs.Prelude.{◌≡◌, ℕ, ◌+◌, true, false, IsTrue, List, [], ◌++◌, length}
 use Rattle.std.specs.List.{list_all}
 use Rattle.pg_spec.specs.Asides.{is_readable}
 use Rattle.pg_spec.specs.Links.{LinkView, Grew}
@@ -18,6 +18,8 @@ use Rattle.pg_connect.specs.Reads.{AllDecoded}
 
 -- what passed through a connection
 pub record History : Type 0 where
+  -- how many bytes were given before the startup: the one that answers an SSLRequest, or none
+  pub asked : ℕ
   -- the bytes of the startup's frames, and the messages that the startup read
   pub opening : List ℕ
   pub startup : List RawMessage
@@ -27,6 +29,10 @@ pub record History : Type 0 where
   pub events : List Event
   -- the notices and notifications handed out
   pub handed : List RawMessage
+
+-- the history behind a startup, before the first poll
+abbrev pub new_history : (asked : ℕ) (opening : List ℕ) (startup : List RawMessage) → History
+new_history asked opening startup = record { asked = asked; opening = opening; startup = startup; read = []; events = []; handed = [] }
 
 -- the history with what passed in a poll
 abbrev pub extended : History → List RawMessage → List Event → List RawMessage → History
@@ -50,7 +56,7 @@ pub record Stands (s : Streams) (base link : LinkView) (h : History) : Type 0 wh
   pub delivered : sync_of h.read ≡ delivered_by h.events ++ waiting s.held
   pub handed : async_of (h.startup ++ h.read) ≡ h.handed ++ delayed_in s
   pub kept : s.parameters ≡ keep_all [] (parameter_reports (h.startup ++ h.read))
-  pub count : s.given ≡ length given
+  pub count : s.given ≡ h.asked + length given
   pub counted : s.delivered ≡ risen 0 (length (delivered_by h.events))
 
 -- Over a steady link a poll that had to wait, and met no full mailbox, left nothing to be done: the link took

@@ -31,7 +31,7 @@ pub struct Streams {
     /// Notices of the startup, to be handed out before others are read.
     pub delayed: VecDeque<ErrorResponseBody>,
     pub parameters: Parameters,
-    /// How many bytes the link gave since the startup began.
+    /// How many bytes the link gave, with those before the startup.
     pub given: u64,
     /// The most bytes that it may give.
     pub max_bytes: u64,
