@@ -9,3 +9,5 @@ pub mod Walking
 pub mod Opening
 pub mod Nearing
 pub mod Asking
+pub mod Failing
+pub mod Beginning

@@ -270,7 +270,7 @@ pub within-any : (e : Error) (given limit : ℕ) → given ≤ limit → IsWithi
 within-any (error.LimitReached counted most) given limit is = tt
 within-any _ given limit is = is
 
-never-refused : (l : Login) (at : Phase) (rest : List RawMessage) (e : Error) → ((m : RawMessage) → (more : List RawMessage) → IsRefusedNext l at (m ∷ more) e → ⊥) → IsRefusedNext l at rest e → ⊥
+pub never-refused : (l : Login) (at : Phase) (rest : List RawMessage) (e : Error) → ((m : RawMessage) → (more : List RawMessage) → IsRefusedNext l at (m ∷ more) e → ⊥) → IsRefusedNext l at rest e → ⊥
 never-refused l at [] e never is = is
 never-refused l at (m ∷ more) e never is = never m more is
 

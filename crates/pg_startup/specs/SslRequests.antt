@@ -1,5 +1,5 @@
 -- The request for TLS and the byte that answers it (PostgreSQL documentation, "SSL Session Encryption" of the message flow).
-use Rattle.std.specs.Prelude.{◌≡◌, ◌⊎◌, ℕ, ◌+◌, ◌≤◌, ◌<◌, IsTrue, false, List, [], ◌∷◌, ◌++◌, length, Some, Result, Ok, Err}
+use Rattle.std.specs.Prelude.{◌≡◌, ◌⊎◌, ℕ, ◌+◌, ◌≤◌, ◌<◌, IsTrue, true, false, List, [], ◌∷◌, ◌++◌, length, Some, Result, Ok, Err}
 use Rattle.pg_spec.specs.Frames.{ssl_request}
 use Rattle.pg_spec.specs.Links.{LinkView, Grew, Rose}
 use Rattle.futures.specs.declared.task.Poll.{Poll}
@@ -9,6 +9,7 @@ use Rattle.pg_faults.specs.declared.cause.Cause.TheVariants as cause
 use Rattle.pg_faults.specs.declared.error.Error.{Error}
 use Rattle.pg_faults.specs.declared.error.Error.TheVariants as error
 use Rattle.pg_connect.specs.Ends.{IsFlushedFrom}
+use Rattle.pg_connect.specs.Passes.{Untouched}
 use Rattle.pg_startup.specs.StartupPolls.{step_of}
 use Rattle.pg_startup.specs.Transfers.{IsFlushed, IsWithinLimit}
 use Rattle.pg_startup.specs.declared.ssl_request.SslRequest.{SslRequest}
@@ -71,13 +72,15 @@ AskAnswers begin now s (Ready (Ok b)) = Asked begin now s b
 AskAnswers begin now s (Ready (Err e)) = AskFailed begin now s e
 AskAnswers begin now s Pending = Asking begin now s
 
--- A poll that goes on met a link that wasn't ready. Where nothing moved, that is a lull of a link that was promised to be
--- ready; over a steady link the byte alone is missing, and the link may give nothing now.
+-- A poll that goes on met a link that wasn't ready. Where nothing moved, the link is untouched, and that is a lull of one that
+-- was promised to be ready; over a steady link the byte alone is missing, the link may give nothing now, and the request was
+-- passed on.
 pub record AsksOn (s : SslRequest) (before after : LinkView) : Type 0 where
   pub keeps : Keeps before after
   pub quiet : Rose before.quiet after.quiet
   pub lulls : s.bytes.moved ≡ false → IsTrue before.promised → Rose before.lulls after.lulls
-  pub idle : IsTrue before.steady → (s.bytes.unsent.items ≡ []) × (after.due ≡ Some [])
+  pub still : s.bytes.moved ≡ false → Untouched before after
+  pub idle : IsTrue before.steady → (s.bytes.unsent.items ≡ []) × (after.due ≡ Some []) × (s.bytes.flushed ≡ true)
 
 -- less is left to be sent where something moved, and never more
 abbrev pub AsksLess : (old new : SslRequest) → Type 0

@@ -6,7 +6,9 @@ use Rattle.futures.specs.declared.task.Poll.TheVariants.{Ready, Pending}
 use Rattle.pg_wire.specs.LinkCalls.{Keeps}
 use Rattle.pg_spec.specs.RawMessages.{messages, has_bad_header}
 use Rattle.pg_spec.specs.Startup.{Login}
+use Rattle.pg_faults.specs.declared.cause.Cause.TheVariants as cause
 use Rattle.pg_faults.specs.declared.error.Error.{Error}
+use Rattle.pg_faults.specs.declared.error.Error.TheVariants as error
 use Rattle.pg_connect.specs.Ends.{WasBlocked}
 use Rattle.pg_connect.specs.Passes.{Untouched}
 use Rattle.pg_connect.specs.declared.streams.Streams.{Streams}
@@ -56,22 +58,31 @@ pub record CatchesUp (old new : Startup) (before after : LinkView) : Type 0 wher
 abbrev pub IsNearer : (old new : Startup) → Type 0
 IsNearer old new = start_left new + step_of new.bytes.moved ≤ start_left old
 
--- It waits for more: all frames were taken, all that came was heard, what is left of it isn't refused, and the link may
--- give nothing now.
+-- It waits for more: all frames were taken and passed on, all that came was heard, what is left of it isn't refused, and the
+-- link may give nothing now.
 pub record IsIdle (s : Startup) (link : LinkView) : Type 0 where
   pub going : s.done ≡ false
   pub sent : s.bytes.unsent.items ≡ []
   pub heard : messages s.bytes.buffer.items ≡ []
   pub header : has_bad_header s.bytes.buffer.items ≡ false
   pub empty : link.due ≡ Some []
+  pub flushed : s.bytes.flushed ≡ true
 
--- A poll that goes on met a link that wasn't ready. Where nothing moved, that is a lull of a link that was promised
--- to be ready; over a steady link nothing is left to be done.
+-- A poll that goes on met a link that wasn't ready. Where nothing moved, the link is untouched, and that is a lull of one that
+-- was promised to be ready; over a steady link nothing is left to be done.
 pub record GoesOn (s : Startup) (before after : LinkView) : Type 0 where
   pub keeps : Keeps before after
   pub quiet : Rose before.quiet after.quiet
   pub lulls : s.bytes.moved ≡ false → IsTrue before.promised → Rose before.lulls after.lulls
+  pub still : s.bytes.moved ≡ false → Untouched before after
   pub idle : IsTrue before.steady → IsIdle s after
+
+-- a cause that is the link's came in these calls: one of them failed, or was given the end
+abbrev pub FailsNow : (before after : LinkView) → Error → Type 0
+FailsNow before after (error.Io cause.Link) = Rose before.faults after.faults
+FailsNow before after (error.Io cause.Ended) = Rose before.ends after.ends
+FailsNow before after error.Closed = Rose before.ends after.ends
+FailsNow before after e = Unit {0}
 
 -- its limit is as before, and frames were only added
 pub record SameStart (old new : Startup) : Type 0 where

@@ -3,11 +3,13 @@
 
 mod hearing;
 mod keeping;
+mod laws;
 mod polling;
 mod ssl_request;
 mod startup;
 mod transfer;
 
+pub use laws::history_of_a_startup;
 pub use ssl_request::SslRequest;
 pub use startup::{Heard, Startup};
 pub use transfer::Transfer;

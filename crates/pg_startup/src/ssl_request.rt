@@ -1,9 +1,10 @@
 //! The request for TLS, and the byte that answers it.
 
-ghost use Rattle.std.specs.Prelude.{◌≡◌, ◌<◌, ◌≤◌, ◌^◌, IfOk};
-ghost use Rattle.futures.specs.Poll.{OnPending};
+ghost use Rattle.std.specs.Prelude.{◌≡◌, ◌<◌, ◌≤◌, ◌^◌, IfErr, IfOk};
+ghost use Rattle.futures.specs.Poll.{IfReady, OnPending};
 ghost use Rattle.pg_spec.specs.Links.{LinkView};
 ghost use Rattle.pg_connect.specs.Calm.{MissesOne, StaysCalm};
+ghost use Rattle.pg_startup.specs.StartupPolls.{FailsNow};
 ghost use Rattle.pg_startup.specs.SslRequests.{AskAnswers, Asking, AsksLess, AsksOn, inside_of};
 
 use crate::Transfer;
@@ -35,15 +36,16 @@ impl SslRequest {
         Ok(SslRequest { bytes })
     }
 
-    /// Sends the request, and reads the byte that answers it. Nothing is read before the request was taken whole and passed
-    /// on. Pending comes only where a call of the link wasn't ready. Io comes where a call of the link failed, and where it
-    /// ended in place of the byte; LimitReached where the limit allows no byte. An error ends it: nothing is said of polls
-    /// behind one.
+    /// Sends the request, and reads the byte that answers it. Nothing is given before the request was taken whole and passed
+    /// on. Pending comes only where a call of the link wasn't ready, and leaves the link untouched where nothing moved. Io comes
+    /// where a call of the link failed in this poll, and where it ended in it in place of the byte; LimitReached where the limit
+    /// allows no byte. An error ends it: nothing is said of polls behind one.
     #[tactic(auto, using(pg_connect::proofs::Calm::no_lulls))]
     pub fn poll<L: Link>(&mut self, link: &mut L) -> Poll<Result<u8, Error>>
         requires limit { self.old.bytes.max_bytes < 2 ^ 63 }
         requires given { self.old.bytes.given ≤ self.old.bytes.max_bytes }
         ensures answer { (begin : LinkView) → Asking begin (L.view link.old) self.old → AskAnswers begin (L.view link.new) self.new result }
+        ensures fails_now { IfReady result (λ r. IfErr r (FailsNow (L.view link.old) (L.view link.new))) }
         ensures pending { OnPending result (AsksOn self.new (L.view link.old) (L.view link.new)) }
         ensures less { OnPending result (AsksLess self.old self.new) }
         ensures within { OnPending result (self.new.bytes.given ≤ self.new.bytes.max_bytes) }

@@ -1,11 +1,17 @@
 use Rattle.std.proofs.Common.{refl, ap}
 use Rattle.pg_startup.specs.declared.transfer.Transfer.{Transfer}
+use Rattle.pg_startup.proofs.Failing.{hears-now, sends-now}
 use Rattle.pg_startup.proofs.Nearing.{catch-ends, catches-heard, catches-sent, caught-up, failed-rest, opening-rest, start-bytes, start-queues, still-within}
 use Rattle.pg_startup.proofs.startup.Startup.catch_up.Goals as goal
 
 pub returns-in-Err-clause-answer : goal.returns-in-Err-clause-answer
 returns-in-Err-clause-answer g c l asked begin o =
     failed-rest l asked begin (g.L.Link.view c.args.link.now) c.args.self.now c.hear_rest.new.self c.in-Err.error o c.in-Err.ensures.queues c.in-Err.ensures.same c.requires.given
+    (λ over. let no = (c.in-Err.ensures.over over).0 in absurd cc) (λ going. c.in-Err.ensures.heard l o.first o.read o.stands going)
+
+pub returns-in-Err-clause-fails_now : goal.returns-in-Err-clause-fails_now
+returns-in-Err-clause-fails_now g c l asked begin o =
+    hears-now l asked begin (g.L.Link.view c.args.link.now) c.args.self.now c.hear_rest.new.self c.in-Err.error o
     (λ over. let no = (c.in-Err.ensures.over over).0 in absurd cc) (λ going. c.in-Err.ensures.heard l o.first o.read o.stands going)
 
 pub returns-in-Err-clause-catches : goal.returns-in-Err-clause-catches
@@ -22,6 +28,9 @@ returns-clause-answer g c l asked begin o =
     caught-up l asked begin a (g.L.Link.view c.send.new.link) t c.send.new.self c.send.result
     (opening-rest l asked begin a s t o c.in-Ok.ensures.queues c.in-Ok.ensures.same (λ over. (c.in-Ok.ensures.over over).1) (λ going. c.in-Ok.ensures.heard l o.first o.read o.stands going))
     c.send.ensures.sends c.send.ensures.end (still-within s t c.in-Ok.ensures.same c.requires.given)
+
+pub returns-clause-fails_now : goal.returns-clause-fails_now
+returns-clause-fails_now g c l asked begin o = sends-now c.send.new.self (g.L.Link.view c.args.link.now) (g.L.Link.view c.send.new.link) c.send.result c.send.ensures.end
 
 pub returns-clause-end : goal.returns-clause-end
 returns-clause-end g c =

@@ -9,6 +9,7 @@ use Rattle.pg_startup.specs.StartupPolls.{CatchEnds, IsCaughtUp}
 use Rattle.pg_startup.specs.Transfers.{Gets, PieceEnds}
 use Rattle.pg_startup.specs.declared.startup.Startup.{Startup}
 use Rattle.pg_startup.specs.declared.transfer.Transfer.{Transfer}
+use Rattle.pg_startup.proofs.Failing.{now-later, reads-now}
 use Rattle.pg_startup.proofs.Nearing.{dry-nearer, failed-reads, reads-nearer, reads-still, start-none, start-reads, start-same, start-then}
 use Rattle.pg_startup.proofs.Opening.{opened, opening-again, opening-reads}
 use Rattle.pg_startup.proofs.startup.Startup.poll.Goals as goal
@@ -109,6 +110,10 @@ returns-in-Ok-false-clause-pending g c =
       lulls = λ none promised.
           let before = inv.still (up.still none).0 in
           rose_later i.lulls a.lulls b.lulls inv.link.counts.lulls (was.lulls none (promised_still i a before.1 promised));
+      still = λ none.
+          let sent = up.still none in
+          let before = inv.still sent.0 in
+          untouched_then i a b before.1 sent.1;
       idle = λ steady. absurd (was.not_steady (inv.link.steady steady));
     }
 
@@ -128,6 +133,11 @@ returns-in-Ok-false-clause-same g c =
 pub returns-in-Err-clause-answer : goal.returns-in-Err-clause-answer
 returns-in-Err-clause-answer g c l asked begin o =
     c.in-Err.ensures.answer l asked begin (c.pieces.invariant.opening l asked begin (opening-again l asked begin (g.L.Link.view c.args.link.now) c.args.self.now o))
+
+pub returns-in-Err-clause-fails_now : goal.returns-in-Err-clause-fails_now
+returns-in-Err-clause-fails_now g c l asked begin o =
+    now-later (g.L.Link.view c.args.link.now) (g.L.Link.view c.pieces.link) (g.L.Link.view c.catch_up.new.link) c.in-Err.error c.pieces.invariant.link
+    (c.in-Err.ensures.fails_now l asked begin (c.pieces.invariant.opening l asked begin (opening-again l asked begin (g.L.Link.view c.args.link.now) c.args.self.now o)))
 
 pub returns-in-Err-clause-same : goal.returns-in-Err-clause-same
 returns-in-Err-clause-same g c =
@@ -186,12 +196,18 @@ returns-in-Ok-false-read_piece-clause-pending g c =
           let sent = up.still (reads-still t r b d _ gets unmoved).0 in
           let before = inv.still sent.0 in
           rose_later i.lulls b.lulls d.lulls keeps.counts.lulls (end.0.lulls unmoved (promised_still i b (untouched_then i a b before.1 sent.1) promised));
+      still = λ unmoved.
+          let read = reads-still t r b d _ gets unmoved in
+          let sent = up.still read.0 in
+          let before = inv.still sent.0 in
+          untouched_then i b d (untouched_then i a b before.1 sent.1) read.1;
       idle = λ steady. record {
         going = c.if-self.false;
         sent = ap (λ (x : Transfer). x.unsent.items) gets.same ∙ ready.sent;
         heard = ap messages end.2 ∙ none.0;
         header = ap has_bad_header end.2 ∙ none.2;
         empty = end.0.empty (keeps.steady steady);
+        flushed = ap (λ (x : Transfer). x.flushed) gets.same ∙ ready.flushed;
       };
     }
 
@@ -244,6 +260,15 @@ returns-in-Err-read_piece-clause-answer g c l asked begin o =
     failed-reads l asked begin b (g.L.Link.view c.read_piece.new.link) t c.read_piece.new.self c.in-Err-read_piece.error
     (c.in-Ok-true.ensures.answer l asked begin (c.pieces.invariant.opening l asked begin (opening-again l asked begin (g.L.Link.view c.args.link.now) c.args.self.now o)))
     c.if-self.false (ready.heard c.if-self.false) ready.sent ready.flushed c.in-Err-read_piece.ensures.gets c.in-Err-read_piece.ensures.end c.in-Err-read_piece.ensures.within
+
+pub returns-in-Err-read_piece-clause-fails_now : goal.returns-in-Err-read_piece-clause-fails_now
+returns-in-Err-read_piece-clause-fails_now g c l asked begin o =
+    let i = g.L.Link.view c.args.link.now in
+    let a = g.L.Link.view c.pieces.link in
+    let b = g.L.Link.view c.catch_up.new.link in
+    let d = g.L.Link.view c.read_piece.new.link in
+    now-later i b d c.in-Err-read_piece.error (keeps_then i a b c.pieces.invariant.link c.in-Ok-true.ensures.catches.keeps)
+    (reads-now c.catch_up.new.self.bytes c.read_piece.new.self b d piece_size c.in-Err-read_piece.error c.in-Err-read_piece.ensures.end)
 
 pub returns-in-Err-read_piece-clause-same : goal.returns-in-Err-read_piece-clause-same
 returns-in-Err-read_piece-clause-same g c =
