@@ -1,5 +1,5 @@
 -- Where the history of a connection begins.
-use Rattle.std.proofs.Common.{◌≡◌, ℕ, Bool, List, [], ◌++◌, map, refl, sym, ap, subst, ◌∙◌, append-nil, arith}
+use Rattle.std.proofs.Common.{◌≡◌, ℕ, Bool, false, List, [], ◌++◌, map, refl, sym, ap, subst, ◌∙◌, append-nil, arith}
 use Rattle.pg_spec.specs.Links.{LinkView, Grew}
 use Rattle.pg_spec.specs.Parameters.{parameter_reports}
 use Rattle.pg_spec.specs.RawMessages.{RawMessage, messages, bytes_left, async_of}
