@@ -37,3 +37,21 @@ pub fn tell(alloc: Global, words: &[Vec<u8>], out: &mut String) -> Result<(), Al
     }
     write!(out, " left {}", bytes.len())
 }
+
+/// No whole frame stands in front of these bytes.
+fn is_short(alloc: Global, bytes: &[u8]) -> Result<bool, AllocError> {
+    let mut bytes = shared::of_slice(alloc, bytes)?;
+    Ok(matches!(Frame::parse(alloc, &mut bytes), Ok(None)))
+}
+
+/// At how many places the bytes can be cut, and the front is no whole frame.
+pub fn tell_fronts(alloc: Global, words: &[Vec<u8>], out: &mut String) -> Result<(), AllocError> {
+    let bytes = at(words, 1);
+    let mut short = 0;
+    for n in 0..bytes.len() {
+        if is_short(alloc, &bytes[..n])? {
+            short += 1;
+        }
+    }
+    write!(out, " {short} of {}", bytes.len())
+}

@@ -1,11 +1,12 @@
-//! A link to a server that echoes: what each of its calls answers.
+//! A link to a server: what each of its calls answers.
 
 ghost use Rattle.std.specs.Prelude.{◌<◌};
 
-use crate::feeds::STARTUP;
+use crate::feeds::{STARTUP, from};
+use crate::told::Told;
 use pg_cases::words::{text, text_at};
 use pg_cases::written;
-use pg_server::{Echo, Server, ServerLink};
+use pg_server::{Echo, Handler, Server, ServerLink};
 use pg_types::Blob;
 use pg_wire::{Link, LinkRead, LinkWrite};
 use std::alloc::{AllocError, Global};
@@ -39,7 +40,11 @@ fn tell_write<L: Link>(link: &mut L, bytes: &[u8], out: &mut String) -> Result<(
 }
 
 /// Makes the call that a word names, and tells what it answers. Any other word is written.
-fn tell_call(link: &mut ServerLink<Echo>, word: &[u8], out: &mut String) -> Result<(), AllocError> {
+fn tell_call<H: Handler>(
+    link: &mut ServerLink<H>,
+    word: &[u8],
+    out: &mut String,
+) -> Result<(), AllocError> {
     match text(word) {
         "read" => tell_read(link, out),
         "wait" => write!(out, " {:?}", link.wait()),
@@ -52,19 +57,35 @@ fn tell_call(link: &mut ServerLink<Echo>, word: &[u8], out: &mut String) -> Resu
 }
 
 /// Makes a link that gives and takes as many bytes as the first two words say, and the calls of the others.
-pub fn tell(alloc: Global, words: &[Vec<u8>], out: &mut String) -> Result<(), AllocError> {
-    let cut = number(text_at(words, 1));
-    let room = number(text_at(words, 2));
+fn tell_calls<H: Handler + Drop>(
+    alloc: Global,
+    handler: H,
+    words: &[Vec<u8>],
+    out: &mut String,
+) -> Result<(), AllocError> {
+    let cut = number(text_at(words, 0));
+    let room = number(text_at(words, 1));
     let Ok(startup) = Blob::from_slice(alloc, STARTUP) else {
         return Err(AllocError);
     };
-    let server = match Server::new(alloc, Echo::new(alloc), startup) {
+    let server = match Server::new(alloc, handler, startup) {
         Ok(server) => server,
         Err(fault) => return write!(out, " {fault:?}"),
     };
     let mut link = ServerLink::new(alloc, server, cut, room);
-    for word in words.get(3..).unwrap_or(&[]) {
+    for word in from(words, 2) {
         tell_call(&mut link, word.as_slice(), out)?;
     }
     Ok(())
+}
+
+/// A link to a server that echoes, or to one whose handler the next two words tell.
+pub fn tell(alloc: Global, words: &[Vec<u8>], out: &mut String) -> Result<(), AllocError> {
+    match text_at(words, 0) {
+        "link" => tell_calls(alloc, Echo::new(alloc), from(words, 1), out),
+        _ => {
+            let handler = Told::of(alloc, from(words, 1))?;
+            tell_calls(alloc, handler, from(words, 3), out)
+        }
+    }
 }

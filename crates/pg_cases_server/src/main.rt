@@ -4,6 +4,7 @@
 mod feeds;
 mod frames;
 mod links;
+mod told;
 
 use pg_cases::words::text_at;
 use std::alloc::{AllocError, Global};
@@ -13,7 +14,8 @@ use std::io;
 fn tell(alloc: Global, words: &[Vec<u8>], out: &mut String) -> Result<(), AllocError> {
     match text_at(words, 0) {
         "frame" => frames::tell(alloc, words, out),
-        "link" => links::tell(alloc, words, out),
+        "fronts" => frames::tell_fronts(alloc, words, out),
+        "link" | "told_link" => links::tell(alloc, words, out),
         _ => feeds::tell(alloc, words, out),
     }
 }
