@@ -5,7 +5,7 @@ use Rattle.pg_server.specs.declared.fault.ServerFault.{ServerFault}
 use Rattle.pg_server.specs.declared.fault.ServerFault.TheVariants as faults
 use Rattle.pg_server.specs.Handlers.{Step}
 use Rattle.pg_server.specs.Hearing.{Said, waiting, stopped, before, going_on, said_within, said_to, Hears}
-use Rattle.pg_server.specs.Standings.{Standing, Waits, Says, Stops, front, Does}
+use Rattle.pg_server.specs.Standings.{Standing, Front, Waits, Says, Stops, front, Does}
 use Rattle.pg_server.proofs.CutLaws.{IsBehind, front-behind}
 
 -- there are no more frames than bytes
@@ -49,9 +49,20 @@ pub record HeardSoFar {S : Type 0} (step : Step S) (at : Standing S) (bytes out 
   pub some : List ℕ
   pub said : later ≡ out ++ some
   pub all : said_to step at bytes ≡ before some (said_to step now rest)
+  -- by so many frames
+  pub frames : ℕ
+  pub first : (n k : ℕ) → k ≡ frames + n → said_within k step at bytes ≡ before some (said_within n step now rest)
 
 pub begin_heard : {S : Type 0} (step : Step S) (at : Standing S) (bytes out : List ℕ) → HeardSoFar step at bytes out at bytes out
-begin_heard step at bytes out = record { gone = []; behind = refl; some = []; said = sym (append-nil out); all = refl }
+begin_heard step at bytes out = record {
+  gone = [];
+  behind = refl;
+  some = [];
+  said = sym (append-nil out);
+  all = refl;
+  frames = 0;
+  first = λ n k is. let same : k ≡ n = omega (arith, is) in ap (λ (j : ℕ). said_within j step at bytes) same;
+}
 
 pub more_heard : {S : Type 0} (step : Step S) (at : Standing S) (bytes out : List ℕ) (now next : Standing S) (rest later behind last : List ℕ) →
     HeardSoFar step at bytes out now rest later → (said : List ℕ) × (front step now rest ≡ Says said next behind) × (last ≡ later ++ said) → HeardSoFar step at bytes out next behind last
@@ -64,6 +75,9 @@ more_heard {S = S} step at bytes out now next rest later behind last was (said, 
       said = adds ∙ ap (λ (o : List ℕ). o ++ said) was.said ∙ append_assoc out was.some said;
       all = was.all ∙ ap (before was.some) (said_to-says step now rest said next behind does)
           ∙ ap (λ (x : List ℕ). record (said_to step next behind) { said = x }) (sym (append_assoc was.some said (said_to step next behind).said));
+      frames = suc was.frames;
+      first = λ n k is. was.first (suc n) k (omega (arith, is)) ∙ ap (λ (x : Front S). before was.some (going_on (said_within n step) now rest x)) does
+          ∙ ap (λ (x : List ℕ). record (said_within n step next behind) { said = x }) (sym (append_assoc was.some said (said_within n step next behind).said));
     }
 
 pub less_left : {S : Type 0} (step : Step S) (now next : Standing S) (rest later behind last : List ℕ) →
@@ -102,4 +116,11 @@ heard_fault {S = S} step at bytes out now last rest later said fault was does = 
     by_fault (faults.BadFrame f) d = refused (faults.BadFrame f) d
     by_fault (faults.BadEffect n) d = refused (faults.BadEffect n) d
     by_fault faults.Ended d = refused faults.Ended d
-    by_fault faults.OutOfMemory d = (was.some, d ∙ was.said, ((said_to step now rest).said, sym (ap (λ (s : Said S). s.said) was.all)))
+    by_fault faults.OutOfMemory d =
+        let first : (said_within was.frames step at bytes).said ≡ was.some = ap (λ (s : Said S). s.said) (was.first 0 was.frames (omega arith)) ∙ append-nil was.some in
+        record {
+          frames = was.frames;
+          said = d ∙ was.said ∙ ap (λ (x : List ℕ). out ++ x) (sym first);
+          rest = (said_to step now rest).said;
+          front = ap (λ (x : List ℕ). x ++ (said_to step now rest).said) first ∙ sym (ap (λ (s : Said S). s.said) was.all);
+        }

@@ -42,16 +42,19 @@ said_to step at bytes = said_within (suc (length bytes)) step at bytes
 
 -- ---- what the code does
 
--- a part of what is said was said
-abbrev pub IsFront : (out later said : List ℕ) → Type 0
-IsFront out later said = (some : List ℕ) × (later ≡ out ++ some) × ((rest : List ℕ) × (some ++ rest ≡ said))
+-- What is said to so many frames in front was said, and no part of another answer: a front of what is said to all.
+pub record IsFront {S : Type 0} (step : Step S) (at : Standing S) (bytes out later : List ℕ) : Type 0 where
+  pub frames : ℕ
+  pub said : later ≡ out ++ (said_within frames step at bytes).said
+  pub rest : List ℕ
+  pub front : (said_within frames step at bytes).said ++ rest ≡ (said_to step at bytes).said
 
 -- All was said, and so many bytes are left. After a fault all was said up to it, but for want of memory.
 abbrev pub Hears : {S : Type 0} → Step S → (old new : Standing S) → (bytes out later : List ℕ) → Result ℕ ServerFault → Type 0
 Hears step old new bytes out later (Ok n) =
     let s = said_to step old bytes in
     (n ≤ length bytes) × (s.fault ≡ None) × (later ≡ out ++ s.said) × (new ≡ s.next) × (drop (length bytes - n) bytes ≡ s.left)
-Hears step old new bytes out later (Err faults.OutOfMemory) = IsFront out later (said_to step old bytes).said
+Hears step old new bytes out later (Err faults.OutOfMemory) = IsFront step old bytes out later
 Hears step old new bytes out later (Err fault) =
     let s = said_to step old bytes in
     (s.fault ≡ Some fault) × (later ≡ out ++ s.said)

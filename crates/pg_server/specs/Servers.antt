@@ -38,7 +38,7 @@ abbrev pub Takes : {S : Type 0} → Step S → (old new : Heard S) → (bytes ou
 Takes step old new bytes out later (Ok done) =
     let s = fed_with step old bytes in
     (s.fault ≡ None) × (later ≡ out ++ s.said) × (new ≡ record { standing = s.next; left = s.left })
-Takes step old new bytes out later (Err faults.OutOfMemory) = IsFront out later (fed_with step old bytes).said
+Takes step old new bytes out later (Err faults.OutOfMemory) = IsFront step old.standing (old.left ++ bytes) out later
 Takes step old new bytes out later (Err fault) =
     let s = fed_with step old bytes in
     (s.fault ≡ Some fault) × (later ≡ out ++ s.said)
