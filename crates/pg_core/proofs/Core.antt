@@ -14,7 +14,7 @@ use Rattle.pg_faults.specs.declared.error.Error.{Error}
 use Rattle.pg_faults.specs.declared.error.Error.TheVariants.{Closed}
 use Rattle.pg_query.specs.Faults.{of_fault}
 use Rattle.pg_query.specs.Dialogue.{Dialogue, Answer, Ask, Send, Leave, Read, Put, Finish, Close, HangUp, Call, Hear, feed, Told}
-use Rattle.pg_query.specs.Lives.{Deed}
+use Rattle.pg_query.specs.Lives.{Deed, Leads}
 use Rattle.pg_query.specs.Scripts.{IsRead}
 use Rattle.pg_query.specs.declared.desk_call.Cleanup.{Cleanup}
 use Rattle.pg_query.specs.declared.desk_call.DeskCall.{DeskCall}
@@ -24,7 +24,7 @@ use Rattle.pg_query.specs.declared.desk_call.Reply.TheVariants as reply
 use Rattle.pg_core.specs.Courses.{Asked, Request}
 use Rattle.pg_core.specs.Dialogues.{decided_after}
 use Rattle.pg_query.specs.Requests.{IsBehind, Refuses}
-use Rattle.pg_query.proofs.RequestLaws.{Leads, moved, stays-answered}
+use Rattle.pg_query.proofs.RequestLaws.{moved, stays-answered}
 use Rattle.pg_core.specs.Deeds.{booked_by, bookings_in, told_by, answers_in, granted, taken_from, Serves, EndsRefused}
 use Rattle.pg_core.specs.Runs.{Ran, of_request, stays, ask_first, run, ReadsNothing, IsTidy, At, Holds, Ends, Answered, Waits, Stands, Gave, Reads, Refused, Comes}
 use Rattle.pg_core.proofs.Fed.{feed-answer, feed-ask, feed-send, feed-leave, feed-hang-up, feed-call, feed-hear, feed-joined, fed, feed-nothing, read_so, still-decides, front-decides}

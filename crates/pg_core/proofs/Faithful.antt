@@ -13,13 +13,12 @@ use Rattle.pg_faults.specs.declared.error.Error.TheVariants.{OutOfMemory}
 use Rattle.pg_query.specs.Faults.{of_fault}
 use Rattle.pg_query.specs.Dialogue as code
 use Rattle.pg_query.specs.Dialogue.{Dialogue, Answer, feed, feed_one, after_reply, Told, Steps}
-use Rattle.pg_query.specs.Lives.{Deed}
+use Rattle.pg_query.specs.Lives.{Deed, Leads}
 use Rattle.pg_query.specs.Meaning.{Place}
 use Rattle.pg_query.specs.Scripts.{IsRead}
 use Rattle.pg_query.specs.declared.desk_call.DeskCall.{DeskCall}
 use Rattle.pg_query.specs.declared.desk_call.DeskCall.TheVariants as desk_call
 use Rattle.pg_query.specs.declared.desk_call.Reply.{Reply}
-use Rattle.pg_query.proofs.RequestLaws.{Leads}
 use Rattle.pg_core.specs.Deeds.{booked_by, bookings_in, told_by, answers_in, AreGranted}
 use Rattle.pg_core.specs.Lists.{events_of}
 use Rattle.pg_core.specs.Times.{LacksMemory, IsFaithful}

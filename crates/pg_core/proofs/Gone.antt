@@ -15,12 +15,11 @@ use Rattle.pg_faults.specs.declared.error.Error.{Error}
 use Rattle.pg_query.specs.Faults.{of_fault}
 use Rattle.pg_query.specs.Dialogue as code
 use Rattle.pg_query.specs.Dialogue.{Dialogue, Answer, feed, feed_one, after_reply, Told, Steps}
-use Rattle.pg_query.specs.Lives.{Deed}
+use Rattle.pg_query.specs.Lives.{Deed, Leads}
 use Rattle.pg_query.specs.declared.desk_call.DeskCall.{DeskCall}
 use Rattle.pg_query.specs.declared.desk_call.DeskCall.TheVariants as desk_call
 use Rattle.pg_query.specs.declared.desk_call.Reply.{Reply}
 use Rattle.pg_core.specs.Dialogues.{decided_after}
-use Rattle.pg_query.proofs.RequestLaws.{Leads}
 use Rattle.pg_core.specs.Lists.{events_of, IsReached}
 use Rattle.pg_core.specs.Runs.{ReadsNothing}
 use Rattle.pg_core.specs.Times.{ReadsNo, IsSane, IsThere, Fits, IsNoHangUp, HangsUpNone}

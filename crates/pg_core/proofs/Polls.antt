@@ -6,8 +6,7 @@ use Rattle.pg_faults.specs.declared.error.Error.{Error}
 use Rattle.pg_faults.specs.declared.error.Error.TheVariants.{OutOfMemory}
 use Rattle.pg_query.specs.Dialogue.{Dialogue, Answer, Walks}
 use Rattle.pg_query.specs.Meaning.{Place, Goes, GoesToAnswer, Pauses}
-use Rattle.pg_query.specs.Lives.{Deed}
-use Rattle.pg_query.proofs.RequestLaws.{Leads}
+use Rattle.pg_query.specs.Lives.{Deed, Leads}
 use Rattle.pg_core.specs.Lists.{events_of}
 use Rattle.pg_core.specs.Trails.{AllUnder, PollEnds, Gave}
 use Rattle.pg_core.specs.Trails as trails

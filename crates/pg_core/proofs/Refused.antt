@@ -19,11 +19,10 @@ use Rattle.pg_query.specs.Faults.{of_fault}
 use Rattle.pg_query.specs.Dialogue as code
 use Rattle.pg_query.specs.Dialogue.{Dialogue, Answer, Steps, feed}
 use Rattle.pg_query.specs.declared.desk_call.DeskCall.TheVariants as desk_call
-use Rattle.pg_query.specs.Lives.{Deed}
+use Rattle.pg_query.specs.Lives.{Deed, Leads}
 use Rattle.pg_query.specs.Meaning.{Place}
 use Rattle.pg_query.specs.Requests.{IsBehind, Refuses, IsRefused}
 use Rattle.pg_query.specs.Scripts.{IsRead}
-use Rattle.pg_query.proofs.RequestLaws.{Leads}
 use Rattle.pg_core.specs.Deeds.{Serves, EndsRefused, got_after}
 use Rattle.pg_core.specs.Lists.{events_of, came_of, got_of, state_behind, IsReached}
 use Rattle.pg_core.specs.Runs.{Ran, of_request, At, Waits, ReadsNothing}

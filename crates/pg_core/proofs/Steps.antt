@@ -12,9 +12,8 @@ use Rattle.pg_desk.proofs.Soundness.{legal-sound}
 use Rattle.pg_faults.specs.declared.error.Error.{Error}
 use Rattle.pg_query.specs.Dialogue as code
 use Rattle.pg_faults.specs.declared.error.Error.TheVariants.{OutOfMemory}
-use Rattle.pg_query.specs.Lives.{Deed, Turn, Lives, deeds}
+use Rattle.pg_query.specs.Lives.{Deed, Turn, Leads, Lives, deeds}
 use Rattle.pg_query.specs.Meaning.{Place}
-use Rattle.pg_query.proofs.RequestLaws.{Leads}
 use Rattle.pg_core.specs.Deeds.{Serves, got_after}
 use Rattle.pg_core.specs.Lists.{events_of, came_of, got_of, Owns, IsApart, state_behind, EndsEmpty, IsReached, SparesAll}
 use Rattle.pg_core.specs.Outcomes.{LivesSo}

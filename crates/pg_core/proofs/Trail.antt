@@ -8,7 +8,7 @@ use Rattle.pg_desk.specs.History.{IsFrontOf}
 use Rattle.pg_faults.specs.declared.error.Error.{Error}
 use Rattle.pg_query.specs.Dialogue as code
 use Rattle.pg_query.specs.Dialogue.{feed}
-use Rattle.pg_query.specs.Lives.{Deed}
+use Rattle.pg_query.specs.Lives.{Deed, Leads}
 use Rattle.pg_query.specs.Meaning.{Place}
 use Rattle.pg_query.specs.Scripts.{IsRead}
 use Rattle.pg_query.specs.declared.desk_call.DeskCall.{DeskCall}
@@ -17,7 +17,6 @@ use Rattle.pg_core.specs.Courses.{Asked, Course, Request, Point, Given, Unfolds,
 use Rattle.pg_core.specs.Dialogues.{Dialogue, Reads}
 use Rattle.pg_core.proofs.Walk.{Step, is_delivered, may_read, with_parts, goes}
 use Rattle.pg_core.proofs.Living.{Went, went}
-use Rattle.pg_query.proofs.RequestLaws.{Leads}
 use Rattle.pg_core.specs.Deeds.{Serves, bookings_in, answers_in, got_after, granted}
 use Rattle.pg_core.specs.Runs as runs
 use Rattle.pg_core.specs.Runs.{Ran, of_request, stays, run, ReadsNothing, IsTidy, At, Holds, Ends, Answered, Waits, Stands, Comes}

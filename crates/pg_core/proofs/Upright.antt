@@ -7,10 +7,9 @@ use Rattle.pg_desk.specs.History.{State, after_all, ended, IsLegal, IsFrontOf, k
 use Rattle.pg_desk.specs.Kept.{stored-part}
 use Rattle.pg_faults.specs.declared.error.Error.TheVariants.{OutOfMemory}
 use Rattle.pg_query.specs.Dialogue.{Dialogue, Answer}
-use Rattle.pg_query.specs.Lives.{Deed}
+use Rattle.pg_query.specs.Lives.{Deed, Leads}
 use Rattle.pg_query.specs.Meaning.{Place}
 use Rattle.pg_query.specs.Scripts.{IsRead}
-use Rattle.pg_query.proofs.RequestLaws.{Leads}
 use Rattle.pg_core.specs.Deeds.{bookings_in, answers_in, AreGranted}
 use Rattle.pg_core.specs.Lists.{events_of, came_of, got_of, state_behind, IsReached, SparesAll}
 use Rattle.pg_core.specs.Runs.{of_request, At}

@@ -3,7 +3,6 @@
 
 ghost use Rattle.std.specs.Prelude.{◌≡◌, ◌<◌, ◌≤◌, ◌⊎◌, ◌==◌, ◌&&◌, [], ◌∷◌, ◌++◌, map, Bool, false, true, List, ℕ, Option, Result, Err, is_some, filter, length};
 ghost use Rattle.pg_core.specs.Counters.{Counts, ToldSo, tells};
-ghost use Rattle.pg_query.proofs.RequestLaws.{Leads};
 ghost use Rattle.pg_core.specs.Deeds.{Serves, IsNew, got_after, bookings_in, answers_in};
 ghost use Rattle.pg_core.specs.Lists.{IsApart, IsReached, SparesAll, came_of, events_of, got_of, state_behind};
 ghost use Rattle.pg_core.specs.Outcomes.{LivesSo, asked};
@@ -16,7 +15,7 @@ ghost use Rattle.pg_faults.specs.declared.error.Error.{Error};
 ghost use Rattle.pg_faults.specs.declared.error.Error.TheVariants.{OutOfMemory};
 ghost use Rattle.pg_core.specs.Behind.{behind};
 ghost use Rattle.pg_query.specs.Dialogue.{Dialogue, Answer, feed};
-ghost use Rattle.pg_query.specs.Lives.{Deed, Turn, Lives, deeds};
+ghost use Rattle.pg_query.specs.Lives.{Deed, Turn, Leads, Lives, deeds};
 ghost use Rattle.pg_query.specs.Meaning.{Place};
 ghost use Rattle.pg_query.specs.Requests.{asks};
 ghost use Rattle.pg_query.specs.declared.desk_call.Cleanup.{Cleanup};

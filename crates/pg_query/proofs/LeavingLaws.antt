@@ -18,9 +18,9 @@ use Rattle.pg_query.specs.declared.desk_call.Reply.TheVariants as reply
 use Rattle.pg_query.specs.Faults.{of_fault}
 use Rattle.pg_query.specs.Dialogue.{Dialogue, Answer, Ask, Send, Leave, Read, Put, Finish, Close, HangUp, Call, Hear, feed, feed_one, fits, after_reply, Told}
 use Rattle.pg_query.specs.Meaning.{Place}
-use Rattle.pg_query.specs.Lives.{Deed, Turn, Lives, deeds}
+use Rattle.pg_query.specs.Lives.{Deed, Turn, Leads, Lives, deeds}
 use Rattle.pg_query.specs.Leaving.{Holds, Nothing, Request, IsLetGo, IsHeld, request_behind, after_reading, LetsGo, IsLetGoIn, LetsGoBehind, AllLetGo, IsOwed, AllOwed}
-use Rattle.pg_query.proofs.RequestLaws.{Leads, lives-lead, moved, stays-answered}
+use Rattle.pg_query.proofs.RequestLaws.{lives-lead, moved, stays-answered}
 
 -- ---- messages that came
 

@@ -5,7 +5,7 @@ use Rattle.pg_spec.specs.declared.stamps.Stamp.{Stamp}
 use Rattle.pg_desk.specs.declared.event.Event.{Event}
 use Rattle.pg_desk.specs.declared.event.Event.TheVariants as call
 use Rattle.pg_desk.specs.declared.event.Take.TheVariants as taking
-use Rattle.pg_query.specs.Dialogue.{Walks}
+use Rattle.pg_query.specs.Dialogue.{Dialogue, Steps, Walks}
 use Rattle.pg_query.specs.Meaning.{Place}
 
 -- the events of one poll, and its stamp
@@ -27,6 +27,11 @@ pub record Deed : Type 0 where
 abbrev pub deeds : List Turn → List Deed
 deeds [] = []
 deeds (t ∷ ts) = map (λ e. record { stamp = t.stamp; event = e }) t.events ++ deeds ts
+
+-- a walk whose events have their own stamps
+abbrev pub Leads : {T : Type 0} → Dialogue T → ℕ → List Deed → Dialogue T → ℕ → Type 0
+Leads d id [] q end = (q ≡ d) × (end ≡ id)
+Leads {T} d id (a ∷ ds) q end = (mid : Dialogue T) × (n : ℕ) × Steps a.stamp d id a.event mid n × Leads mid n ds q end
 
 -- the messages that an event took
 abbrev pub taken_by : Event → List RawMessage
