@@ -191,8 +191,8 @@ impl Reading for SimpleReading {
     fn message(
         &mut self,
         alloc: Global,
-        message: Result<Message, WireFault>,
+        message: &Result<Message, WireFault>,
     ) -> Result<Option<Result<List<SimpleMessage>, Error>>, AllocError> {
-        self.tell(alloc, &message)
+        self.tell(alloc, message)
     }
 }

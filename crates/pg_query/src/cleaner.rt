@@ -36,7 +36,7 @@ impl Script for Cleaner {
     fn message(
         &mut self,
         alloc: Global,
-        message: Result<Message, WireFault>,
+        message: &Result<Message, WireFault>,
     ) -> Result<Want<()>, AllocError> {
         // It reads nothing.
         Err(AllocError)

@@ -64,19 +64,14 @@ impl<S: Script> Running<S> {
     {
         match self.batch.next() {
             Ok(None) => Ok(None),
-            Ok(Some(message)) => {
-                let Ok(want) = self.script.message(alloc, Ok(message)) else {
-                    return Err(Error::OutOfMemory);
-                };
-                Ok(Some(want))
-            }
+            Ok(Some(message)) => Ok(Some(self.script.message(alloc, &Ok(message))?)),
             Err(fault) => {
                 if is_want_of_memory(fault) {
                     return Err(Error::OutOfMemory);
                 }
                 // Nothing behind a malformed message is read.
                 self.batch = BackendMessages::empty();
-                Ok(Some(self.script.message(alloc, Err(fault))?))
+                Ok(Some(self.script.message(alloc, &Err(fault))?))
             }
         }
     }

@@ -62,10 +62,10 @@ pub trait Script: Drop {
     fn message(
         &mut self,
         alloc: Global,
-        message: Result<Message, WireFault>,
+        message: &Result<Message, WireFault>,
     ) -> Result<Want<Self::Output>, AllocError>
-        ensures goes_on { (raw : RawMessage) → Means raw message → IsMessage (waits self.old) → IfOk result (λ want. GoesOn dialogue refuses waits (feed_one raw (dialogue self.old)) want self.new) }
-        ensures stops { (raw : RawMessage) → Means raw message → IsMessage (waits self.old) → IfOk result (λ want. Stops message want) };
+        ensures goes_on { (raw : RawMessage) → Means raw message.now → IsMessage (waits self.old) → IfOk result (λ want. GoesOn dialogue refuses waits (feed_one raw (dialogue self.old)) want self.new) }
+        ensures stops { (raw : RawMessage) → Means raw message.now → IsMessage (waits self.old) → IfOk result (λ want. Stops message.now want) };
 
     /// The reply to what it asked of the desk.
     fn reply(&mut self, alloc: Global, reply: Reply) -> Result<Want<Self::Output>, AllocError>
