@@ -47,10 +47,10 @@ fn is_short(alloc: Global, bytes: &[u8]) -> Result<bool, AllocError> {
 /// At how many places the bytes can be cut, and the front is no whole frame.
 pub fn tell_fronts(alloc: Global, words: &[Vec<u8>], out: &mut String) -> Result<(), AllocError> {
     let bytes = at(words, 1);
-    let mut short = 0;
+    let mut short = 0usize;
     for n in 0..bytes.len() {
         if is_short(alloc, &bytes[..n])? {
-            short += 1;
+            short = short.saturating_add(1);
         }
     }
     write!(out, " {short} of {}", bytes.len())
