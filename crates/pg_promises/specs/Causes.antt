@@ -45,6 +45,10 @@ startup_after call s g = startup s call.nonce (messages g)
 abbrev pub NeedsNoTls : Settings → Type 0
 NeedsNoTls s = s.ssl_mode ≢ Require
 
+-- these require none, and P of them and of the bytes given and taken, where the link tells them
+abbrev pub OfPlainDialogue : Call → (Settings → List ℕ → List ℕ → Type 0) → Type 0
+OfPlainDialogue call P = WithSettings call (λ s. NeedsNoTls s × OfBytes call.before call.after (P s))
+
 -- TLS is required, and an SSLRequest asks for it
 abbrev pub MustAskForTls : Settings → Type 0
 MustAskForTls s = (s.ssl_mode ≡ Require) × (s.ssl_negotiation ≡ Postgres)
@@ -138,25 +142,27 @@ abbrev pub HasCause : Call → Failure → Type 0
 HasCause call (ConfigParse cause) = ConnectionStringMeans call.config (Err cause)
 HasCause call (Config NoUser) = WithSettings call (λ s. s.user ≡ None)
 HasCause call (Config Nonce) = WithSettings call (λ s. IsSome s.user) × IsFalse (is_nonce call.nonce)
-HasCause call (Config NoPassword) = OfDialogue call (λ s g t. InStartup (Config NoPassword) call s g)
+HasCause call (Config NoPassword) = OfPlainDialogue call (λ s g t. InStartup (Config NoPassword) call s g)
 HasCause call (Tls cause) = IsOfTls cause × WithSettings call (λ s. (s.ssl_mode ≡ Require)
     × (s.ssl_negotiation ≡ Postgres → IsFalse call.before.shut → IsTrue call.after.flushed)
     × OfBytes call.before call.after (λ g t. NoTlsFor cause s.ssl_negotiation g t))
 HasCause call (Encode (Frame frame.OutOfMemory)) = ⊥
-HasCause call (Encode (Frame fault)) = OfDialogue call (λ s g t. InStartup (Encode (Frame fault)) call s g)
-HasCause call (Authentication cause) = IsOfLogin cause × OfDialogue call (λ s g t. InStartup (Authentication cause) call s g)
-HasCause call (Db error) = OfDialogue call (λ s g t. InStartup (Db error) call s g ⊎ Behind call s g (OutOfTurn (Db error) t))
-HasCause call UnexpectedMessage = OfDialogue call (λ s g t. InStartup UnexpectedMessage call s g ⊎ Behind call s g (OutOfTurn UnexpectedMessage t))
-HasCause call (Parse cause) = IsOfBody cause × OfDialogue call (λ s g t.
-    InStartup (Parse cause) call s g ⊎ (NeedsNoTls s × AsideUnreadable cause (messages g)) ⊎ Behind call s g (OutOfTurn (Parse cause) t))
+HasCause call (Encode (Frame fault)) = OfPlainDialogue call (λ s g t. InStartup (Encode (Frame fault)) call s g)
+HasCause call (Authentication cause) = IsOfLogin cause × OfPlainDialogue call (λ s g t. InStartup (Authentication cause) call s g)
+HasCause call (Db error) = OfPlainDialogue call (λ s g t. InStartup (Db error) call s g ⊎ Behind call s g (OutOfTurn (Db error) t))
+HasCause call UnexpectedMessage = OfPlainDialogue call (λ s g t. InStartup UnexpectedMessage call s g ⊎ Behind call s g (OutOfTurn UnexpectedMessage t))
+HasCause call (Parse cause) = IsOfBody cause × OfPlainDialogue call (λ s g t.
+    InStartup (Parse cause) call s g ⊎ AsideUnreadable cause (messages g) ⊎ Behind call s g (OutOfTurn (Parse cause) t))
 HasCause call (Io Link) = Rose call.before.faults call.after.faults
-HasCause call (Io Ended) = Rose call.before.ends call.after.ends × OfDialogue call (λ s g t. (NeedsNoTls s × EndsInside g) ⊎ (MustAskForTls s × (t ≡ ssl_request) × (g ≡ [])))
+HasCause call (Io Ended) = Rose call.before.ends call.after.ends × WithSettings call (λ s.
+    (NeedsNoTls s × OfBytes call.before call.after (λ g t. EndsInside g))
+    ⊎ (MustAskForTls s × OfBytes call.before call.after (λ g t. (t ≡ ssl_request) × (g ≡ []))))
 HasCause call (Io (Wire wire.OutOfMemory)) = ⊥
-HasCause call (Io (Wire fault)) = OfDialogue call (λ s g t.
-    (NeedsNoTls s × (fault ≡ BadLength) × IsTrue (has_bad_header (bytes_left g)))
+HasCause call (Io (Wire fault)) = OfPlainDialogue call (λ s g t.
+    ((fault ≡ BadLength) × IsTrue (has_bad_header (bytes_left g)))
     ⊎ InStartup (Io (Wire fault)) call s g ⊎ Behind call s g (AsideBreaks fault))
 HasCause call Closed = Rose call.before.ends call.after.ends
-    × OfDialogue call (λ s g t. NeedsNoTls s × (bytes_left g ≡ []) × IsFalse (said_terminate t))
+    × OfPlainDialogue call (λ s g t. (bytes_left g ≡ []) × IsFalse (said_terminate t))
 HasCause call (Stalled before after) = IsStalled call before after
 HasCause call (LimitReached given limit) = IsPastLimit call given limit
 HasCause call OutOfMemory = ⊤
