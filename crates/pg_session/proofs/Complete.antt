@@ -11,7 +11,7 @@ use Rattle.std.proofs.lemmas.List.Elements.{recursion_from_All}
 use Rattle.std.proofs.lemmas.Bool.{true≢false}
 use Rattle.std.proofs.lemmas.Option.{same_Some}
 use Rattle.std.proofs.Math.Seq.{drop-append_seam}
-use Rattle.pg_promises.specs.Causes.{Call, HasCause, OfDialogue, InStartup, Behind, NeedsNoTls, OutOfTurn, IsAwaited, IsPastLimit, whole_groups}
+use Rattle.pg_promises.specs.Causes.{Call, HasCause, OfDialogue, OfPlainDialogue, InStartup, Behind, OutOfTurn, IsAwaited, IsPastLimit, whole_groups}
 use Rattle.pg_spec.specs.Asides.{AsideUnreadable, AsideBreaks, aside_fault, is_readable}
 use Rattle.pg_spec.specs.Settings.{Settings}
 use Rattle.pg_promises.specs.ConnectionStrings.{Means}
@@ -284,6 +284,10 @@ module _ (call : Call) (settings : Settings) (plan : Plan) (g t : List ℕ) (mea
       (subst (λ o. IfSome o (λ t. P s' g t)) taken
       (subst (λ o. IfSome o (λ g. IfSome (added call.before.taken call.after.taken) (λ t. P s' g t))) given told))
 
+  -- the same of settings that require no TLS
+  plain-says : (P : Settings → List ℕ → List ℕ → Type 0) → OfPlainDialogue call P → P settings g t
+  plain-says P (s', is, both) = dialogue-says P (s', is, both.1)
+
   within : (given limit : ℕ) → IsPastLimit call given limit → ⊥
   within given limit h =
       let count : length g ≡ given = dialogue-says (λ s g t. length g ≡ given) (settings, means, h.counted) in
@@ -298,11 +302,11 @@ module _ (call : Call) (settings : Settings) (plan : Plan) (g t : List ℕ) (mea
   no-tls cause h = v.no_tls (ap (λ (x : Settings). x.ssl_mode) (sym (means_one call.config h.1.0 settings h.1.1 means)) ∙ h.1.2.0)
 
   -- nothing is wrong with the bytes
-  no-fault : (fault : WireFault) → OfDialogue call (λ s g t.
-      (NeedsNoTls s × (fault ≡ faults.BadLength) × IsTrue (has_bad_header (bytes_left g)))
+  no-fault : (fault : WireFault) → OfPlainDialogue call (λ s g t.
+      ((fault ≡ faults.BadLength) × IsTrue (has_bad_header (bytes_left g)))
       ⊎ InStartup (faults.Io (faults.Wire fault)) call s g ⊎ Behind call s g (AsideBreaks fault)) → ⊥
-  no-fault fault h = elim (dialogue-says _ h) [
-    | inl header ↦ bad-header header.2
+  no-fault fault h = elim (plain-says _ h) [
+    | inl header ↦ bad-header header.1
     | inr (inl start) ↦ refused (faults.Io (faults.Wire fault)) start
     | inr (inr later) ↦ breaks fault later
   ]
@@ -313,25 +317,25 @@ module _ (call : Call) (settings : Settings) (plan : Plan) (g t : List ℕ) (mea
   ends-well (faults.Config faults.NoUser) h =
       none-user settings.user (ap (λ (x : Settings). x.user) (sym (means_one call.config h.0 settings h.1 means)) ∙ h.2) v.user
   ends-well (faults.Config faults.Nonce) h = true≢false (sym v.nonce ∙ h.1)
-  ends-well (faults.Config faults.NoPassword) h = refused (faults.Config faults.NoPassword) (dialogue-says _ h)
+  ends-well (faults.Config faults.NoPassword) h = refused (faults.Config faults.NoPassword) (plain-says _ h)
   ends-well (faults.Config _) h = absurd h
   ends-well (faults.Tls cause) h = no-tls cause h
-  ends-well (faults.Encode (faults.Frame faults.ZeroByte)) h = refused (faults.Encode (faults.Frame faults.ZeroByte)) (dialogue-says _ h)
-  ends-well (faults.Encode (faults.Frame faults.TooMany)) h = refused (faults.Encode (faults.Frame faults.TooMany)) (dialogue-says _ h)
-  ends-well (faults.Encode (faults.Frame faults.TooLong)) h = refused (faults.Encode (faults.Frame faults.TooLong)) (dialogue-says _ h)
+  ends-well (faults.Encode (faults.Frame faults.ZeroByte)) h = refused (faults.Encode (faults.Frame faults.ZeroByte)) (plain-says _ h)
+  ends-well (faults.Encode (faults.Frame faults.TooMany)) h = refused (faults.Encode (faults.Frame faults.TooMany)) (plain-says _ h)
+  ends-well (faults.Encode (faults.Frame faults.TooLong)) h = refused (faults.Encode (faults.Frame faults.TooLong)) (plain-says _ h)
   ends-well (faults.Encode _) h = absurd h
-  ends-well (faults.Authentication cause) h = refused (faults.Authentication cause) (dialogue-says _ h.1)
-  ends-well (faults.Db error) h = elim (dialogue-says _ h) [
+  ends-well (faults.Authentication cause) h = refused (faults.Authentication cause) (plain-says _ h.1)
+  ends-well (faults.Db error) h = elim (plain-says _ h) [
     | inl start ↦ refused (faults.Db error) start
     | inr later ↦ in-turn (faults.Db error) later
   ]
-  ends-well faults.UnexpectedMessage h = elim (dialogue-says _ h) [
+  ends-well faults.UnexpectedMessage h = elim (plain-says _ h) [
     | inl start ↦ refused faults.UnexpectedMessage start
     | inr later ↦ in-turn faults.UnexpectedMessage later
   ]
-  ends-well (faults.Parse cause) h = elim (dialogue-says _ h.1) [
+  ends-well (faults.Parse cause) h = elim (plain-says _ h.1) [
     | inl start ↦ refused (faults.Parse cause) start
-    | inr (inl aside) ↦ unreadable cause aside.1
+    | inr (inl aside) ↦ unreadable cause aside
     | inr (inr later) ↦ in-turn (faults.Parse cause) later
   ]
   ends-well (faults.Io faults.Link) h = k.no_fault h

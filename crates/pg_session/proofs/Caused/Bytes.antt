@@ -5,7 +5,7 @@ use Rattle.std.specs.Prelude.{Contains, is_some, find, ◌==◌}
 use Rattle.std.specs.Str.{is_utf8}
 use Rattle.std.proofs.lemmas.List.Elements.{Contains-append_left, Contains-append_right}
 use Rattle.std.proofs.lemmas.Option.{same_Some}
-use Rattle.pg_promises.specs.Causes.{Call, HasCause, OfDialogue, Behind, IsOfBody, NeedsNoTls, OutOfTurn}
+use Rattle.pg_promises.specs.Causes.{Call, HasCause, OfPlainDialogue, Behind, IsOfBody, NeedsNoTls, OutOfTurn}
 use Rattle.pg_spec.specs.Asides.{AsideBreaks, AsideUnreadable, aside_fault, unasked, out_of_turn}
 use Rattle.pg_spec.specs.Settings.{Settings}
 use Rattle.pg_promises.specs.ConnectionStrings.{Means}
@@ -128,17 +128,20 @@ module _ (settings : Settings) (call : Call) (former now : List Event) (t : Stre
       subst (λ (x : List ℕ). P x t) (sym (added-is call.before.given call.after.given f.broke.given g f.broke.gave e))
       (subst (λ (x : List ℕ). P f.broke.given x) (sym (added-is call.before.taken call.after.taken f.broke.taken t f.broke.took d)) h))
 
-  pub of-dialogue : (P : Settings → List ℕ → List ℕ → Type 0) → P settings f.broke.given f.broke.taken → OfDialogue call P
-  of-dialogue P h = (settings, f.means, of-bytes-of (P settings) h)
+  pub of-dialogue : (P : Settings → List ℕ → List ℕ → Type 0) → P settings f.broke.given f.broke.taken → OfPlainDialogue call P
+  of-dialogue P h = (settings, f.means, (f.no_tls, of-bytes-of (P settings) h))
 
   -- the same of all that was taken, which began with the startup's frames
-  pub of-taken : (P : Settings → List ℕ → List ℕ → Type 0) → ((taken : List ℕ) → taken ≡ f.broke.taken → taken ≡ f.opening ++ f.more → P settings f.broke.given taken) → OfDialogue call P
+  pub of-taken : (P : Settings → List ℕ → List ℕ → Type 0) → ((taken : List ℕ) → taken ≡ f.broke.taken → taken ≡ f.opening ++ f.more → P settings f.broke.given taken) → OfPlainDialogue call P
   of-taken P h = (
     settings,
     f.means,
-    of-bytes call.before call.after (P settings) (λ g t e d.
-        subst (λ (x : List ℕ). P settings x t) (sym (added-is call.before.given call.after.given f.broke.given g f.broke.gave e))
-        (h t (added-is call.before.taken call.after.taken f.broke.taken t f.broke.took d) (added-is call.before.taken call.after.taken (f.opening ++ f.more) t f.took d))),
+    (
+      f.no_tls,
+      of-bytes call.before call.after (P settings) (λ g t e d.
+          subst (λ (x : List ℕ). P settings x t) (sym (added-is call.before.given call.after.given f.broke.given g f.broke.gave e))
+          (h t (added-is call.before.taken call.after.taken f.broke.taken t f.broke.took d) (added-is call.before.taken call.after.taken (f.opening ++ f.more) t f.took d))),
+    ),
   )
 
   all-messages : messages f.broke.given ≡ f.first ++ later
@@ -232,7 +235,6 @@ module _ (settings : Settings) (call : Call) (former now : List Event) (t : Stre
   ends-whole s ends = (
     rose_later call.before.ends l.ends call.after.ends f.keeps.counts.ends ends.rose,
     of-taken _ (λ taken same front. (
-      f.no_tls,
       f.broke.rest ∙ ap bytes_left ends.buffer,
       ap said_terminate front ∙ silent-behind settings f.opening opens f.more (never-said (messages f.more) (took-queries ends.stays taken same front).all),
     )),
@@ -307,17 +309,24 @@ cause-of settings call former now s t l f (fault.LimitReached given limit) ends 
 cause-of settings call former now s t l f fault.Ended ends =
     let left : bytes_left f.broke.given ≡ t.buffer.items = f.broke.rest ∙ all-left t.buffer.items ends.decoded.none_whole in (
       rose_later call.before.ends l.ends call.after.ends f.keeps.counts.ends ends.rose,
-      of-dialogue settings call former now t l f _
-          (inl (f.no_tls, (subst (λ (x : List ℕ). x ≢ []) (sym left) (not-none t.buffer.items ends.some), ap has_bad_header left ∙ ends.decoded.no_bad_header))),
+      (
+        settings,
+        f.means,
+        inl (
+          f.no_tls,
+          of-bytes-of settings call former now t l f _
+              (subst (λ (x : List ℕ). x ≢ []) (sym left) (not-none t.buffer.items ends.some), ap has_bad_header left ∙ ends.decoded.no_bad_header),
+        ),
+      ),
     )
 cause-of settings call former now s t l f fault.BadLength ends =
-    of-dialogue settings call former now t l f _ (inl (f.no_tls, refl, ap has_bad_header f.broke.rest ∙ bad-left t.buffer.items ends.header))
+    of-dialogue settings call former now t l f _ (inl (refl, ap has_bad_header f.broke.rest ∙ bad-left t.buffer.items ends.header))
 cause-of settings call former now s t l f fault.Layout ends =
     of-dialogue settings call former now t l f _ (inr (inr (behind settings call former now t l f (AsideBreaks faults.Layout)
     (layout-breaks settings call former now t l f (record { raw = ends.raw; rest = ends.rest; front = ends.front; aside = ends.aside; broken = ends.broken; held = ends.held; delayed = ends.delayed; unread = ends.unread })))))
 cause-of settings call former now s t l f (fault.Unreadable c) ends = (
   aside-body c ends,
-  of-dialogue settings call former now t l f _ (inr (inl (f.no_tls, aside-stands settings call former now t l f c (aside-in c ends)))),
+  of-dialogue settings call former now t l f _ (inr (inl (aside-stands settings call former now t l f c (aside-in c ends)))),
 )
   where
     aside-in : (c : Cause) → LeavesUnread (left_open t) c ⊎ (LeavesDelayed (left_open t) c × (now ≡ [])) → LeavesUnread t c ⊎ LeavesDelayed t c

@@ -2,7 +2,7 @@
 use Rattle.std.proofs.Common.{◌≡◌, ℕ, Bool, false, List, [], ◌∷◌, ◌++◌, length, Option, Some, None, Result, Ok, Err, inl, inr, refl, sym, ◌∙◌, ap, subst, arith}
 use Rattle.std.specs.Prelude.{IfSome}
 use Rattle.std.proofs.Math.Seq.{drop-append_seam}
-use Rattle.pg_promises.specs.Causes.{Call, OfDialogue, InStartup, HasCause, NeedsNoTls}
+use Rattle.pg_promises.specs.Causes.{Call, OfPlainDialogue, InStartup, HasCause, NeedsNoTls}
 use Rattle.pg_promises.specs.ConnectionStrings.{Means}
 use Rattle.pg_spec.specs.Settings.{Settings}
 use Rattle.pg_spec.specs.Faults.{FrameFault, ZeroByte, TooMany, TooLong, Failure, Frame, Encode}
@@ -35,17 +35,17 @@ of_grown a b got sent P given taken h =
     (of_added a.taken b.taken sent (λ t. P got t) taken h)
 
 -- what holds of the bytes of a startup that failed
-pub of_failed : (call : Call) (settings : Settings) (s : Startup) (e : Error) (P : Settings → List ℕ → List ℕ → Type 0) → Means call.config settings →
-    (f : Failed (plain_login settings call.nonce) 0 call.before call.after s e) → P settings f.got f.sent → OfDialogue call P
-of_failed call settings s e P means f h =
-    (settings, means, of_grown call.before call.after f.got f.sent (λ g t. P settings g t) f.given f.taken h)
+pub of_failed : (call : Call) (settings : Settings) (s : Startup) (e : Error) (P : Settings → List ℕ → List ℕ → Type 0) → Means call.config settings → NeedsNoTls settings →
+    (f : Failed (plain_login settings call.nonce) 0 call.before call.after s e) → P settings f.got f.sent → OfPlainDialogue call P
+of_failed call settings s e P means plain f h =
+    (settings, means, (plain, of_grown call.before call.after f.got f.sent (λ g t. P settings g t) f.given f.taken h))
 
 -- ---- a message that is refused
 
 module _ (call : Call) (settings : Settings) (s : Startup) (e : Error) (means : Means call.config settings) (plain : NeedsNoTls settings)
     (f : Failed (plain_login settings call.nonce) 0 call.before call.after s e) where
-  of-start : (P : Settings → List ℕ → List ℕ → Type 0) → P settings f.got f.sent → OfDialogue call P
-  of-start P h = of_failed call settings s e P means f h
+  of-start : (P : Settings → List ℕ → List ℕ → Type 0) → P settings f.got f.sent → OfPlainDialogue call P
+  of-start P h = of_failed call settings s e P means plain f h
 
   leads : f.done ≡ false → Leads (plain_login settings call.nonce) f.read f.at f.wrote
   leads open_ = subst (λ (b : Bool). IsAt (plain_login settings call.nonce) f.read f.wrote b f.at) open_ f.stands
@@ -87,12 +87,15 @@ module _ (call : Call) (settings : Settings) (s : Startup) (e : Error) (means : 
 -- ---- the frame that its writer refuses
 
 refused_frame : (call : Call) (settings : Settings) (fault : FrameFault) → Means call.config settings → NeedsNoTls settings → frame_of settings ≡ Err fault →
-    OfDialogue call (λ s g t. InStartup (Encode (Frame fault)) call s g)
+    OfPlainDialogue call (λ s g t. InStartup (Encode (Frame fault)) call s g)
 refused_frame call settings fault means plain is = (
   settings,
   means,
-  of-bytes call.before call.after (λ g t. InStartup (Encode (Frame fault)) call settings g)
-      (λ g t told took. (plain, ap (λ (r : Result (List ℕ) FrameFault). (begun_by r (dialogue (plain_login settings call.nonce) First (messages g))).outcome) is)),
+  (
+    plain,
+    of-bytes call.before call.after (λ g t. InStartup (Encode (Frame fault)) call settings g)
+        (λ g t told took. (plain, ap (λ (r : Result (List ℕ) FrameFault). (begun_by r (dialogue (plain_login settings call.nonce) First (messages g))).outcome) is)),
+  ),
 )
 
 -- where the startup's frame can't be made, it has its cause
@@ -109,7 +112,7 @@ failed-closed : (call : Call) (settings : Settings) (s : Startup) → Means call
     Failed (plain_login settings call.nonce) 0 call.before call.after s error.Closed → HasCause call error.Closed
 failed-closed call settings s means plain f =
     let o = at-opening settings call.nonce f.first f.frame f.read f.wrote f.done f.at f.stands in
-    (f.fails.2, of_failed call settings s error.Closed _ means f (plain, f.fails.3, silent-front settings (f.first ++ f.wrote) o f.sent f.unsent f.out))
+    (f.fails.2, of_failed call settings s error.Closed _ means plain f (f.fails.3, silent-front settings (f.first ++ f.wrote) o f.sent f.unsent f.out))
 
 failed-limit : (call : Call) (settings : Settings) (s : Startup) (given limit : ℕ) → s.bytes.max_bytes ≡ call.limit →
     Failed (plain_login settings call.nonce) 0 call.before call.after s (error.LimitReached given limit) → HasCause call (error.LimitReached given limit)
@@ -124,9 +127,9 @@ pub start_cause : (call : Call) (settings : Settings) (s : Startup) (e : Error) 
     Failed (plain_login settings call.nonce) 0 call.before call.after s e → HasCause call e
 start_cause call settings s (error.Io cause.Link) means plain is f = f.fails
 start_cause call settings s (error.Io cause.Ended) means plain is f =
-    (f.fails.2, of_failed call settings s (error.Io cause.Ended) _ means f (inl (plain, (f.fails.3, f.fails.4))))
+    (f.fails.2, (settings, means, inl (plain, of_grown call.before call.after f.got f.sent _ f.given f.taken (f.fails.3, f.fails.4))))
 start_cause call settings s (error.Io (cause.Wire wire.BadLength)) means plain is f =
-    of_failed call settings s (error.Io (cause.Wire wire.BadLength)) _ means f (inl (plain, refl, f.fails.2))
+    of_failed call settings s (error.Io (cause.Wire wire.BadLength)) _ means plain f (inl (refl, f.fails.2))
 start_cause call settings s error.Closed means plain is f = failed-closed call settings s means plain f
 start_cause call settings s (error.LimitReached given limit) means plain is f = failed-limit call settings s given limit is f
 start_cause call settings s error.OutOfMemory means plain is f = tt
