@@ -210,7 +210,7 @@ failed-cause : (call : Call) (settings : Settings) (s : SslRequest) (e : Error) 
     AskFailed call.before call.after s e → HasCause call e
 failed-cause call settings s (error.Io cause.Link) means must limit f = f.fails
 failed-cause call settings s (error.Io cause.Ended) means must limit f =
-    (f.fails.0, (settings, means, grown call f.got f.sent _ f.given f.taken (inr (must, f.fails.2, f.fails.1))))
+    (f.fails.0, (settings, means, inr (must, grown call f.got f.sent _ f.given f.taken (f.fails.2, f.fails.1))))
 failed-cause call settings s (error.LimitReached given most) means must limit f = record {
   asked = f.fails.1 ∙ limit;
   more = f.fails.2;
