@@ -13,7 +13,7 @@ use Rattle.pg_desk.specs.History.{State, after, after_all, Allows, IsLegal, leav
 use Rattle.pg_query.specs.Dialogue.{Dialogue, Answer, Ask, Send, Leave, Read, Put, Finish, Close, HangUp as Hang, Call, Hear, Steps}
 use Rattle.pg_query.specs.Lives.{Deed, Leads}
 use Rattle.pg_query.specs.declared.desk_call.DeskCall.TheVariants as desk_call
-use Rattle.pg_core.specs.Courses.{Request, Who, stamp_of}
+use Rattle.pg_course.specs.Courses.{Request, Who, stamp_of}
 use Rattle.pg_core.specs.Deeds.{booked_by, bookings_in, granted, requests_in}
 use Rattle.pg_core.proofs.Granted.{granted-append}
 use Rattle.pg_core.specs.Lists.{events_of, state_behind}

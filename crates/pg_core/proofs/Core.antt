@@ -21,8 +21,8 @@ use Rattle.pg_query.specs.declared.desk_call.DeskCall.{DeskCall}
 use Rattle.pg_query.specs.declared.desk_call.DeskCall.TheVariants as desk_call
 use Rattle.pg_query.specs.declared.desk_call.Reply.{Reply}
 use Rattle.pg_query.specs.declared.desk_call.Reply.TheVariants as reply
-use Rattle.pg_core.specs.Courses.{Asked, Request}
-use Rattle.pg_core.specs.Dialogues.{decided_after}
+use Rattle.pg_course.specs.Courses.{Asked, Request}
+use Rattle.pg_course.specs.Dialogues.{decided_after}
 use Rattle.pg_query.specs.Requests.{IsBehind, Refuses}
 use Rattle.pg_query.proofs.RequestLaws.{moved, stays-answered}
 use Rattle.pg_core.specs.Deeds.{booked_by, bookings_in, told_by, answers_in, granted, taken_from, Serves, EndsRefused}

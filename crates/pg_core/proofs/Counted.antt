@@ -15,7 +15,7 @@ use Rattle.pg_query.specs.declared.desk_call.DeskCall.{DeskCall}
 use Rattle.pg_query.specs.declared.desk_call.DeskCall.TheVariants as desk_call
 use Rattle.pg_query.specs.declared.desk_call.Reply.{Reply}
 use Rattle.pg_query.specs.declared.desk_call.Reply.TheVariants as reply
-use Rattle.pg_core.specs.Courses.{Asked, Who, stamp_of}
+use Rattle.pg_course.specs.Courses.{Asked, Who, stamp_of}
 use Rattle.pg_core.specs.Deeds.{told_by, answers_in, granted, asked_in}
 use Rattle.pg_core.proofs.Granted.{granted-append}
 use Rattle.pg_core.specs.Lists.{events_of, state_behind}

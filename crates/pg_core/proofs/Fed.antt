@@ -7,7 +7,7 @@ use Rattle.pg_query.specs.declared.desk_call.Cleanup.{Cleanup}
 use Rattle.pg_query.specs.declared.desk_call.DeskCall.{DeskCall}
 use Rattle.pg_query.specs.declared.desk_call.Reply.{Reply}
 use Rattle.pg_query.specs.Dialogue.{Dialogue, Answer, Ask, Send, Leave, Read, Put, Finish, Close, HangUp, Call, Hear, feed, feed_one}
-use Rattle.pg_core.specs.Dialogues.{decided_after}
+use Rattle.pg_course.specs.Dialogues.{decided_after}
 use Rattle.pg_core.specs.Runs.{ReadsNothing}
 
 pub feed-answer : {T : Type 0} (ms : List RawMessage) (r : Result T Error) → feed ms (Answer r) ≡ Answer r

@@ -10,7 +10,7 @@ use Rattle.pg_query.specs.Lives.{Deed, Leads}
 use Rattle.pg_query.specs.Meaning.{Place}
 use Rattle.pg_query.specs.declared.desk_call.DeskCall.{DeskCall}
 use Rattle.pg_query.specs.declared.desk_call.Reply.{Reply}
-use Rattle.pg_core.specs.Courses.{Course, Who, stamp_of}
+use Rattle.pg_course.specs.Courses.{Course, Who, stamp_of}
 use Rattle.pg_core.specs.Counters.{Counts, tells}
 use Rattle.pg_core.specs.Deeds.{bookings_in, answers_in, AreGranted}
 use Rattle.pg_core.specs.Lists.{came_of, events_of, state_behind}

@@ -10,9 +10,9 @@ use Rattle.pg_query.specs.Dialogue.{Dialogue, Answer, Ask, Send, Leave, Read, Pu
 use Rattle.pg_query.specs.declared.desk_call.Cleanup.{Cleanup}
 use Rattle.pg_query.specs.declared.desk_call.DeskCall.{DeskCall}
 use Rattle.pg_query.specs.declared.desk_call.Reply.{Reply}
-use Rattle.pg_core.specs.Dialogues as said
-use Rattle.pg_core.specs.Dialogues.{decided_after}
-use Rattle.pg_core.specs.Courses.{Asked, Course, Request, Point, unread, reply_to, delivered_to, Who, stamp_of}
+use Rattle.pg_course.specs.Dialogues as said
+use Rattle.pg_course.specs.Dialogues.{decided_after}
+use Rattle.pg_course.specs.Courses.{Asked, Course, Request, Point, unread, reply_to, delivered_to, Who, stamp_of}
 use Rattle.pg_core.proofs.Walk.{Step, goes, stands, is_delivered}
 use Rattle.pg_core.specs.Runs.{Ran, of_request, stays, run, of_question}
 use Rattle.pg_core.specs.Deeds.{granted, AreGranted}

@@ -19,7 +19,7 @@ use Rattle.pg_query.specs.Lives.{Deed, Leads}
 use Rattle.pg_query.specs.declared.desk_call.DeskCall.{DeskCall}
 use Rattle.pg_query.specs.declared.desk_call.DeskCall.TheVariants as desk_call
 use Rattle.pg_query.specs.declared.desk_call.Reply.{Reply}
-use Rattle.pg_core.specs.Dialogues.{decided_after}
+use Rattle.pg_course.specs.Dialogues.{decided_after}
 use Rattle.pg_core.specs.Lists.{events_of, IsReached}
 use Rattle.pg_core.specs.Runs.{ReadsNothing}
 use Rattle.pg_core.specs.Times.{ReadsNo, IsSane, IsThere, Fits, IsNoHangUp, HangsUpNone}

@@ -14,8 +14,8 @@ use Rattle.pg_query.specs.Meaning.{Place}
 use Rattle.pg_query.specs.Scripts.{IsRead}
 use Rattle.pg_query.specs.declared.desk_call.DeskCall.{DeskCall}
 use Rattle.pg_query.specs.declared.desk_call.Reply.{Reply}
-use Rattle.pg_core.specs.Courses.{Asked, Request, Met, Outcome, outcome, nothing_yet, with_request, with_sent, with_question as with_query}
-use Rattle.pg_core.specs.Dialogues.{decided_after}
+use Rattle.pg_course.specs.Courses.{Asked, Request, Met, Outcome, outcome, nothing_yet, with_request, with_sent, with_question as with_query}
+use Rattle.pg_course.specs.Dialogues.{decided_after}
 use Rattle.pg_query.proofs.RequestLaws.{lives-lead}
 use Rattle.pg_core.specs.Deeds.{booked_by, bookings_in, told_by, answers_in, granted, AreGranted, requests_in, asked_in, taken_from, Serves, EndsRefused}
 use Rattle.pg_core.specs.Runs.{Ran, of_request, stays, run, ReadsNothing, IsTidy, Holds, Answered, Stands, Gave, Reads, Refused, Comes}

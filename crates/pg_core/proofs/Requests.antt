@@ -5,7 +5,7 @@ use Rattle.pg_faults.specs.declared.error.Error.{Error}
 use Rattle.pg_query.specs.Reading.{ends}
 use Rattle.pg_query.specs.Requests.{asks, reads_unless}
 use Rattle.pg_query.specs.Dialogue.{Dialogue}
-use Rattle.pg_core.specs.Dialogues.{decided_after}
+use Rattle.pg_course.specs.Dialogues.{decided_after}
 use Rattle.pg_core.specs.Runs.{IsTidy}
 use Rattle.pg_core.specs.Times.{ReadsNo, IsSane, IsInTime, DecidesInTime, IsFaithful, IsCommand}
 

@@ -11,8 +11,8 @@ use Rattle.pg_query.specs.Dialogue.{Dialogue, Answer, Ask, Send, Leave, Read, Pu
 use Rattle.pg_query.specs.declared.desk_call.Cleanup.{Cleanup}
 use Rattle.pg_query.specs.declared.desk_call.DeskCall.{DeskCall}
 use Rattle.pg_query.specs.declared.desk_call.Reply.{Reply}
-use Rattle.pg_core.specs.Courses.{Asked, Request}
-use Rattle.pg_core.specs.Dialogues.{decided_after}
+use Rattle.pg_course.specs.Courses.{Asked, Request}
+use Rattle.pg_course.specs.Dialogues.{decided_after}
 use Rattle.pg_core.specs.Runs.{Ran, of_request, stays, run}
 use Rattle.pg_core.specs.Times.{ReadsNo, IsTimely}
 use Rattle.pg_core.proofs.Fed.{still-decides, front-decides}

@@ -13,8 +13,8 @@ use Rattle.pg_query.specs.Meaning.{Place}
 use Rattle.pg_query.specs.Scripts.{IsRead}
 use Rattle.pg_query.specs.declared.desk_call.DeskCall.{DeskCall}
 use Rattle.pg_query.specs.declared.desk_call.Reply.{Reply}
-use Rattle.pg_core.specs.Courses.{Asked, Course, Request, Point, Given, Unfolds, begun_in, nowhere, delivered_to, Who}
-use Rattle.pg_core.specs.Dialogues.{Dialogue, Reads}
+use Rattle.pg_course.specs.Courses.{Asked, Course, Request, Point, Given, Unfolds, begun_in, nowhere, delivered_to, Who}
+use Rattle.pg_course.specs.Dialogues.{Dialogue, Reads}
 use Rattle.pg_core.proofs.Walk.{Step, is_delivered, may_read, with_parts, goes}
 use Rattle.pg_core.proofs.Living.{Went, went}
 use Rattle.pg_core.specs.Deeds.{Serves, bookings_in, answers_in, got_after, granted}

@@ -16,7 +16,7 @@ use Rattle.pg_query.specs.declared.desk_call.DeskCall.{DeskCall}
 use Rattle.pg_query.specs.declared.desk_call.DeskCall.TheVariants as desk_call
 use Rattle.pg_query.specs.declared.desk_call.Reply.{Reply}
 use Rattle.pg_query.specs.declared.desk_call.Reply.TheVariants as reply
-use Rattle.pg_core.specs.Courses.{Asked, Request}
+use Rattle.pg_course.specs.Courses.{Asked, Request}
 
 -- what became of a booking that an event tells of: the request, or why there is none
 abbrev pub booked_by : Event → List (Result Request Error)

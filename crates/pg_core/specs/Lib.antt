@@ -1,5 +1,3 @@
-pub mod Dialogues
-pub mod Courses
 pub mod Deeds
 pub mod Lists
 pub mod Runs

@@ -10,8 +10,8 @@ use Rattle.pg_query.specs.Dialogue as code
 use Rattle.pg_query.specs.Lives.{Deed}
 use Rattle.pg_query.specs.declared.desk_call.DeskCall.{DeskCall}
 use Rattle.pg_query.specs.declared.desk_call.Reply.{Reply}
-use Rattle.pg_core.specs.Courses.{Asked, Request, Met, outcome_of}
-use Rattle.pg_core.specs.Dialogues.{Dialogue, Answers, Asks, Sends, Reads, Puts, Closes, Calls}
+use Rattle.pg_course.specs.Courses.{Asked, Request, Met, outcome_of}
+use Rattle.pg_course.specs.Dialogues.{Dialogue, Answers, Asks, Sends, Reads, Puts, Closes, Calls}
 use Rattle.pg_core.specs.Deeds.{bookings_in, answers_in, requests_in, asked_in, EndsRefused}
 use Rattle.pg_core.specs.Runs.{run}
 

@@ -7,8 +7,8 @@ use Rattle.pg_query.specs.Lives.{Deed}
 use Rattle.pg_query.specs.Scripts.{IsRead}
 use Rattle.pg_query.specs.declared.desk_call.DeskCall.{DeskCall}
 use Rattle.pg_query.specs.declared.desk_call.Reply.{Reply}
-use Rattle.pg_core.specs.Courses.{Asked, Request}
-use Rattle.pg_core.specs.Dialogues.{decided_after}
+use Rattle.pg_course.specs.Courses.{Asked, Request}
+use Rattle.pg_course.specs.Dialogues.{decided_after}
 use Rattle.pg_core.specs.Deeds.{requests_in, asked_in, got_after, EndsRefused}
 
 -- what it booked and asked, and where it stands: the request that it reads, how many messages it has read of it, and what is left to do

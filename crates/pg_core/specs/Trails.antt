@@ -9,7 +9,7 @@ use Rattle.pg_query.specs.Meaning.{Place}
 use Rattle.pg_query.specs.Scripts.{IsRead}
 use Rattle.pg_query.specs.declared.desk_call.DeskCall.{DeskCall}
 use Rattle.pg_query.specs.declared.desk_call.Reply.{Reply}
-use Rattle.pg_core.specs.Courses.{Asked, Course, Request, Point, Who, stamp_of, reply_to, delivered_to}
+use Rattle.pg_course.specs.Courses.{Asked, Course, Request, Point, Who, stamp_of, reply_to, delivered_to}
 use Rattle.pg_query.specs.Lives.{Deed}
 use Rattle.pg_spec.specs.Book as said
 use Rattle.pg_desk.specs.declared.event.Booking.{Booking}

@@ -9,7 +9,7 @@ ghost use Rattle.pg_core.specs.Outcomes.{LivesSo, asked};
 ghost use Rattle.pg_core.specs.Runs.{At, Holds, IsTidy, ReadsNothing, Comes, of_request, run};
 ghost use Rattle.pg_core.specs.Times.{HangsUpNone, IsCommand, IsOff, IsUpright, LacksMemory, TurnedWell};
 ghost use Rattle.pg_core.specs.Trails.{AllUnder, AreMet, AreNumbered, AreToldIn, AreTurnsOf, BooksSo, CameBy, IsNext, IsRunning, IsTurnOf, Moment, OwnTurn, PollEnds, PollsOn, begun_at, moment_of, point_of, ran_by};
-ghost use Rattle.pg_core.specs.Courses.{Asked, Course, Request, Unfolds, begun_in, nowhere, questions_of, requests_of, Who, stamp_of};
+ghost use Rattle.pg_course.specs.Courses.{Asked, Course, Request, Unfolds, begun_in, nowhere, questions_of, requests_of, Who, stamp_of};
 ghost use Rattle.pg_desk.specs.History.{IsFrontOf, IsLegal, IsSound, State, after_all, ended, kept, received, reply, start};
 ghost use Rattle.pg_faults.specs.declared.error.Error.{Error};
 ghost use Rattle.pg_faults.specs.declared.error.Error.TheVariants.{OutOfMemory};

@@ -1,12 +1,12 @@
 -- What a session did, as its commands see it, and how a command unfolds in it.
-use Rattle.std.specs.Prelude.{◌≡◌, ℕ, ◌+◌, ◌-◌, ◌≤◌, List, [], ◌∷◌, length, take, drop, filter, sum_by, Option, Some, None, unwrap_or, slice_get}
+use Rattle.std.specs.Prelude.{◌≡◌, ℕ, ◌+◌, ◌-◌, ◌≤◌, List, [], ◌∷◌, length, map, take, drop, filter, sum_by, Option, Some, None, unwrap_or, slice_get}
 use Rattle.pg_spec.specs.Book.{Booking, is_of}
 use Rattle.pg_spec.specs.Stamps.{stamped}
 use Rattle.pg_spec.specs.declared.stamps.Stamp.{Stamp}
 use Rattle.pg_spec.specs.declared.stamps.TurnMark.{TurnMark}
 use Rattle.pg_spec.specs.RawMessages.{RawMessage}
 use Rattle.pg_spec.specs.Turns.{delivered_before, IsFirstTurn, IsOwnTurn}
-use Rattle.pg_core.specs.Dialogues.{Dialogue, Answers, Asks, Sends, Reads, Puts, Closes, Calls, decided_after}
+use Rattle.pg_course.specs.Dialogues.{Dialogue, Answers, Asks, Sends, Reads, Puts, Closes, Calls, decided_after}
 
 -- a question that a command asked of the desk, and what it was told
 pub record Asked (Q R : Type 0) : Type 0 where
@@ -126,6 +126,10 @@ Unfolds course handle = UnfoldsBy (IsFirstTurn course.trace handle) (IsOwnTurn c
 pub record Met (R : Type 0) : Type 0 where
   pub replies : List (List RawMessage)
   pub told : List R
+
+-- what it met in a session
+abbrev pub met_in : {Q R : Type 0} → Course Q R → List Request → List (Asked Q R) → Met R
+met_in course requests asked = record { replies = map (λ r. reply_to course (Some r.number)) requests; told = map (λ a. a.reply) asked }
 
 -- The parts that the request which is read gets from here on, the requests that are booked, with their parts, what the desk is
 -- asked, and the answer, once it stands.

@@ -22,3 +22,13 @@ pub data Dialogue (Q R A : Type 0) : Type 0 where
 abbrev pub decided_after : (List RawMessage → Bool) → List RawMessage → Option ℕ
 decided_after decides [] = None
 decided_after decides (m ∷ ms) = if decides (m ∷ []) then Some 1 else option_map (λ n. n + 1) (decided_after (λ front. decides (m ∷ front)) ms)
+
+-- one dialogue, and another behind its answer
+abbrev pub behind : {Q R A B : Type 0} → Dialogue Q R A → (A → Dialogue Q R B) → Dialogue Q R B
+behind (Answers a) next = next a
+behind (Asks copying part d) next = Asks copying part (behind d next)
+behind (Sends part d) next = Sends part (behind d next)
+behind (Reads decides more) next = Reads decides (λ ms. behind (more ms) next)
+behind (Puts part d) next = Puts part (behind d next)
+behind (Closes part d) next = Closes part (behind d next)
+behind (Calls q more) next = Calls q (λ r. behind (more r) next)

@@ -1,0 +1,5 @@
+pub mod Outcomes
+pub mod OneWay
+pub mod Owned
+pub mod Simple
+pub mod Headlines

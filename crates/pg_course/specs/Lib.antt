@@ -1,0 +1,5 @@
+pub mod Dialogues
+pub mod Courses
+pub mod Meanings
+pub mod Isolation
+pub mod Simples

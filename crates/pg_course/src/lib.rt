@@ -1,0 +1,10 @@
+//! What commands are and what a session of them did: dialogues with a server and a desk, the course of a session, how a
+//! command unfolds in it; and laws of these.
+#![tactic(auto)]
+
+mod laws;
+
+pub use laws::{
+    answers_in_own_turn, headline_of_all, isolation, simple_query_as_before, told_in_other_words,
+    unfolds_in_one_way, what_it_met_decides,
+};
