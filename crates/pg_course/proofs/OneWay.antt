@@ -27,7 +27,7 @@ same_tail : {X : Type 0} (x : X) (xs : List X) (y : X) (ys : List X) → x ∷ x
 unfolding rest-of
 same_tail x xs y ys e = ap rest-of e
 
-first-one : (trace : List TurnMark) (handle from : ℕ) (P : ℕ → Type 0) (p q : ℕ) → IsFirstTurn trace handle from P p → IsFirstTurn trace handle from P q → p ≡ q
+pub first-one : (trace : List TurnMark) (handle from : ℕ) (P : ℕ → Type 0) (p q : ℕ) → IsFirstTurn trace handle from P p → IsFirstTurn trace handle from P q → p ≡ q
 first-one trace handle from P p q a b = by (which p q)
   where
     by : (p < q) ⊎ ((p ≡ q) ⊎ (q < p)) → p ≡ q

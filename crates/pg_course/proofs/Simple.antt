@@ -92,7 +92,7 @@ decided-same f g (m ∷ ms) h =
     ap (λ (t : Bool). if t then Some 1 else option_map (λ n. n + 1) (decided_after (λ front. f (m ∷ front)) ms)) (h (m ∷ []))
     ∙ ap (λ (o : Option ℕ). if g (m ∷ []) then Some 1 else option_map (λ n. n + 1) o) (decided-same (λ front. f (m ∷ front)) (λ front. g (m ∷ front)) ms (λ l. h (m ∷ l)))
 
-abbrev answer_in : {A : Type 0} → Option (Decision A) → Option A
+abbrev pub answer_in : {A : Type 0} → Option (Decision A) → Option A
 answer_in o = option_map (λ d. d.answer) o
 
 later-some : {A : Type 0} (o : Option (Decision A)) → is_some (answer_in (option_map one_later o)) ≡ is_some (answer_in o)
@@ -120,7 +120,7 @@ minus-one : (n : ℕ) (o : Option ℕ) → option_map (λ k. k + 1) o ≡ Some n
 minus-one n None h = absurd cc
 minus-one n (Some k) h = let e : k + 1 ≡ n = cc in (k, refl, sym e)
 
-stands-decides : {S A : Type 0} (stands : S → Option A) (next : S → RawMessage → Next S A) (state : S) (b : A) (ms : List RawMessage) → stands state ≡ Some b →
+pub stands-decides : {S A : Type 0} (stands : S → Option A) (next : S → RawMessage → Next S A) (state : S) (b : A) (ms : List RawMessage) → stands state ≡ Some b →
     decision stands next state ms ≡ Some (record { answer = b; after = 0 })
 stands-decides stands next state b [] h = ap (λ o. stands_or o None) h
 stands-decides {S} {A} stands next state b (m ∷ ms) h = ap (λ o. stands_or o (decided_by (next state m) (λ later. decision stands next later ms))) h
@@ -187,10 +187,10 @@ decides stands next state (m ∷ ms) n none h =
 -- ---- a simple query
 
 -- the state before the first message
-abbrev start : SimpleState
+abbrev pub start : SimpleState
 start = record { columns = None; items = [] }
 
-stands-first : (enough : Option SimpleAnswer) (a : SimpleAnswer) → answer_in (stands_or enough None) ≡ Some a → enough ≡ Some a
+pub stands-first : (enough : Option SimpleAnswer) (a : SimpleAnswer) → answer_in (stands_or enough None) ≡ Some a → enough ≡ Some a
 stands-first None a h = absurd cc
 stands-first (Some x) a h = let e : x ≡ a = cc in ap (λ (y : SimpleAnswer). Some y) e
 

@@ -1,0 +1,6 @@
+//! What a session of any commands that ended well did; and that this, of simple queries alone, is what `pg_promises` says of them.
+#![tactic(auto)]
+
+mod laws;
+
+pub use laws::{as_landed, headline_of_session, session_of_simple_queries};
