@@ -1,0 +1,4 @@
+pub mod Tests
+pub mod Simple
+pub mod Worked
+pub mod Wrongly

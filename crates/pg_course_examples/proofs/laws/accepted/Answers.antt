@@ -1,0 +1,17 @@
+use Rattle.pg_course_examples.proofs.Worked.{by-slot, copy, no-transaction, queries, shared}
+use Rattle.pg_course_examples.proofs.laws.accepted.Goals as goal
+
+pub returns-clause-by_slot : goal.returns-clause-by_slot
+returns-clause-by_slot c = by-slot
+
+pub returns-clause-shared : goal.returns-clause-shared
+returns-clause-shared c = shared
+
+pub returns-clause-copy : goal.returns-clause-copy
+returns-clause-copy c = copy
+
+pub returns-clause-no_transaction : goal.returns-clause-no_transaction
+returns-clause-no_transaction c = no-transaction
+
+pub returns-clause-queries : goal.returns-clause-queries
+returns-clause-queries c = queries

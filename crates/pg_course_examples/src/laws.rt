@@ -1,0 +1,37 @@
+//! Laws over worked sessions: they show what the definitions mean. Each body does nothing.
+
+ghost use Rattle.pg_course.specs.Simples.{AreSimple};
+ghost use Rattle.pg_course_examples.specs.Rows.{meaning, simply};
+ghost use Rattle.pg_course_examples.specs.Sessions.{IsRight, copied, prepared_and_queried, refused_begin, shared_type, two_queries};
+ghost use Rattle.pg_course_examples.specs.Wrong as wrong;
+
+/// The simple query among the commands is the headline's.
+pub fn simple_queries_are_simple()
+    ensures { AreSimple meaning simply }
+{}
+
+/// Sessions that have run as their commands mean: a statement is prepared and queried by its slot; of two handles one looks a
+/// type up and the other is told it; a row is copied; a begin is refused, rolled back, and the commit behind it fails; two
+/// handles query.
+pub fn accepted()
+    ensures by_slot { IsRight prepared_and_queried }
+    ensures shared { IsRight shared_type }
+    ensures copy { IsRight copied }
+    ensures no_transaction { IsRight refused_begin }
+    ensures queries { IsRight two_queries }
+{}
+
+/// Sessions that haven't, whenever their commands begin and answer: a query is booked a turn late; its reply comes before it; the
+/// desk forgets a type; two answers are exchanged; a copy is cut by another handle's request, or its piece stands in that; a
+/// refused begin isn't rolled back; a number is drawn twice; a request is no command's.
+pub fn refused()
+    ensures late { IsRight wrong.booked_late → ⊥ }
+    ensures early { IsRight wrong.replied_early → ⊥ }
+    ensures forgets { IsRight wrong.forgotten → ⊥ }
+    ensures other_answer { IsRight wrong.exchanged → ⊥ }
+    ensures cut { IsRight wrong.copy_cut → ⊥ }
+    ensures astray { IsRight wrong.copy_astray → ⊥ }
+    ensures no_rollback { IsRight wrong.not_rolled_back → ⊥ }
+    ensures twice { IsRight wrong.drawn_twice → ⊥ }
+    ensures nobody { IsRight wrong.of_nobody → ⊥ }
+{}

@@ -1,0 +1,6 @@
+//! Worked sessions of a few commands, made small: what `pg_course`'s definitions accept, and what they refuse.
+#![tactic(auto)]
+
+mod laws;
+
+pub use laws::{accepted, refused, simple_queries_are_simple};
