@@ -3,3 +3,4 @@ pub mod OneWay
 pub mod Owned
 pub mod Simple
 pub mod Headlines
+pub mod Alone

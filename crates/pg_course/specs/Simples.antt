@@ -13,6 +13,7 @@ use Rattle.pg_course.specs.Meanings.{Meaning, EachCommand}
 
 -- ---- what it asks and answers
 
+-- the answer, where the messages tell one
 abbrev pub told_or : Option SimpleAnswer → SimpleAnswer
 told_or (Some r) = r
 told_or None = Err UnexpectedMessage
@@ -22,10 +23,12 @@ abbrev pub reads_unless : {Q R : Type 0} → (take : Option ℕ) → Option Simp
 reads_unless take (Some r) = Answers r
 reads_unless take None = Reads (λ ms. is_some (simple_reading take ms)) (λ ms. Answers (told_or (simple_reading take ms)))
 
+-- its request, where the text can be written
 abbrev pub asks_by : {Q R : Type 0} → (take : Option ℕ) → Result (List ℕ) FrameFault → Dialogue Q R SimpleAnswer
 asks_by take (Err fault) = Answers (Err (Encode (Frame fault)))
 asks_by take (Ok frame) = Asks false frame (reads_unless take (simple_reading take []))
 
+-- a simple query of this text, of which so many items are wanted
 abbrev pub simple_query : {Q R : Type 0} → (text : List ℕ) → (take : Option ℕ) → Dialogue Q R SimpleAnswer
 simple_query text take = asks_by take (query_frame text)
 

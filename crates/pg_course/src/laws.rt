@@ -5,8 +5,8 @@ ghost use Rattle.pg_spec.specs.SimpleQuery.{SimpleAnswer};
 ghost use Rattle.pg_spec.specs.Turns.{IsFirstTurn, IsOwnTurn, Times};
 ghost use Rattle.pg_course.specs.Courses.{Asked, Course, Request, Point, Given, Unfolds, met_in, unread};
 ghost use Rattle.pg_course.specs.Dialogues.{Answers, Dialogue, behind};
-ghost use Rattle.pg_course.specs.Isolation.{ComesOfIt, DidSo, IsByNames, IsSame, NoPuts};
-ghost use Rattle.pg_course.specs.Meanings.{HasRun, Meaning};
+ghost use Rattle.pg_course.specs.Isolation.{answer_alone, ComesOfIt, DidSo, IsByNames, IsSame, NoPuts};
+ghost use Rattle.pg_course.specs.Meanings.{Ending, HasRun, Meaning};
 ghost use Rattle.pg_course.specs.Simples.{AreSimple, Headline, IsAsBefore, Simply, Unmapped, UnfoldsSimple};
 
 /// What a command books, asks, answers and leaves unread follows from what was left of the reply that it reads, from the
@@ -22,6 +22,12 @@ pub fn isolation<C, A, E, Q, R, N>()
     ensures { (meaning : Meaning C A E Q R) (named : C → E → N) → IsByNames meaning named →
         (c : C) (a b : Course Q R) (x : DidSo meaning c a) (y : DidSo meaning c b) → named c y.own ≡ named c x.own →
         met_in b y.requests y.asked ≡ met_in a x.requests x.asked → unread b y.from ≡ unread a x.from → IsSame c a b x y }
+{}
+
+/// Two dialogues that go on from one another in the same way but for what their scripts have then are the same but for that.
+pub fn alone_behind<Q, R, X, A, E>()
+    ensures { (d : Dialogue Q R X) (k l : X → Dialogue Q R (Ending A E)) → ((x : X) → answer_alone (k x) ≡ answer_alone (l x)) →
+        answer_alone (behind d k) ≡ answer_alone (behind d l) }
 {}
 
 /// A command that begins in a turn of its handle answers in one.
