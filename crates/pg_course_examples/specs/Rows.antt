@@ -72,7 +72,7 @@ prepare_request n text =
 abbrev pub lookup_request : ℕ → Result (List ℕ) FrameFault
 lookup_request oid = query_frame (codes "SELECT typname FROM pg_type WHERE oid = " ++ decimal oid)
 
--- the name of a type: int4's is known, the desk may have it, or it is looked up and kept
+-- the server's name of a type, which the desk is to keep
 abbrev pub looked_up : ℕ → Talk (List ℕ)
 looked_up oid = then_do (asks_for false (lookup_request oid) (reads found tt)) (λ name. Calls (SetType oid name) (λ told. Answers (Some name)))
 
@@ -82,6 +82,7 @@ or_looked_up oid (Named (Some name)) = Answers (Some name)
 or_looked_up oid (Named None) = looked_up oid
 or_looked_up oid (Number n) = Answers None
 
+-- the name of a type: int4's is known, the desk may have it, or it is looked up
 abbrev pub type_name : ℕ → Talk (List ℕ)
 type_name oid = if oid == 23 then Answers (Some (codes "int4")) else Calls (TypeOf oid) (or_looked_up oid)
 
@@ -96,6 +97,7 @@ prepare_by text (Number n) = then_do (asks_for false (prepare_request n text) (r
     then_do (type_names oids []) (λ names. Answers (Some (record { name = statement_name n; types = names }))))
 prepare_by text (Named name) = Answers None
 
+-- a text is prepared, and the types of its columns are found
 abbrev pub prepare : (text : List ℕ) → Talk Statement
 prepare text = Calls NextStatement (prepare_by text)
 
@@ -108,6 +110,7 @@ run_request ends s =
     execute_frame [] (pos 0) >>= λ execute.
     Ok (bind ++ execute ++ ends)
 
+-- its rows are asked for
 abbrev pub query : Statement → Talk (List Cells)
 query s = asks_for false (run_request sync_frame s) (reads all_rows [])
 
@@ -136,6 +139,7 @@ abbrev pub once_opened : List (List ℕ) → Option (Unit {0}) → Talk ℕ
 once_opened pieces (Some u) = puts pieces
 once_opened pieces None = Closes failing (Answers None)
 
+-- these pieces are copied by a statement
 abbrev pub copy_in : Statement → List (List ℕ) → Talk ℕ
 copy_in s pieces = asks_for true (run_request flush_frame s) (behind (reads opened tt) (once_opened pieces))
 
@@ -151,9 +155,11 @@ abbrev pub or_rollback : Option ℕ → Talk ℕ
 or_rollback (Some n) = Answers (Some n)
 or_rollback None = sends_framed (query_frame (codes "ROLLBACK")) (Answers None)
 
+-- a transaction is begun
 abbrev pub begin : Talk ℕ
 begin = behind (asks_for false (query_frame (codes "BEGIN")) (reads counted tt)) or_rollback
 
+-- it is committed, where one is open
 abbrev pub commit : (is_open : Bool) → Talk ℕ
 commit is_open = if is_open then asks_for false (query_frame (codes "COMMIT")) (reads counted tt) else Answers None
 
@@ -180,6 +186,7 @@ in_slot slot (s ∷ statements) = if s.0 == slot then Some s.1 else in_slot slot
 abbrev pub on : Own → (slot : ℕ) → (Statement → Line) → Line
 on own slot line = elim (in_slot slot own.statements) [ Some s ↦ line s | None ↦ keeps own Failed ]
 
+-- what each asks and answers, by what its script has
 abbrev pub asks : Own → Command → Line
 asks own (Simple text take) = behind (simple_query text take) (λ r. keeps own (Messages r))
 asks own (Prepare slot text) = gives own (λ s. Answers (record { answer = Prepared s.name s.types; own = record own { statements = (slot, s) ∷ own.statements } })) (prepare text)
@@ -192,6 +199,7 @@ asks own Commit = gives own (λ n. Answers (record { answer = Done; own = record
 abbrev pub new : Own
 new = record { statements = []; is_open = false }
 
+-- what they mean
 abbrev pub meaning : Meaning Command Answer Own Question Told
 meaning = record { begins = new; asks = asks; tells = tells }
 
@@ -200,5 +208,20 @@ abbrev pub simple_of : Command → Option (List ℕ × Option ℕ)
 simple_of (Simple text take) = Some (text, take)
 simple_of other = None
 
+-- and how their answers are told
 abbrev pub simply : Simply Command Answer
 simply = record { simple = simple_of; said = Messages }
+
+-- ---- what a command names of what its script has
+
+-- a statement, and whether a transaction is open
+pub record Names : Type 0 where
+  pub statement : Option Statement
+  pub is_open : Bool
+
+-- a command on a statement names it, and a commit whether a transaction is open
+abbrev pub named : Command → Own → Names
+named (Query slot) own = record { statement = in_slot slot own.statements; is_open = false }
+named (CopyIn slot pieces) own = record { statement = in_slot slot own.statements; is_open = false }
+named Commit own = record { statement = None; is_open = own.is_open }
+named other own = record { statement = None; is_open = false }

@@ -39,9 +39,11 @@ asked owner command turn question reply = record { stamp = stamped owner command
 
 -- ---- a statement is prepared, and queried by its slot
 
+-- the request that prepares its text
 abbrev pub prepare_q : List ℕ
 prepare_q = frame (prepare_request 0 (codes "q"))
 
+-- the first statement, whose columns have these types
 abbrev pub s0 : List (List ℕ) → Statement
 s0 types = record { name = codes "s0"; types = types }
 
@@ -49,9 +51,11 @@ s0 types = record { name = codes "s0"; types = types }
 abbrev pub has : Statement → Own
 has s = record { statements = (0, s) ∷ []; is_open = false }
 
+-- it is described: one column of int4
 abbrev pub one_int : List RawMessage
 one_int = describes (columns (column (codes "c") 23 ∷ []))
 
+-- the reply to the query
 abbrev pub one_row : List RawMessage
 one_row = bound ∷ row (codes "5" ∷ []) ∷ complete (codes "SELECT 1") ∷ ready ∷ []
 
@@ -60,6 +64,7 @@ one_row = bound ∷ row (codes "5" ∷ []) ∷ complete (codes "SELECT 1") ∷ r
 abbrev pub ten_turns : List TurnMark
 ten_turns = marked 0 0 ∷ marked 1 4 ∷ marked 0 4 ∷ marked 1 4 ∷ marked 0 4 ∷ marked 1 6 ∷ marked 0 6 ∷ marked 1 8 ∷ marked 0 8 ∷ marked 1 8 ∷ []
 
+-- the session
 abbrev pub prepared_and_queried : Session
 prepared_and_queried = record {
   scripts = (Prepare 0 (codes "q") ∷ Query 0 ∷ []) ∷ [];
@@ -75,15 +80,19 @@ prepared_and_queried = record {
 
 -- ---- two handles with a column of one type, which the first looks up
 
+-- the name of the type
 abbrev pub mood : List ℕ
 mood = codes "mood"
 
+-- one column of it is described
 abbrev pub one_mood : List RawMessage
 one_mood = describes (columns (column (codes "c") 90000 ∷ []))
 
+-- the reply to the lookup
 abbrev pub mood_found : List RawMessage
 mood_found = columns (column (codes "typname") 19 ∷ []) ∷ row (mood ∷ []) ∷ complete (codes "SELECT 1") ∷ ready ∷ []
 
+-- the request that looks it up
 abbrev pub look_up : List ℕ
 look_up = frame (lookup_request 90000)
 
@@ -104,18 +113,23 @@ shared_type = record {
 
 -- ---- a statement is prepared, and a row is copied by it
 
+-- the part that opens the copy
 abbrev pub copy_opening : List ℕ
 copy_opening = frame (run_request flush_frame (s0 []))
 
+-- the part of its one piece
 abbrev pub copy_piece : List ℕ
 copy_piece = frame (copy_data_frame (codes "1"))
 
+-- a statement without columns is described
 abbrev pub described_copy : List RawMessage
 described_copy = describes no_data
 
+-- the reply to the copy
 abbrev pub copied_one : List RawMessage
 copied_one = bound ∷ copy_in_response ∷ complete (codes "COPY 1") ∷ ready ∷ []
 
+-- the session
 abbrev pub copied : Session
 copied = record {
   scripts = (Prepare 0 (codes "q") ∷ CopyIn 0 (codes "1" ∷ []) ∷ []) ∷ [];
@@ -131,9 +145,11 @@ copied = record {
 
 -- ---- a begin that the server refuses, and a commit behind it
 
+-- the request that begins it
 abbrev pub begin_frame : List ℕ
 begin_frame = frame (query_frame (codes "BEGIN"))
 
+-- the session
 abbrev pub refused_begin : Session
 refused_begin = record {
   scripts = (Begin ∷ Commit ∷ []) ∷ [];
@@ -149,21 +165,27 @@ refused_begin = record {
 
 -- ---- two handles with a simple query each
 
+-- the query of the first
 abbrev pub simple_a : Command
 simple_a = Simple (codes "a") None
 
+-- the query of the second
 abbrev pub simple_b : Command
 simple_b = Simple (codes "b") None
 
+-- the request of the first
 abbrev pub query_a : List ℕ
 query_a = frame (query_frame (codes "a"))
 
+-- the request of the second
 abbrev pub query_b : List ℕ
 query_b = frame (query_frame (codes "b"))
 
+-- so many rows were affected
 abbrev pub affected_so : ℕ → Answer
 affected_so n = Messages (Ok (Complete n ∷ []))
 
+-- the session
 abbrev pub two_queries : Session
 two_queries = record {
   scripts = (simple_a ∷ []) ∷ (simple_b ∷ []) ∷ [];

@@ -1,13 +1,19 @@
 //! Laws over worked sessions: they show what the definitions mean. Each body does nothing.
 
+ghost use Rattle.pg_course.specs.Isolation.{IsByNames};
 ghost use Rattle.pg_course.specs.Simples.{AreSimple};
-ghost use Rattle.pg_course_examples.specs.Rows.{meaning, simply};
+ghost use Rattle.pg_course_examples.specs.Rows.{meaning, named, simply};
 ghost use Rattle.pg_course_examples.specs.Sessions.{IsRight, copied, prepared_and_queried, refused_begin, shared_type, two_queries};
 ghost use Rattle.pg_course_examples.specs.Wrong as wrong;
 
 /// The simple query among the commands is the headline's.
 pub fn simple_queries_are_simple()
     ensures { AreSimple meaning simply }
+{}
+
+/// What a command names of what its script has decides all but what the script has then.
+pub fn commands_go_by_names()
+    ensures { IsByNames meaning named }
 {}
 
 /// Sessions that have run as their commands mean: a statement is prepared and queried by its slot; of two handles one looks a

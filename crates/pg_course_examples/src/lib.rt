@@ -3,4 +3,4 @@
 
 mod laws;
 
-pub use laws::{accepted, refused, simple_queries_are_simple};
+pub use laws::{accepted, commands_go_by_names, refused, simple_queries_are_simple};
