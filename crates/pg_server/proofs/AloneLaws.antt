@@ -65,7 +65,7 @@ number_at-within x rest n r e long =
 
 -- ---- a frame
 
-message_at-alone : (x rest : List ℕ) (m : RawMessage) → message_at (x ++ rest) ≡ Some (m, rest) → message_at x ≡ Some (m, [])
+pub message_at-alone : (x rest : List ℕ) (m : RawMessage) → message_at (x ++ rest) ≡ Some (m, rest) → message_at x ≡ Some (m, [])
 message_at-alone [] rest m e = absurd (never rest (message_at-behind rest m rest e))
   where
     never : (s : List ℕ) → IsBehind s s 1 → ⊥

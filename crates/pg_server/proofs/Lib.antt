@@ -9,6 +9,7 @@ pub mod CutLaws
 pub mod AloneLaws
 pub mod HearingLaws
 pub mod SettledLaws
+pub mod ReachLaws
 pub mod FeedingLaws
 pub mod ServedLaws
 pub mod EchoLaws

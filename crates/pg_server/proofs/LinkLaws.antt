@@ -1,7 +1,7 @@
 -- What a link to a server does is what a link may do.
 use Rattle.std.proofs.Common.{append_assoc, append-nil, ◌≡◌, ℕ, ◌+◌, ◌-◌, ◌<◌, ◌≤◌, Bool, true, false, List, [], ◌∷◌, ◌++◌, Option, Some, None, Result, Ok, Err, refl, sym, ap, ◌∙◌, subst, arith, length, take, drop}
 use Rattle.std.specs.Prelude.{min}
-use Rattle.std.proofs.Math.Seq.{take-append-add}
+use Rattle.std.proofs.Math.Seq.{take-append-add, take-length}
 use Rattle.std.proofs.lemmas.Bool.{false≢true}
 use Rattle.std.specs.Option.{is_some}
 use Rattle.std.specs.Result.{is_err, OnOk}
@@ -23,12 +23,14 @@ use Rattle.pg_server.specs.Crossings as crossing
 use Rattle.pg_server.specs.Crossings.{Crossed, GivesFront, took_less, failed}
 use Rattle.pg_server.specs.Handlers.{Step}
 use Rattle.pg_server.specs.Hearing.{Said, said_to, before, stopped}
+use Rattle.pg_server.specs.Reaches.{reach_of}
 use Rattle.pg_server.specs.Servers.{Heard, TakesFront, fed_with}
 use Rattle.pg_server.specs.ServerLinks.{Served, course_of, link_of, Reads, offered, front_by, TakesBy, RefusesBy, TakesIn, TakesAt, TakesUp, StopsBy, KeepsItsPromise}
 use Rattle.pg_server.specs.Settled.{is_settled}
 use Rattle.pg_server.specs.Standings.{Standing, Front, Waits, Says, Stops, front}
 use Rattle.pg_server.proofs.CutLaws.{Knows, front-known}
 use Rattle.pg_server.proofs.HearingLaws.{said_to-says, said_to-stops}
+use Rattle.pg_server.proofs.ReachLaws.{reach-stops}
 use Rattle.pg_server.proofs.SettledLaws.{settled-silent, over-silent, settled-piece, IsPiece}
 
 -- what was given and what is due is all that it gives
@@ -269,9 +271,10 @@ took-by {S = S} step m m' bytes n settled room some does course = by_front (fron
     all is = ap (λ (k : ℕ). take k bytes) (sym (is ∙ size))
 
     by_stop : (fault : ServerFault) → front_by step m (offered m bytes) ≡ Stops fault → TakesBy m m' (offered m bytes) n (Stops fault) → WritesWell step m m' bytes (writes.Took n)
-    by_stop (faults.BadEffect k) is (count, over, crossed, fault) =
-        took-well step m m' bytes (offered m bytes) [] n (omega (arith, count, size, room, some)) (omega (arith, count, size)) (all count) crossed
-        (stopped-SaysOn step m.heard m'.heard (offered m bytes) (faults.BadEffect k) is over) course
+    by_stop (faults.BadEffect k) is (reach, over, crossed, fault) =
+        let cut = reach-stops step m.heard.standing m.heard.left (offered m bytes) n (faults.BadEffect k) settled reach (omega (arith, size, room, some)) is in
+        took-well step m m' bytes (take n (offered m bytes)) [] n cut.0 (omega (arith, cut.1, size)) (front-offered bytes (min m.crossed.room (length bytes)) n cut.1) crossed
+        (stopped-SaysOn step m.heard m'.heard (take n (offered m bytes)) (faults.BadEffect k) cut.2 over) course
     by_stop faults.BadStartup is d = absurd d
     by_stop (faults.Version v) is d = absurd d
     by_stop faults.Cancel is d = absurd d
@@ -390,9 +393,10 @@ waited-TakesIn {S = S} old heard bytes found offer moved (found_is, heard_is) of
     )
 
 -- the server has a fault
-pub stopped-TakesIn : {S : Type 0} (old mid new : Served S) (bytes : List ℕ) (found : Front S) (fault : ServerFault) (r : LinkWrite) → mid.crossed ≡ offering old.crossed bytes → mid.fault ≡ old.fault →
+pub stopped-TakesIn : {S : Type 0} (old mid new : Served S) (bytes : List ℕ) (found : Front S) (fault : ServerFault) (r : LinkWrite) →
+    reach_of old.heard.standing.stage old.heard.left bytes ≡ length bytes → mid.crossed ≡ offering old.crossed bytes → mid.fault ≡ old.fault →
     TakesFront found old.heard mid.heard bytes (Err fault) → StopsBy mid new (length bytes) fault r → TakesIn old new bytes found r
-stopped-TakesIn {S = S} old mid new bytes found fault r offer same takes stops = by_fault fault takes stops
+stopped-TakesIn {S = S} old mid new bytes found fault r ends offer same takes stops = by_fault fault takes stops
   where
     back : took_less mid.crossed (length bytes) ≡ old.crossed
     back = ap (λ (c : Crossed). took_less c (length bytes)) offer ∙ kept_none old.crossed bytes
@@ -415,11 +419,12 @@ stopped-TakesIn {S = S} old mid new bytes found fault r offer same takes stops =
     by_fault (faults.BadFrame f) t s = refused (faults.BadFrame f) refl t s
     by_fault faults.Ended t s = refused faults.Ended refl t s
     by_fault (faults.BadEffect k) (found_is, over) (r_is, new_is) =
-        let crossed : new.crossed ≡ crossing.took old.crossed bytes []
+        let crossed : new.crossed ≡ crossing.took old.crossed (take (length bytes) bytes) []
         = ap (λ (m : Served S). m.crossed) new_is ∙ ap (λ (c : Crossed). record c { promised = false; flushed = false }) offer
-        ∙ ap (λ (d : List ℕ). record old.crossed { taken = old.crossed.taken ++ bytes; due = d; promised = false; flushed = false }) (sym (append-nil old.crossed.due)) in
+        ∙ ap (λ (d : List ℕ). record old.crossed { taken = old.crossed.taken ++ bytes; due = d; promised = false; flushed = false }) (sym (append-nil old.crossed.due))
+        ∙ ap (λ (b : List ℕ). crossing.took old.crossed b []) (sym (take-length bytes)) in
         subst (λ (a : LinkWrite). TakesIn old new bytes found a) (sym r_is) (subst (λ (x : Front S). TakesBy old new bytes (length bytes) x) (sym found_is)
-        (refl, ap (λ (m : Served S). m.heard.standing.stage) new_is ∙ over, crossed, ap (λ (m : Served S). m.fault) new_is))
+        (sym ends, ap (λ (m : Served S). m.heard.standing.stage) new_is ∙ over, crossed, ap (λ (m : Served S). m.fault) new_is))
     by_fault faults.OutOfMemory heard_is (r_is, new_is) =
         subst (λ (a : LinkWrite). TakesIn old new bytes found a) (sym r_is) (
         new_is ∙ ap (λ (h : Heard S). record { heard = h; crossed = took_less mid.crossed (length bytes); fault = mid.fault }) heard_is

@@ -138,7 +138,7 @@ pub record IsPiece {S : Type 0} (step : Step S) (at : Standing S) (left bytes sa
   pub front_is : front step at (left ++ piece) ≡ Says said next []
 
 -- two cuts of the same bytes
-same_front : (gone rest left bytes : List ℕ) → gone ++ rest ≡ left ++ bytes → length rest < length bytes →
+pub same_front : (gone rest left bytes : List ℕ) → gone ++ rest ≡ left ++ bytes → length rest < length bytes →
     (piece : List ℕ) × (gone ≡ left ++ piece) × (piece ++ rest ≡ bytes)
 same_front gone rest [] bytes e less = (gone, refl, e)
 same_front [] rest (x ∷ left) bytes e less = absurd (omega (arith, ap length e, length-append left bytes, less))
@@ -148,7 +148,7 @@ same_front (y ∷ gone) rest (x ∷ left) bytes e less =
     let more = same_front gone rest left bytes tails less in
     (more.0, ap (λ (h : ℕ). h ∷ gone) heads ∙ ap (λ (t : List ℕ). x ∷ t) more.1, more.2)
 
-same_back : (gone rest left bytes : List ℕ) → gone ++ rest ≡ left ++ bytes → length bytes ≤ length rest → (y : List ℕ) × (gone ++ y ≡ left)
+pub same_back : (gone rest left bytes : List ℕ) → gone ++ rest ≡ left ++ bytes → length bytes ≤ length rest → (y : List ℕ) × (gone ++ y ≡ left)
 same_back [] rest left bytes e more = (left, refl)
 same_back (y ∷ gone) rest [] bytes e more = absurd (omega (arith, ap length e, length-append gone rest, more))
 same_back (y ∷ gone) rest (x ∷ left) bytes e more =

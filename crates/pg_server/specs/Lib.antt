@@ -7,6 +7,7 @@ pub mod Handlers
 pub mod Hearing
 pub mod Openings
 pub mod Parsed
+pub mod Reaches
 pub mod Readings
 pub mod ServerLinks
 pub mod Servers

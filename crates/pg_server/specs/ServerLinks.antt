@@ -18,6 +18,7 @@ use Rattle.pg_server.specs.declared.session.Stage.TheVariants.{Over}
 use Rattle.pg_server.specs.Crossings as crossing
 use Rattle.pg_server.specs.Crossings.{Crossed, crossed_of, took, took_less, failed}
 use Rattle.pg_server.specs.Handlers.{Step}
+use Rattle.pg_server.specs.Reaches.{reach_of}
 use Rattle.pg_server.specs.Servers.{Heard, heard_of, fed_with}
 use Rattle.pg_server.specs.Standings.{Front, Waits, Says, Stops, front}
 
@@ -72,8 +73,8 @@ offered m bytes = take (min m.crossed.room (length bytes)) bytes
 abbrev pub front_by : {S : Type 0} → Step S → Served S → List ℕ → Front S
 front_by step m bytes = front step m.heard.standing (m.heard.left ++ bytes)
 
--- A write took n of these bytes: all where no frame is whole by them, else the frame, which is answered. A handler's answer that may
--- not be given is kept as the fault.
+-- A write took n of these bytes: all where no frame is whole by them, else the frame, which is answered. Where the handler's answer
+-- may not be given the frame was taken too, and that is kept as the fault.
 abbrev pub TakesBy : {S : Type 0} → (old new : Served S) → (bytes : List ℕ) → ℕ → Front S → Type 0
 TakesBy old new bytes n Waits =
     (n ≡ length bytes) × (new ≡ record old { heard = record old.heard { left = old.heard.left ++ bytes }; crossed = took old.crossed bytes [] })
@@ -81,7 +82,8 @@ TakesBy old new bytes n (Says said next rest) =
     (1 ≤ n) × (n + length rest ≡ length bytes)
     × (new ≡ record old { heard = record { standing = next; left = [] }; crossed = took old.crossed (take n bytes) said })
 TakesBy old new bytes n (Stops (faults.BadEffect k)) =
-    (n ≡ length bytes) × (new.heard.standing.stage ≡ Over) × (new.crossed ≡ took old.crossed bytes []) × (new.fault ≡ Some (faults.BadEffect k))
+    (n ≡ reach_of old.heard.standing.stage old.heard.left bytes) × (new.heard.standing.stage ≡ Over) × (new.crossed ≡ took old.crossed (take n bytes) [])
+    × (new.fault ≡ Some (faults.BadEffect k))
 TakesBy old new bytes n (Stops fault) = ⊥
 
 -- a frame was refused by this fault; a handler's answer that may not be given is none

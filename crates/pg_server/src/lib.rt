@@ -3,6 +3,7 @@
 
 mod answer;
 mod binding;
+mod copies;
 mod echo;
 mod fault;
 mod frame;
@@ -12,6 +13,7 @@ mod laws;
 mod layout;
 mod opening;
 mod parsing;
+mod reach;
 mod reading;
 mod server;
 mod server_link;

@@ -6,7 +6,8 @@ ghost use Rattle.pg_server.specs.Settled.{is_settled};
 use crate::answer::Answer;
 use crate::fault::ServerFault;
 use crate::handler::Handler;
-use crate::session::Session;
+use crate::reach::reach;
+use crate::session::{Session, Stage};
 use crate::startup::is_startup;
 use bytes::BytesMut;
 use pg_types::Blob;
@@ -42,7 +43,8 @@ impl<H: Handler + Drop> Server<H> {
 }
 
 impl<H: Handler> Server<H> {
-    ghost use Rattle.std.specs.Prelude.{◌++◌};
+    ghost use Rattle.std.specs.Prelude.{◌++◌, ◌≤◌, length};
+    ghost use Rattle.pg_server.specs.Reaches.{reach_of};
     ghost use Rattle.pg_server.specs.Standings.{front};
     ghost use Rattle.pg_server.specs.Servers.{heard_of, Feeds, TakesFront};
     /// Takes these bytes of the client, and appends what is said to all frames that are whole by them. The session is over
@@ -68,6 +70,18 @@ impl<H: Handler> Server<H> {
                 self.session.end();
                 Err(fault)
             }
+        }
+    }
+
+    /// How many of these bytes stand up to the end of the frame in front; all where none is whole by them, and before the
+    /// startup frame.
+    pub(crate) fn reach(&self, bytes: &[u8]) -> usize
+        ensures reach { result ≡ reach_of (heard_of H.state self.now).standing.stage (heard_of H.state self.now).left bytes.now }
+        ensures fits { result ≤ length bytes.now }
+    {
+        match self.session.stage() {
+            Stage::Serves => reach(self.left.as_slice(), bytes),
+            Stage::Opening | Stage::Over => bytes.len(),
         }
     }
 

@@ -3,6 +3,7 @@
 ghost use Rattle.std.specs.Prelude.{◌≡◌, ◌<◌, ◌≤◌, length, false, None, option_map};
 ghost use Rattle.pg_wire.specs.LinkCalls.{Keeps, KeepsPromise, ReadAnswers, WriteAnswers, FlushAnswers, ShutdownAnswers, WaitAnswers, IsInCourse, gave, took};
 ghost use Rattle.pg_server.specs.Crossings.{untouched};
+ghost use Rattle.pg_server.specs.Reaches.{reach_of};
 ghost use Rattle.pg_server.specs.Servers.{heard_of};
 ghost use Rattle.pg_server.specs.ServerLinks.{Reads, TakesUp, TakesIn, StopsBy, Flushes, EndsWriting, AwaitsBytes, front_by, served_of, link_of};
 
@@ -81,9 +82,10 @@ impl<H: Handler> ServerLink<H> {
         }
     }
 
-    /// Takes bytes up to the end of the first frame that is whole by them, and answers it. Where memory lacks all is as
-    /// before.
-    fn take_in(&mut self, bytes: &[u8]) -> LinkWrite
+    /// Takes bytes, of which none stands behind a tagged frame, and answers what is whole by them. Where memory lacks all is
+    /// as before.
+    fn take_piece(&mut self, bytes: &[u8]) -> LinkWrite
+        requires { reach_of (served_of H.state self.old).heard.standing.stage (served_of H.state self.old).heard.left bytes.now ≡ length bytes.now }
         ensures { TakesIn (served_of H.state self.old) (served_of H.state self.new) bytes.now (front_by H.step (served_of H.state self.old) bytes.now) result }
     {
         if self.traffic.offer(bytes).is_err() {
@@ -102,6 +104,15 @@ impl<H: Handler> ServerLink<H> {
             }
             Err(fault) => self.stop(bytes.len(), fault),
         }
+    }
+
+    /// Takes bytes up to the end of the first frame that is whole by them, and answers it. Bytes behind that frame aren't
+    /// copied. Where memory lacks all is as before.
+    fn take_in(&mut self, bytes: &[u8]) -> LinkWrite
+        ensures { TakesIn (served_of H.state self.old) (served_of H.state self.new) bytes.now (front_by H.step (served_of H.state self.old) bytes.now) result }
+    {
+        let n = self.server.reach(bytes);
+        self.take_piece(&bytes[..n])
     }
 
     /// Takes a front of the bytes. Behind a fault it fails.

@@ -65,6 +65,13 @@ impl<H: Handler> Session<H> {
         }
     }
 
+    /// How far it has come.
+    pub fn stage(&self) -> Stage
+        ensures { result ≡ (standing_of H.state self.now).stage }
+    {
+        self.stage
+    }
+
     /// It is behind Terminate or a fault.
     pub fn is_over(&self) -> bool
         ensures { (result ≡ true) ↔ ((standing_of H.state self.now).stage ≡ stage.Over) }

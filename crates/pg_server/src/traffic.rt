@@ -2,9 +2,10 @@
 
 ghost use Rattle.std.specs.Prelude.{◌≡◌, ◌+◌, ◌<◌, ◌≤◌, ◌++◌, ◌||◌, [], length, take, drop, nat_lt, true, false, OnOk, OnErr};
 ghost use Rattle.pg_server.specs.Answers.{answer_bytes};
-ghost use Rattle.pg_server.specs.Copies.{Copied, Lengthens};
+ghost use Rattle.pg_server.specs.Copies.{Copied};
 
 use crate::answer::{Answer, put, ready};
+use crate::copies::copy_more;
 use bytes::BytesMut;
 use pg_types::{Blob, OutOfMemory};
 use pg_wire::{LinkRead, LinkWait};
@@ -36,17 +37,6 @@ pub(crate) struct Traffic {
     ghost promise: { promised ≡ true → gave + over < length said.items + length (answer_bytes last) },
     ghost cuts: { 0 < cut },
     ghost takes: { 0 < room },
-}
-
-/// Copies a piece behind the first `n` bytes, as much as fits. How many bytes stand there then.
-fn copy_more(piece: &[u8], n: usize, out: &mut [u8]) -> usize
-    requires { n ≤ length out.old }
-    ensures fits { result ≤ length out.new }
-    ensures copied { Lengthens piece.now out.old n out.new result }
-{
-    let count = piece.len().min(out.len() - n);
-    out[n..n + count].copy_from_slice(&piece[..count]);
-    n + count
 }
 
 impl Traffic {

@@ -1,6 +1,6 @@
 use Rattle.std.proofs.Common.{◌+◌, ◌-◌, arith}
 use Rattle.pg_server.proofs.TrafficLaws.{lengthens}
-use Rattle.pg_server.proofs.traffic.copy_more.Goals as goal
+use Rattle.pg_server.proofs.copies.copy_more.Goals as goal
 
 pub returns-clause-copied : goal.returns-clause-copied
 returns-clause-copied c =
