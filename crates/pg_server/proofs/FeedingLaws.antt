@@ -7,7 +7,7 @@ use Rattle.pg_server.specs.declared.session.Stage.{Stage}
 use Rattle.pg_server.specs.declared.session.Stage.TheVariants.{Opening, Serves, Over}
 use Rattle.pg_server.specs.Handlers.{Step}
 use Rattle.pg_server.specs.Hearing.{Hears, said_to}
-use Rattle.pg_server.specs.Servers.{Heard, Takes, Feeds, FeedsAt, fed_with}
+use Rattle.pg_server.specs.Servers.{Heard, Takes, Feeds, FeedsAt}
 use Rattle.pg_server.specs.Settled.{is_settled}
 use Rattle.pg_server.specs.Standings.{Standing}
 use Rattle.pg_server.proofs.SettledLaws.{said-settled}

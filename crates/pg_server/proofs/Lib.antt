@@ -12,6 +12,7 @@ pub mod SettledLaws
 pub mod ReachLaws
 pub mod FeedingLaws
 pub mod ServedLaws
+pub mod FaultLaws
 pub mod EchoLaws
 pub mod TrafficLaws
 pub mod LinkLaws

@@ -1,5 +1,5 @@
 -- What a link to a server does is what a link may do.
-use Rattle.std.proofs.Common.{append_assoc, append-nil, ◌≡◌, ℕ, ◌+◌, ◌-◌, ◌<◌, ◌≤◌, Bool, true, false, List, [], ◌∷◌, ◌++◌, Option, Some, None, Result, Ok, Err, refl, sym, ap, ◌∙◌, subst, arith, length, take, drop}
+use Rattle.std.proofs.Common.{append_assoc, append-nil, ◌≡◌, ℕ, ◌-◌, ◌<◌, ◌≤◌, true, false, List, [], ◌++◌, Option, Some, None, Result, Ok, Err, refl, sym, ap, ◌∙◌, subst, arith, length, take, drop}
 use Rattle.std.specs.Prelude.{min}
 use Rattle.std.proofs.Math.Seq.{take-append-add, take-length}
 use Rattle.std.proofs.lemmas.Bool.{false≢true}
@@ -8,7 +8,7 @@ use Rattle.std.specs.Result.{is_err, OnOk}
 use Rattle.std.proofs.lemmas.List.{length-append, length-take, length-take-le, take-append-drop, drop_at, take_at, take-take}
 use Rattle.pg_spec.specs.Batches.{is_nothing}
 use Rattle.pg_spec.specs.Links.{Rose, next_count}
-use Rattle.pg_wire.specs.LinkCalls.{Gives, Takes, IsFault, IsInCourse, KeepsCourse, ReadAnswers, WriteAnswers, Keeps, KeepsPromise, gave, took}
+use Rattle.pg_wire.specs.LinkCalls.{IsInCourse, KeepsCourse, ReadAnswers, WriteAnswers, Keeps, KeepsPromise, gave, took}
 use Rattle.pg_wire.specs.Memory.{as_count}
 use Rattle.pg_wire.specs.declared.link.LinkRead.{LinkRead}
 use Rattle.pg_wire.specs.declared.link.LinkRead.TheVariants as reads
@@ -22,10 +22,10 @@ use Rattle.pg_server.specs.Answers.{answer_bytes}
 use Rattle.pg_server.specs.Crossings as crossing
 use Rattle.pg_server.specs.Crossings.{Crossed, GivesFront, took_less, failed}
 use Rattle.pg_server.specs.Handlers.{Step}
-use Rattle.pg_server.specs.Hearing.{Said, said_to, before, stopped}
+use Rattle.pg_server.specs.Hearing.{Said, said_to}
 use Rattle.pg_server.specs.Reaches.{reach_of}
 use Rattle.pg_server.specs.Servers.{Heard, TakesFront, fed_with}
-use Rattle.pg_server.specs.ServerLinks.{Served, course_of, link_of, Reads, offered, front_by, TakesBy, RefusesBy, TakesIn, TakesAt, TakesUp, StopsBy, KeepsItsPromise}
+use Rattle.pg_server.specs.ServerLinks.{Served, link_of, Reads, offered, front_by, TakesBy, RefusesBy, TakesIn, TakesAt, TakesUp, StopsBy, KeepsItsPromise}
 use Rattle.pg_server.specs.Settled.{is_settled}
 use Rattle.pg_server.specs.Standings.{Standing, Front, Waits, Says, Stops, front}
 use Rattle.pg_server.proofs.CutLaws.{Knows, front-known}

@@ -33,7 +33,7 @@ use Rattle.pg_server.specs.Handlers.{Step}
 use Rattle.pg_server.specs.Reaches.{frame_reach, reach_of, IsFrontLen}
 use Rattle.pg_server.specs.ServerLinks.{Served, TakesIn, front_by}
 use Rattle.pg_server.specs.Settled.{is_none, is_settled}
-use Rattle.pg_server.specs.Standings.{Standing, Front, Waits, Says, Stops, is_broken, replied, behind_frame, reading, serving, at_stage, front}
+use Rattle.pg_server.specs.Standings.{Standing, Front, Says, Stops, is_broken, replied, behind_frame, reading, serving, at_stage, front}
 use Rattle.pg_server.proofs.AloneLaws.{message_at-alone}
 use Rattle.pg_server.proofs.CutLaws.{IsBehind, message_at-behind}
 use Rattle.pg_server.proofs.SettledLaws.{same_front, same_back}

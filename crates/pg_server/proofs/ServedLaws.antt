@@ -58,7 +58,7 @@ goes_on step at a b = goes_on-within step (suc (length a)) at a b (omega arith)
 -- ---- behind the startup frame
 
 -- what the rules of a server say
-abbrev by_rules : {S : Type 0} → Step S → Standing S → List RawMessage → List ℕ
+abbrev pub by_rules : {S : Type 0} → Step S → Standing S → List RawMessage → List ℕ
 by_rules step at ms = spoken (served (service_of step) (serving_of at) ms).reply
 
 abbrev IsByRules : {S : Type 0} → Step S → Standing S → List ℕ → Said S → Type 0

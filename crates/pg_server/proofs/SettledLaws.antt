@@ -1,7 +1,7 @@
 -- Bytes that nothing can be done with yet.
 use Rattle.std.proofs.Common.{◌≡◌, ℕ, zero, suc, ◌-◌, ◌<◌, ◌≤◌, Bool, true, false, not, ◌&&◌, List, [], ◌∷◌, ◌++◌, Option, Some, None, Result, Ok, Err, refl, sym, ap, subst, ◌∙◌, cond, arith, length, take, drop}
 use Rattle.std.specs.Prelude.{nat_lt, if◌then◌else◌}
-use Rattle.std.proofs.lemmas.Bool.{false≢true, ltb-true, ltb-false}
+use Rattle.std.proofs.lemmas.Bool.{ltb-true, ltb-false}
 use Rattle.std.proofs.lemmas.List.{length-append, length-drop, take_at}
 use Rattle.std.proofs.lemmas.Option.{none-some}
 use Rattle.pg_faults.specs.declared.fault.WireFault.{WireFault}
@@ -17,7 +17,7 @@ use Rattle.pg_server.specs.declared.session.Stage.TheVariants.{Opening, Serves, 
 use Rattle.pg_server.specs.Answers.{answer_bytes}
 use Rattle.pg_server.specs.Frames.{frame_or_fault}
 use Rattle.pg_server.specs.Handlers.{Step}
-use Rattle.pg_server.specs.Hearing.{Said, stopped, before, said_to, waiting}
+use Rattle.pg_server.specs.Hearing.{Said, before, said_to}
 use Rattle.pg_server.specs.Openings as opening
 use Rattle.pg_server.specs.Openings.{InFront, opening_in_front}
 use Rattle.pg_server.specs.Servers.{Heard, TakesFront}

@@ -1,5 +1,5 @@
 -- What crosses a link, by its fields.
-use Rattle.std.proofs.Common.{append-nil, append_assoc, ◌≡◌, ℕ, zero, suc, ◌+◌, ◌-◌, ◌<◌, ◌≤◌, Bool, true, false, not, List, [], ◌∷◌, ◌++◌, Result, Ok, Err, refl, sym, ap, ◌∙◌, subst, arith, length, take, drop}
+use Rattle.std.proofs.Common.{append-nil, append_assoc, ◌≡◌, ℕ, zero, suc, ◌+◌, ◌-◌, ◌<◌, ◌≤◌, Bool, true, false, List, [], ◌∷◌, ◌++◌, Result, Ok, Err, refl, sym, ap, ◌∙◌, subst, arith, length, take, drop}
 use Rattle.std.specs.Prelude.{min, nat_lt, ◌||◌, MatchResult}
 use Rattle.std.specs.Result.{is_err}
 use Rattle.std.proofs.lemmas.Bool.{ltb-true}
@@ -10,7 +10,7 @@ use Rattle.pg_spec.specs.Batches.{is_nothing}
 use Rattle.pg_server.specs.Copies.{Copied, Lengthens}
 use Rattle.pg_server.specs.declared.traffic.Traffic.{Traffic}
 use Rattle.pg_server.specs.Answers.{answer_bytes}
-use Rattle.pg_server.specs.Crossings.{Crossed, crossed_of, due_of}
+use Rattle.pg_server.specs.Crossings.{crossed_of, due_of}
 
 -- ---- a place in one list behind another
 

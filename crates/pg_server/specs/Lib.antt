@@ -2,6 +2,7 @@ pub mod Answers
 pub mod Copies
 pub mod Crossings
 pub mod Echoes
+pub mod FaultPlaces
 pub mod Frames
 pub mod Handlers
 pub mod Hearing

@@ -1,5 +1,5 @@
 -- What a server has in hand between two calls.
-use Rattle.std.specs.Prelude.{◌≡◌, ℕ, Bool, true, false, not, ◌&&◌, List, Option, Some, None}
+use Rattle.std.specs.Prelude.{ℕ, Bool, true, false, not, ◌&&◌, List, Option, Some, None}
 use Rattle.pg_spec.specs.RawMessages.{message_at, has_bad_header}
 use Rattle.pg_server.specs.Openings.{InFront, Short, opening_in_front}
 use Rattle.pg_server.specs.declared.session.Stage.{Stage}

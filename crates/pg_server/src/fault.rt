@@ -10,7 +10,7 @@ pub enum ServerFault {
     /// ReadyForQuery.
     #[error("bad startup")]
     BadStartup,
-    /// A startup frame of another version than 3.0, with its number.
+    /// A startup frame of another version than 3.0, with its number. A GSSENCRequest counts as one, of version 80877104.
     #[error("version {0} is unknown")]
     Version(u32),
     /// A CancelRequest.

@@ -7,6 +7,7 @@ ghost use Rattle.pg_spec.specs.RawMessages.{messages};
 ghost use Rattle.pg_serving.specs.Serving.{served};
 ghost use Rattle.pg_serving.specs.Sessions.{begun, spoken};
 ghost use Rattle.pg_server.specs.declared.fault.ServerFault.{ServerFault};
+ghost use Rattle.pg_server.specs.FaultPlaces.{ComesBehind};
 ghost use Rattle.pg_server.specs.Frames.{is_text};
 ghost use Rattle.pg_server.specs.Handlers.{Step, service_of};
 ghost use Rattle.pg_server.specs.Hearing.{before, said_to};
@@ -16,7 +17,8 @@ ghost use Rattle.pg_server.specs.Servers.{Heard, fed_with};
 ghost use Rattle.pg_server.specs.Standings.{unfed};
 
 /// Where the bytes of a client are cut makes no difference: what is said to more bytes is said behind what was said to the
-/// first of them, and a fault in the first stays what it is.
+/// first of them, and a fault in the first stays what it is. This is of what is said: `Server::feed` answers Ended to an empty
+/// piece behind Terminate too.
 pub fn cuttings_of_what_is_fed<S>()
     ensures whole { (step : Step S) (at : Heard S) (a b : List ℕ) → (fed_with step at a).fault ≡ None →
         fed_with step at (a ++ b)
@@ -35,6 +37,14 @@ pub fn a_server_says_what_the_rules_say<S>()
         (said_to step (unfed state startup) bytes).said ≡ startup ++ spoken (served (service_of step) (begun state) (messages rest)).reply }
     ensures waits { (step : Step S) (state : S) (startup bytes : List ℕ) → opening_in_front bytes ≡ Short →
         (said_to step (unfed state startup) bytes).said ≡ [] }
+{}
+
+/// Where a fault comes behind the startup frame, the startup was said, and what the rules of a server say to the first of the
+/// whole frames behind it. BadEffect tells how many those are.
+pub fn a_fault_comes_behind_what_was_said<S>()
+    ensures { (step : Step S) (state : S) (startup bytes rest : List ℕ) (fault : ServerFault) → opening_in_front bytes ≡ Starts rest →
+        (said_to step (unfed state startup) bytes).fault ≡ Some fault →
+        ComesBehind step state startup rest (said_to step (unfed state startup) bytes).said fault }
 {}
 
 /// A frame that is laid out in front of some bytes, as the writers of frames write them, is what reading them gives, where

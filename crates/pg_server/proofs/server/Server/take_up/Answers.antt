@@ -1,4 +1,4 @@
-use Rattle.std.proofs.Common.{◌≡◌, ℕ, List, ◌++◌, true, Option, Some, Ok, Err, sym, ap, subst, ◌∙◌}
+use Rattle.std.proofs.Common.{◌≡◌, ℕ, List, ◌++◌, Option, Ok, Err, sym, ap, subst, ◌∙◌}
 use Rattle.pg_server.specs.declared.answer.Answer.{Answer}
 use Rattle.pg_server.specs.Servers.{Heard, heard_of}
 use Rattle.pg_server.specs.Settled.{is_settled}

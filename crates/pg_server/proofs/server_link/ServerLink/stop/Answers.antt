@@ -1,4 +1,3 @@
-use Rattle.std.proofs.Common.{refl}
 use Rattle.pg_server.specs.Crossings.{crossed_of}
 use Rattle.pg_server.specs.ServerLinks.{served_of}
 use Rattle.pg_server.proofs.LinkLaws.{stops-effect, stops-memory, stops-other}

@@ -1,4 +1,4 @@
-use Rattle.std.proofs.Common.{◌≡◌, ℕ, Option, Ok, refl, sym, ◌∙◌, subst}
+use Rattle.std.proofs.Common.{ℕ, Option, Ok, refl, sym, ◌∙◌, subst}
 use Rattle.pg_server.specs.declared.answer.Answer.{Answer}
 use Rattle.pg_server.specs.Crossings.{crossed_of}
 use Rattle.pg_server.specs.Servers.{Heard, TakesFront, heard_of}
