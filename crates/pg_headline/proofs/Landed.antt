@@ -4,6 +4,7 @@ use Rattle.std.specs.Prelude.{⊤, IfSome}
 use Rattle.pg_spec.specs.Book.{bookings_of, request_of}
 use Rattle.pg_spec.specs.Faults.{FrameFault, Encode, Frame}
 use Rattle.pg_spec.specs.Frames.{query_frame}
+use Rattle.pg_spec.specs.RawMessages.{RawMessage}
 use Rattle.pg_spec.specs.Readings.{Decision}
 use Rattle.pg_spec.specs.Report.{Answer, Command, Failed, Simple, simple_answer}
 use Rattle.pg_spec.specs.SimpleQuery.{SimpleAnswer, has_enough, simple_decision, simple_next, simple_reading}
@@ -11,14 +12,14 @@ use Rattle.pg_spec.specs.declared.stamps.TurnMark.{TurnMark}
 use Rattle.pg_spec.specs.Turns.{IsFirstTurn, IsOwnTurn, Times, entry_at, free_from}
 use Rattle.pg_promises.specs.EndedWell as simple
 use Rattle.pg_course.specs.Courses.{Asked, Course, delivered_to, reply_to}
-use Rattle.pg_course.specs.Meanings.{Meaning}
+use Rattle.pg_course.specs.Meanings.{HasRun, Meaning}
 use Rattle.pg_course.specs.Simples.{AreSimple, IsAsBefore, IsDecided}
 use Rattle.pg_course.proofs.Headlines.{headline}
 use Rattle.pg_course.proofs.OneWay.{first-one}
 use Rattle.pg_course.proofs.Simple.{answer_in, stands-decides, stands-first, start}
-use Rattle.pg_headline.specs.Endings.{EndedWell, Session, course_of, replies}
+use Rattle.pg_headline.specs.Endings.{EndedWell, Report, Session, course_of, replies}
 use Rattle.pg_headline.specs.Landed as landed
-use Rattle.pg_headline.specs.Landed.{IsAsLanded, session_of, simply}
+use Rattle.pg_headline.specs.Landed.{IsAsLanded, report_of, session_of, simply}
 
 as-said : (answer : SimpleAnswer) (request : Option ℕ) (f : Result (List ℕ) FrameFault) (read : ℕ → Option SimpleAnswer) →
     ◌≡◌ {A = Option SimpleAnswer} (Some answer) (elim f as (λ _. Option SimpleAnswer) [
@@ -100,49 +101,57 @@ module _ {Q R : Type 0} (course : Course Q R) (handle : ℕ) (wanted : Option �
 owned : (trace : List TurnMark) (handle from : ℕ) (P : ℕ → Type 0) (place : ℕ) → IsFirstTurn trace handle from P place → IsOwnTurn trace handle from place
 owned trace handle from P place first = record { made = first.made; own = first.own; no_sooner = first.no_sooner }
 
+-- without its bytes, by some replies
+module _ {E Q R : Type 0} (meaning : Meaning Command Answer E Q R) (are : AreSimple meaning simply) (scripts : List (List Command)) (turns : List ℕ) (report : Report Answer)
+    (answered_by : List (List RawMessage)) (asked : List (Asked Q R)) (run : HasRun meaning scripts turns report.answers (course_of report answered_by asked)) where
+  -- what is said of one command
+  record IsRunSo (handle place : ℕ) (command : Command) (times : Times) : Type 0 where
+    answered : IsOwnTurn report.trace handle times.begins times.answers
+    own_request : bookings_of report.book handle place ≡ simple.own_requests handle place command times
+    at_once : IfSome (simple.answer_at_once command) (λ answer. (entry_at report.answers handle place ≡ Some answer) × (times.answers ≡ times.begins))
+
+  ran : (handle place : ℕ) (command : Command) (times : Times) → entry_at scripts handle place ≡ Some command → entry_at run.schedule handle place ≡ Some times → IsRunSo handle place command times
+  ran handle place (Simple text wanted) times ec et =
+      let course : Course Q R = course_of report answered_by asked in
+      let h = headline meaning simply are scripts turns report.answers course run handle place (Simple text wanted) times ec et text wanted refl in
+      let now = at-once course handle wanted times h.answer (free_from run.schedule handle place) (run.begins handle place times et)
+      (request_of report.book handle place) (query_frame text) h.as_before.answers h.as_before.answers_in_turn in
+      record {
+        answered = owned report.trace handle times.begins (IsDecided course text wanted (request_of report.book handle place)) times.answers h.as_before.answers_in_turn;
+        own_request = h.as_before.own_request;
+        at_once = subst (λ (o : Option Answer). IfSome (simple.answer_at_once (Simple text wanted)) (λ answer. (o ≡ Some answer) × (times.answers ≡ times.begins))) (sym h.answered) now;
+      }
+
+  pub has-run : simple.HasRun scripts turns (report_of report) run.schedule
+  has-run = record {
+    one_answer_each = run.one_answer_each;
+    one_time_each = run.one_time_each;
+    turns_made = run.turns_made;
+    begins = run.begins;
+    answered = λ handle place command times ec et. (ran handle place command times ec et).answered;
+    own_request = λ handle place command times ec et. (ran handle place command times ec et).own_request;
+    no_other = run.no_other;
+    in_order = run.in_order;
+    at_once = λ handle place command times ec et. (ran handle place command times ec et).at_once;
+  }
+
+-- with its bytes
 module _ {E Q R : Type 0} (meaning : Meaning Command Answer E Q R) (are : AreSimple meaning simply) (s : Session Command Answer) (taken : List ℕ) (ended : EndedWell meaning s taken) where
-  abbrev schedule : List (List Times)
-  schedule = ended.has_run.schedule
-
-  abbrev course : Course Q R
-  course = course_of s.report (replies s) ended.asked
-
   -- what is said of one command
   record IsSaid (handle place : ℕ) (command : Command) (times : Times) : Type 0 where
-    answered : IsOwnTurn s.report.trace handle times.begins times.answers
-    own_request : bookings_of s.report.book handle place ≡ simple.own_requests handle place command times
-    at_once : IfSome (simple.answer_at_once command) (λ answer. (entry_at s.report.answers handle place ≡ Some answer) × (times.answers ≡ times.begins))
     answers : entry_at s.report.answers handle place ≡ simple.answer_of (session_of s) command (request_of s.report.book handle place)
     answers_in_turn : IsFirstTurn s.report.trace handle times.begins (simple.IsDecided (session_of s) command (request_of s.report.book handle place)) times.answers
 
-  said : (handle place : ℕ) (command : Command) (times : Times) → entry_at s.scripts handle place ≡ Some command → entry_at schedule handle place ≡ Some times → IsSaid handle place command times
+  said : (handle place : ℕ) (command : Command) (times : Times) → entry_at s.scripts handle place ≡ Some command → entry_at ended.has_run.schedule handle place ≡ Some times → IsSaid handle place command times
   said handle place (Simple text wanted) times ec et =
-      let h = headline meaning simply are s.scripts s.turns s.report.answers course ended.has_run handle place (Simple text wanted) times ec et text wanted refl in
+      let h = headline meaning simply are s.scripts s.turns s.report.answers (course_of s.report (replies s) ended.asked) ended.has_run handle place (Simple text wanted) times ec et text wanted refl in
       let l = as-landed (session_of s) ended.asked handle place text wanted times h.answer h.as_before in
-      let now = at-once course handle wanted times h.answer (free_from schedule handle place) (ended.has_run.begins handle place times et)
-      (request_of s.report.book handle place) (query_frame text) h.as_before.answers h.as_before.answers_in_turn in
-      record {
-        answered = owned s.report.trace handle times.begins (IsDecided course text wanted (request_of s.report.book handle place)) times.answers h.as_before.answers_in_turn;
-        own_request = l.own_request;
-        at_once = subst (λ (o : Option Answer). IfSome (simple.answer_at_once (Simple text wanted)) (λ answer. (o ≡ Some answer) × (times.answers ≡ times.begins))) (sym h.answered) now;
-        answers = h.answered ∙ l.answers;
-        answers_in_turn = l.answers_in_turn;
-      }
+      record { answers = h.answered ∙ l.answers; answers_in_turn = l.answers_in_turn }
 
   pub ended-well : simple.EndedWell (session_of s) taken
   ended-well = record {
-    schedule = schedule;
-    has_run = record {
-      one_answer_each = ended.has_run.one_answer_each;
-      one_time_each = ended.has_run.one_time_each;
-      turns_made = ended.has_run.turns_made;
-      begins = ended.has_run.begins;
-      answered = λ handle place command times ec et. (said handle place command times ec et).answered;
-      own_request = λ handle place command times ec et. (said handle place command times ec et).own_request;
-      no_other = ended.has_run.no_other;
-      in_order = ended.has_run.in_order;
-      at_once = λ handle place command times ec et. (said handle place command times ec et).at_once;
-    };
+    schedule = ended.has_run.schedule;
+    has_run = has-run meaning are s.scripts s.turns s.report (replies s) ended.asked ended.has_run;
     no_tls = ended.no_tls;
     started = ended.started;
     one_group_each = ended.one_group_each;

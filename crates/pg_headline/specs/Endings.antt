@@ -58,6 +58,16 @@ replies s = groups (later_messages s)
 abbrev pub course_of : {A Q R : Type 0} → Report A → List (List RawMessage) → List (Asked Q R) → Course Q R
 course_of report replies asked = record { trace = report.trace; book = report.book; replies = replies; asked = asked }
 
+-- What can be said of a session without its bytes: behind its startup some messages came, one whole group to each request, and all
+-- were delivered; by these its commands did what they mean.
+pub record IsRun {C A E Q R : Type 0} (meaning : Meaning C A E Q R) (scripts : List (List C)) (turns : List ℕ) (report : Report A) : Type 0 where
+  pub later : List RawMessage
+  pub asked : List (Asked Q R)
+  pub has_run : HasRun meaning scripts turns report.answers (course_of report (groups later) asked)
+  pub one_group_each : length (groups later) ≡ length report.book
+  pub whole_groups : IsTrue (list_all is_whole_group (groups later))
+  pub delivered_all : delivered_before report.trace (length report.trace) ≡ length (sync_of later)
+
 -- What a session that ended well did, whatever its turns and however the bytes were cut.
 pub record EndedWell {C A E Q R : Type 0} (meaning : Meaning C A E Q R) (s : Session C A) (taken : List ℕ) : Type 0 where
   -- its commands did what they mean, by the server's replies

@@ -4,9 +4,9 @@ ghost use Rattle.std.specs.Prelude.{ℕ, List, Option};
 ghost use Rattle.pg_course.specs.Courses.{Asked};
 ghost use Rattle.pg_course.specs.Meanings.{Meaning};
 ghost use Rattle.pg_course.specs.Simples.{AreSimple, Headline, IsAsBefore, Simply};
-ghost use Rattle.pg_headline.specs.Endings.{EndedWell, Session, course_of, replies};
+ghost use Rattle.pg_headline.specs.Endings.{EndedWell, IsRun, Report, Session, course_of, replies};
 ghost use Rattle.pg_headline.specs.Landed as landed;
-ghost use Rattle.pg_headline.specs.Landed.{IsAsLanded, session_of, simply};
+ghost use Rattle.pg_headline.specs.Landed.{IsAsLanded, report_of, session_of, simply};
 ghost use Rattle.pg_promises.specs.EndedWell as simple;
 ghost use Rattle.pg_spec.specs.Report.{Answer, Command};
 ghost use Rattle.pg_spec.specs.SimpleQuery.{SimpleAnswer};
@@ -29,4 +29,15 @@ pub fn headline_of_session<C, A, E, Q, R>()
 pub fn session_of_simple_queries<E, Q, R>()
     ensures { (meaning : Meaning Command Answer E Q R) → AreSimple meaning simply →
         (s : Session Command Answer) (taken : List ℕ) → EndedWell meaning s taken → simple.EndedWell (session_of s) taken }
+{}
+
+/// What is said of a session without its bytes holds of one that ended well.
+pub fn what_ended_well_has_run<C, A, E, Q, R>()
+    ensures { (meaning : Meaning C A E Q R) (s : Session C A) (taken : List ℕ) → EndedWell meaning s taken → IsRun meaning s.scripts s.turns s.report }
+{}
+
+/// Of a session of simple queries alone it says, without its bytes, what the theorem on simple queries says without them.
+pub fn run_of_simple_queries<E, Q, R>()
+    ensures { (meaning : Meaning Command Answer E Q R) → AreSimple meaning simply → (scripts : List (List Command)) (turns : List ℕ) (report : Report Answer) →
+        IsRun meaning scripts turns report → (schedule : List (List Times)) × simple.HasRun scripts turns (report_of report) schedule }
 {}

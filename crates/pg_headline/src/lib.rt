@@ -3,4 +3,7 @@
 
 mod laws;
 
-pub use laws::{as_landed, headline_of_session, session_of_simple_queries};
+pub use laws::{
+    as_landed, headline_of_session, run_of_simple_queries, session_of_simple_queries,
+    what_ended_well_has_run,
+};
