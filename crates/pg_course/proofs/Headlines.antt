@@ -51,5 +51,5 @@ headline {C} {A} {E} {Q} {R} meaning how are scripts turns answers course run ha
       answer = u.answer;
       answered = did.answered ∙ ap (λ (e : Ending A E). Some e.answer) u.is;
       as_before = as-before course handle place text wanted times u.answer (free_from run.schedule handle place)
-          (run.begins handle place times et) (nowhere, did.at, did.in_turn, u.unfolds);
+          (run.begins handle place times et) (nowhere, (did.at, did.in_turn, u.unfolds));
     }

@@ -17,7 +17,7 @@ use Rattle.pg_course.specs.Simples.{IsAsBefore, UnfoldsSimple, asks_by, reads_un
 
 -- ---- requests and their numbers
 
-bookings : (book : List Booking) (n owner command : ℕ) → map (λ r. r.booking) (filter (λ r. is_of owner command r.booking) (numbered n book)) ≡ bookings_of book owner command
+pub bookings : (book : List Booking) (n owner command : ℕ) → map (λ r. r.booking) (filter (λ r. is_of owner command r.booking) (numbered n book)) ≡ bookings_of book owner command
 bookings [] n owner command = refl
 bookings (b ∷ book) n owner command = by (is_of owner command b) (bookings book (n + 1) owner command)
   where
@@ -57,7 +57,7 @@ first-number p n (b ∷ book) r rest h = by (p b) refl h (λ e. first-number p (
           own = h.own;
         }
 
-request-is : (book : List Booking) (owner command : ℕ) (r : Request) (rest : List Request) → requests_of book owner command ≡ r ∷ rest → request_of book owner command ≡ Some r.number
+pub request-is : (book : List Booking) (owner command : ℕ) (r : Request) (rest : List Request) → requests_of book owner command ≡ r ∷ rest → request_of book owner command ≡ Some r.number
 request-is book owner command r rest h =
     let p : Booking → Bool = is_of owner command in
     let first = first-number p 0 book r rest h in
@@ -100,10 +100,10 @@ later-some None = refl
 later-some (Some d) = refl
 
 -- a reading decides where the shortest front that decides ends
-record Decides {A : Type 0} (d : Option (Decision A)) (front : Option (Decision A)) (n : ℕ) : Type 0 where
-  answer : A
-  decided : d ≡ Some (record { answer = answer; after = n })
-  by_front : answer_in front ≡ Some answer
+pub record Decides {A : Type 0} (d : Option (Decision A)) (front : Option (Decision A)) (n : ℕ) : Type 0 where
+  pub answer : A
+  pub decided : d ≡ Some (record { answer = answer; after = n })
+  pub by_front : answer_in front ≡ Some answer
 
 grown : {A : Type 0} (d front : Option (Decision A)) (n : ℕ) → Decides d front n → Decides (option_map one_later d) (option_map one_later front) (n + 1)
 grown {A} d front n h = record {
@@ -176,7 +176,7 @@ first-of stands next ms n (Some a) none x h f = absurd cc
 first-of stands next ms n None none (Ends a) h f = now-one (λ l. Some (record { answer = a; after = 1 })) ms n a (λ l. refl) (let e : 1 ≡ n = cc in e)
 first-of stands next ms n None none (GoesOn later) h f = goes-on stands next later ms n (stands later) refl h f
 
-decides : {S A : Type 0} (stands : S → Option A) (next : S → RawMessage → Next S A) (state : S) (ms : List RawMessage) (n : ℕ) → stands state ≡ None →
+pub decides : {S A : Type 0} (stands : S → Option A) (next : S → RawMessage → Next S A) (state : S) (ms : List RawMessage) (n : ℕ) → stands state ≡ None →
     decided_after (λ l. is_some (answer_in (decision stands next state l))) ms ≡ Some n →
     Decides (decision stands next state ms) (decision stands next state (take n ms)) n
 decides stands next state [] n none h = absurd cc
@@ -194,7 +194,7 @@ pub stands-first : (enough : Option SimpleAnswer) (a : SimpleAnswer) → answer_
 stands-first None a h = absurd cc
 stands-first (Some x) a h = let e : x ≡ a = cc in ap (λ (y : SimpleAnswer). Some y) e
 
-stands-not : (enough : Option SimpleAnswer) → answer_in (stands_or enough None) ≡ None → enough ≡ None
+pub stands-not : (enough : Option SimpleAnswer) → answer_in (stands_or enough None) ≡ None → enough ≡ None
 stands-not None h = refl
 stands-not (Some x) h = absurd cc
 
@@ -296,5 +296,5 @@ module _ {Q R : Type 0} (course : Course Q R) (handle place : ℕ) (wanted : Opt
 pub as-before : {Q R : Type 0} (course : Course Q R) (handle place : ℕ) (text : List ℕ) (wanted : Option ℕ) (times : Times) (answer : SimpleAnswer) (from : ℕ) →
     IsFirstTurn course.trace handle from (λ place. ⊤) times.begins → UnfoldsSimple course handle place text wanted times answer → IsAsBefore course handle place text wanted times answer
 as-before {Q} {R} course handle place text wanted times answer from begins h =
-    let by = asks-so {Q = Q} {R = R} course handle place wanted times answer from begins h.0 h.1 h.2 (query_frame text) (requests_of course.book handle place) (questions_of course.asked handle place) refl h.3 in
+    let by = asks-so {Q = Q} {R = R} course handle place wanted times answer from begins h.0 h.1.0 h.1.1 (query_frame text) (requests_of course.book handle place) (questions_of course.asked handle place) refl h.1.2 in
     record { own_request = by.own; answers = by.answers; answers_in_turn = by.in_turn }

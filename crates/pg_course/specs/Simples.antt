@@ -58,18 +58,23 @@ IsDecided course text take request place = elim (query_frame text) [
   ]
 ]
 
--- One request of its own, booked when it begins; its answer is the reading of that request's group, in the first turn in which it stands.
+-- One request of its own, booked when it begins; its answer is the reading of that request's group, given in its handle's first turn in
+-- which it stands.
 pub record IsAsBefore {Q R : Type 0} (course : Course Q R) (handle place : ℕ) (text : List ℕ) (take : Option ℕ) (times : Times) (answer : SimpleAnswer) : Type 0 where
   pub own_request : bookings_of course.book handle place ≡ own_requests handle place text times
   pub answers : Some answer ≡ answer_by course text take (request_of course.book handle place)
   pub answers_in_turn : IsFirstTurn course.trace handle times.begins (IsDecided course text take (request_of course.book handle place)) times.answers
 
--- a simple query unfolds, wherever the former command stopped
-abbrev pub UnfoldsSimple : {Q R : Type 0} → Course Q R → (handle place : ℕ) → (text : List ℕ) → (take : Option ℕ) → Times → SimpleAnswer → Type 0
-UnfoldsSimple course handle place text take times answer =
-    (former at : Point) × (at.turn ≡ times.answers)
+-- a simple query unfolds, behind a command that stopped there
+abbrev pub UnfoldsBehind : {Q R : Type 0} → Course Q R → (handle place : ℕ) → (text : List ℕ) → (take : Option ℕ) → Times → SimpleAnswer → (former : Point) → Type 0
+UnfoldsBehind course handle place text take times answer former =
+    (at : Point) × (at.turn ≡ times.answers)
     × Unfolds course handle (begun_in former times.begins) (simple_query text take) (requests_of course.book handle place)
     (questions_of course.asked handle place) (record { at = at; answer = answer })
+
+-- the same, wherever the former command stopped
+abbrev pub UnfoldsSimple : {Q R : Type 0} → Course Q R → (handle place : ℕ) → (text : List ℕ) → (take : Option ℕ) → Times → SimpleAnswer → Type 0
+UnfoldsSimple course handle place text take times answer = (former : Point) × UnfoldsBehind course handle place text take times answer former
 
 -- ---- the headline
 

@@ -1,13 +1,13 @@
 //! Laws over the definitions. Each body does nothing.
 
-ghost use Rattle.std.specs.Prelude.{◌≡◌, ℕ, List, Option, ⊤};
+ghost use Rattle.std.specs.Prelude.{◌≡◌, ℕ, List, [], Option, ⊤};
 ghost use Rattle.pg_spec.specs.SimpleQuery.{SimpleAnswer};
 ghost use Rattle.pg_spec.specs.Turns.{IsFirstTurn, IsOwnTurn, Times};
-ghost use Rattle.pg_course.specs.Courses.{Asked, Course, Request, Point, Given, Unfolds, met_in, unread};
+ghost use Rattle.pg_course.specs.Courses.{Asked, Course, Request, Point, Given, Unfolds, met_in, questions_of, unread};
 ghost use Rattle.pg_course.specs.Dialogues.{Answers, Dialogue, behind};
 ghost use Rattle.pg_course.specs.Isolation.{answer_alone, ComesOfIt, DidSo, IsByNames, IsSame, NoPuts};
 ghost use Rattle.pg_course.specs.Meanings.{Ending, HasRun, Meaning};
-ghost use Rattle.pg_course.specs.Simples.{AreSimple, Headline, IsAsBefore, Simply, Unmapped, UnfoldsSimple};
+ghost use Rattle.pg_course.specs.Simples.{AreSimple, Headline, IsAsBefore, Simply, Unmapped, UnfoldsBehind, UnfoldsSimple};
 
 /// What a command books, asks, answers and leaves unread follows from what was left of the reply that it reads, from the
 /// replies to its own requests and from what its desk told it.
@@ -53,6 +53,13 @@ pub fn simple_query_as_before<Q, R>()
     ensures { (course : Course Q R) (handle place : ℕ) (text : List ℕ) (take : Option ℕ) (times : Times) (answer : SimpleAnswer) (from : ℕ) →
         IsFirstTurn course.trace handle from (λ place. ⊤) times.begins → UnfoldsSimple course handle place text take times answer →
         IsAsBefore course handle place text take times answer }
+{}
+
+/// And one that did so, and asked its desk nothing, unfolds, wherever the former command stopped.
+pub fn simple_query_unfolds<Q, R>()
+    ensures { (course : Course Q R) (handle place : ℕ) (text : List ℕ) (take : Option ℕ) (times : Times) (answer : SimpleAnswer) (from : ℕ) (former : Point) →
+        IsFirstTurn course.trace handle from (λ place. ⊤) times.begins → questions_of course.asked handle place ≡ [] →
+        IsAsBefore course handle place text take times answer → UnfoldsBehind course handle place text take times answer former }
 {}
 
 /// Where commands have run as they mean, those among them that are simple queries did so.
