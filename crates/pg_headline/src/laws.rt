@@ -31,6 +31,12 @@ pub fn session_of_simple_queries<E, Q, R>()
         (s : Session Command Answer) (taken : List ℕ) → EndedWell meaning s taken → simple.EndedWell (session_of s) taken }
 {}
 
+/// And one that ended well by the theorem on simple queries ended well by the one over any commands, whatever else these are.
+pub fn simple_queries_end_well<E, Q, R>()
+    ensures { (meaning : Meaning Command Answer E Q R) → AreSimple meaning simply →
+        (s : Session Command Answer) (taken : List ℕ) → simple.EndedWell (session_of s) taken → EndedWell meaning s taken }
+{}
+
 /// What is said of a session without its bytes holds of one that ended well.
 pub fn what_ended_well_has_run<C, A, E, Q, R>()
     ensures { (meaning : Meaning C A E Q R) (s : Session C A) (taken : List ℕ) → EndedWell meaning s taken → IsRun meaning s.scripts s.turns s.report }

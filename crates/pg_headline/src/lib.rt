@@ -5,5 +5,5 @@ mod laws;
 
 pub use laws::{
     as_landed, headline_of_session, run_of_simple_queries, session_of_simple_queries,
-    what_ended_well_has_run,
+    simple_queries_end_well, what_ended_well_has_run,
 };
