@@ -12,7 +12,7 @@ use Rattle.pg_spec.specs.Turns.{BeginInTurn, IsFirstTurn, Times, delivered_befor
 use Rattle.pg_course.specs.Courses.{delivered_to}
 use Rattle.pg_course.specs.Meanings.{AreAskedFirst, Did, EachCommand, booked_in}
 use Rattle.pg_course_examples.specs.Rows.{Begin, Command, Commit, CopyIn, Own, Prepare, Query, ending, meaning, new}
-use Rattle.pg_course_examples.specs.Sessions.{IsRight, Session, copied, copy_piece, has, mood, prepared_and_queried, refused_begin, s0, shared_type, simple_a, simple_b, ten_turns, two_queries}
+use Rattle.pg_course_examples.specs.Sessions.{IsRight, Session, copied, copied_beside, copy_piece, has, mood, prepared_and_queried, refused_begin, s0, shared_type, simple_a, simple_b, ten_turns, two_queries}
 use Rattle.pg_course_examples.proofs.Tests.{EachIn, all_below, below, first-at_least, first-own, of-rows, rising, trace-is}
 
 abbrev times : ℕ → ℕ → Times
@@ -288,6 +288,104 @@ copy = record {
   asked_first = asked-first copied refl;
   none_asked_beside = All-from_recursion (λ a. IsSome (entry_at copied.scripts a.stamp.owner a.stamp.command)) copied.course.asked (refl, tt);
   asked_in_order = rising (λ a. a.stamp.turn) copied.course.asked refl;
+  told = (refl, tt);
+}
+
+-- ---- a row is copied beside another handle's query, and a handle without commands
+
+abbrev beside_times : List (List Times)
+beside_times = (times 0 2 ∷ times 4 9 ∷ []) ∷ (times 5 10 ∷ []) ∷ [] ∷ []
+
+abbrev beside_states : List (List Own)
+beside_states = (new ∷ has (s0 []) ∷ has (s0 []) ∷ []) ∷ (new ∷ new ∷ []) ∷ (new ∷ []) ∷ []
+
+described-beside : Did meaning copied_beside.course beside_states copied_beside.answers 0 0 (Prepare 0 (codes "q")) (times 0 2)
+unfolding digits is_utf8 chars encode utf8_lossy utf8_valid_len
+described-beside = record {
+  before = new;
+  had = refl;
+  ending = _;
+  answered = refl;
+  has = refl;
+  at = _;
+  in_turn = refl;
+  unfolds = (refl, refl, (refl, refl, [], refl, (3, refl, 2, first-at_least copied_beside.course.trace 0 0 2 3 (λ place. delivered_to copied_beside.course (Some 0) place) refl, (refl, refl, refl, refl))));
+}
+
+copies-beside : Did meaning copied_beside.course beside_states copied_beside.answers 0 1 (CopyIn 0 (codes "1" ∷ [])) (times 4 9)
+unfolding digits is_utf8 chars encode utf8_lossy utf8_valid_len
+copies-beside = record {
+  before = has (s0 []);
+  had = refl;
+  ending = _;
+  answered = refl;
+  has = refl;
+  at = _;
+  in_turn = refl;
+  unfolds = (
+    refl,
+    refl,
+    copy_piece ∷ ending ∷ [],
+    refl,
+    (
+      2,
+      refl,
+      7,
+      first-at_least copied_beside.course.trace 0 4 7 2 (λ place. delivered_to copied_beside.course (Some 1) place) refl,
+      (
+        7,
+        record { made = omega arith; own = refl; no_sooner = omega arith },
+        ending ∷ [],
+        refl,
+        ([], refl, (1, refl, 9, first-at_least copied_beside.course.trace 0 7 9 3 (λ place. delivered_to copied_beside.course (Some 1) place) refl, (refl, refl, refl, refl))),
+      ),
+    ),
+  );
+}
+
+queries-beside : Did meaning copied_beside.course beside_states copied_beside.answers 1 0 simple_b (times 5 10)
+unfolding digits is_utf8 chars encode utf8_lossy utf8_valid_len
+queries-beside = record {
+  before = new;
+  had = refl;
+  ending = _;
+  answered = refl;
+  has = refl;
+  at = _;
+  in_turn = refl;
+  unfolds = (refl, refl, [], refl, (2, refl, 10, first-at_least copied_beside.course.trace 1 5 10 2 (λ place. delivered_to copied_beside.course (Some 2) place) refl, (refl, refl, refl, refl)));
+}
+
+three-handles : (P : ℕ → Type 0) → P 0 → P 1 → P 2 → (i : ℕ) → i < 3 → P i
+three-handles P a b c zero lt = a
+three-handles P a b c (suc zero) lt = b
+three-handles P a b c (suc (suc zero)) lt = c
+three-handles P a b c (suc (suc (suc i))) lt = absurd (omega (arith, lt))
+
+pub beside : IsRight copied_beside
+beside = record {
+  schedule = beside_times;
+  states = beside_states;
+  one_answer_each = refl;
+  one_time_each = refl;
+  new = three-handles (λ handle. entry_at beside_states handle 0 ≡ Some new) refl refl refl;
+  turns_made = trace-is (0 ∷ 3 ∷ 0 ∷ 3 ∷ 0 ∷ 1 ∷ 3 ∷ 0 ∷ 3 ∷ []) 3 copied_beside.course.trace refl;
+  begins = all-begin copied_beside beside_times ((first-own copied_beside.course.trace 0 0 0 refl, (first-own copied_beside.course.trace 0 3 4 refl, tt)), ((first-own copied_beside.course.trace 1 0 5 refl, tt), (tt, tt)));
+  did = each copied_beside beside_states beside_times (
+    (
+      so (times 0 2) (Did meaning copied_beside.course beside_states copied_beside.answers 0 0 (Prepare 0 (codes "q"))) described-beside,
+      (so (times 4 9) (Did meaning copied_beside.course beside_states copied_beside.answers 0 1 (CopyIn 0 (codes "1" ∷ []))) copies-beside, tt),
+    ),
+    (
+      (so (times 5 10) (Did meaning copied_beside.course beside_states copied_beside.answers 1 0 simple_b) queries-beside, tt),
+      (tt, tt),
+    ),
+  );
+  no_other = All-from_recursion (λ b. IsSome (entry_at copied_beside.scripts b.stamp.owner b.stamp.command)) copied_beside.course.book (refl, (refl, (refl, tt)));
+  in_order = rising (λ b. b.stamp.turn) copied_beside.course.book refl;
+  asked_first = asked-first copied_beside refl;
+  none_asked_beside = All-from_recursion (λ a. IsSome (entry_at copied_beside.scripts a.stamp.owner a.stamp.command)) copied_beside.course.asked (refl, tt);
+  asked_in_order = rising (λ a. a.stamp.turn) copied_beside.course.asked refl;
   told = (refl, tt);
 }
 

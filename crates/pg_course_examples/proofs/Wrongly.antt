@@ -1,21 +1,24 @@
 -- Sessions that are refused.
-use Rattle.std.proofs.Common.{◌≡◌, ℕ, ◌+◌, arith, List, [], ◌∷◌, length, map, Ok, Some, None, refl, sym, ap, ◌∙◌, codes}
+use Rattle.std.proofs.Common.{◌≡◌, ℕ, zero, suc, ◌+◌, ◌<◌, ◌≤◌, arith, List, [], ◌∷◌, length, map, Ok, Option, Some, None, option_map, refl, sym, ap, ◌∙◌, codes}
 use Rattle.std.specs.Fmt.{digits}
 use Rattle.std.specs.Str.{is_utf8, chars}
 use Rattle.std.specs.Str.Lossy.{utf8_lossy, utf8_valid_len}
 use lib.Utf8.{encode}
-use Rattle.std.specs.Prelude.{IsSome, sum_by}
+use Rattle.std.specs.Prelude.{IsSome, sum_by, unwrap_or}
 use Rattle.std.proofs.lemmas.List.Elements.{recursion_from_All}
+use Rattle.std.proofs.lemmas.List.Sorted.{all_adjacent_from_non_decreasing}
 use Rattle.std.proofs.lemmas.Option.{same_Some}
 use Rattle.pg_spec.specs.RawMessages.{RawMessage}
 use Rattle.pg_spec.specs.SimpleQuery.{Item, Complete}
-use Rattle.pg_spec.specs.Turns.{entry_at}
-use Rattle.pg_course.specs.Courses.{Outcome, begun_in, met_in, nowhere, outcome, questions_of, requests_of, unread}
+use Rattle.pg_spec.specs.Book.{Booking}
+use Rattle.pg_spec.specs.Stamps.{stamped}
+use Rattle.pg_spec.specs.Turns.{Times, entry_at, free_from}
+use Rattle.pg_course.specs.Courses.{Given, Outcome, begun_in, met_in, nowhere, outcome, questions_of, requests_of, unread}
 use Rattle.pg_course.specs.Meanings.{Ending}
 use Rattle.pg_course.proofs.OneWay.{first-one}
 use Rattle.pg_course.proofs.Outcomes.{comes}
 use Rattle.pg_course_examples.specs.Words.{Question, Named}
-use Rattle.pg_course_examples.specs.Rows.{Answer, Begin, Command, CopyIn, Messages, Own, Prepare, Prepared, asks, new}
+use Rattle.pg_course_examples.specs.Rows.{Answer, Begin, Command, CopyIn, Messages, Own, Prepare, Prepared, Query, asks, new}
 use Rattle.pg_course_examples.specs.Sessions.{IsRight, Session, affected_so, has, mood, s0, simple_a, simple_b}
 use Rattle.pg_course_examples.specs.Wrong as wrong
 use Rattle.pg_course_examples.proofs.Tests.{first-own, other-entry}
@@ -137,4 +140,51 @@ unfolding digits is_utf8 chars encode utf8_lossy utf8_valid_len
 astray h =
     let c = came wrong.copy_astray h 1 0 new simple_b refl (h.new 1 (omega arith)) in
     let e : 1 ≡ 2 = ap parts c.comes in
+    omega (arith, e)
+
+pub asked-beside : IsRight wrong.asked_by_nobody → ⊥
+asked-beside h = let e = (recursion_from_All (λ a. IsSome (entry_at wrong.asked_by_nobody.scripts a.stamp.owner a.stamp.command)) wrong.asked_by_nobody.course.asked h.none_asked_beside).1.0 in absurd cc
+
+at-most : (a b : ℕ) → (b < a → ⊥) → a ≤ b
+at-most zero b f = omega arith
+at-most (suc a) zero f = absurd (f (omega arith))
+at-most (suc a) (suc b) f = let le = at-most a b (λ lt. f (omega (arith, lt))) in omega (arith, le)
+
+pub late-answer : IsRight wrong.begun_late → ⊥
+unfolding digits is_utf8 chars encode utf8_lossy utf8_valid_len
+late-answer h =
+    let t = other-entry wrong.begun_late.scripts h.schedule h.one_time_each 0 0 simple_a refl in
+    let u = other-entry wrong.begun_late.scripts h.schedule h.one_time_each 0 1 simple_b refl in
+    let did = h.did 0 0 simple_a t.0 refl t.1 in
+    let booked : 0 ≡ t.0.begins = did.unfolds.1 in
+    let n : 2 ≡ did.unfolds.4.0 = same_Some 2 did.unfolds.4.0 did.unfolds.4.1 in
+    let turn : did.unfolds.4.2 ≡ t.0.answers = sym (ap (λ (g : Given (Ending Answer Own)). g.at.turn) did.unfolds.4.4.3) ∙ did.in_turn in
+    let answers : t.0.answers ≤ 2 = at-most t.0.answers 2 (λ lt. did.unfolds.4.3.first 2 (omega (arith, booked)) (omega (arith, lt, turn)) refl (omega (arith, n))) in
+    let booked_then : 6 ≡ u.0.begins = (h.did 0 1 simple_b u.0 refl u.1).unfolds.1 in
+    let free : free_from h.schedule 0 1 ≡ t.0.answers + 1 = ap (λ (o : Option Times). unwrap_or (option_map (λ x. x.answers + 1) o) 0) t.1 in
+    (h.begins 0 1 u.0 u.1).first 4 (omega (arith, free, answers)) (omega (arith, booked_then)) refl tt
+
+pub lost : IsRight wrong.slot_lost → ⊥
+unfolding digits is_utf8 chars encode utf8_lossy utf8_valid_len
+lost h =
+    let types : List (List ℕ) = codes "int4" ∷ [] in
+    let p = came wrong.slot_lost h 0 0 new (Prepare 0 (codes "q")) refl (h.new 0 (omega arith)) in
+    let c = came wrong.slot_lost h 0 1 (has (s0 types)) (Query 0) refl
+    (then-has wrong.slot_lost h 0 (Prepare 0 (codes "q")) (record { answer = Prepared (codes "s0") types; own = has (s0 types) }) p refl) in
+    let e : 1 ≡ 0 = ap count c.comes in
+    omega (arith, e)
+
+pub no-answer : IsRight wrong.unanswered → ⊥
+no-answer h = let e : 1 ≡ 2 = ap (λ (ns : List ℕ). sum_by (λ n. n) ns) h.one_answer_each in omega (arith, e)
+
+pub order : IsRight wrong.out_of_order → ⊥
+order h =
+    let le : 1 ≤ 0 = all_adjacent_from_non_decreasing (λ (b : Booking). b.stamp.turn) wrong.out_of_order.course.book h.in_order 0 (record { stamp = stamped 0 0 0; parts = [] }) (omega arith) in
+    omega (arith, le)
+
+pub same-twice : IsRight wrong.booked_twice → ⊥
+unfolding digits is_utf8 chars encode utf8_lossy utf8_valid_len
+same-twice h =
+    let c = came wrong.booked_twice h 0 0 new simple_a refl (h.new 0 (omega arith)) in
+    let e : 1 ≡ 2 = ap count c.comes in
     omega (arith, e)

@@ -1,5 +1,5 @@
 -- Worked sessions.
-use Rattle.std.specs.Prelude.{ℕ, List, [], ◌∷◌, false, Some, None, Result, Ok, Err, codes}
+use Rattle.std.specs.Prelude.{ℕ, List, [], ◌∷◌, ◌++◌, false, Some, None, Result, Ok, Err, codes, decimal}
 use Rattle.pg_spec.specs.Book.{Booking}
 use Rattle.pg_spec.specs.Faults.{FrameFault}
 use Rattle.pg_spec.specs.Frames.{query_frame, flush_frame, sync_frame, copy_data_frame}
@@ -143,6 +143,48 @@ copied = record {
   };
 }
 
+-- ---- simple queries
+
+-- the query of the first
+abbrev pub simple_a : Command
+simple_a = Simple (codes "a") None
+
+-- the query of the second
+abbrev pub simple_b : Command
+simple_b = Simple (codes "b") None
+
+-- the request of the first
+abbrev pub query_a : List ℕ
+query_a = frame (query_frame (codes "a"))
+
+-- the request of the second
+abbrev pub query_b : List ℕ
+query_b = frame (query_frame (codes "b"))
+
+-- the reply to one that updates so many rows
+abbrev pub updated : ℕ → List RawMessage
+updated n = complete (codes "UPDATE " ++ decimal n) ∷ ready ∷ []
+
+-- so many rows were affected
+abbrev pub affected_so : ℕ → Answer
+affected_so n = Messages (Ok (Complete n ∷ []))
+
+-- ---- the same beside a query of another handle, and a handle without commands
+
+-- the query is booked between the copy's opening and its piece, and goes out behind the whole copy
+abbrev pub copied_beside : Session
+copied_beside = record {
+  scripts = (Prepare 0 (codes "q") ∷ CopyIn 0 (codes "1" ∷ []) ∷ []) ∷ (simple_b ∷ []) ∷ [] ∷ [];
+  turns = 0 ∷ 3 ∷ 0 ∷ 3 ∷ 0 ∷ 1 ∷ 3 ∷ 0 ∷ 3 ∷ [];
+  answers = (Prepared (codes "s0") [] ∷ Count 1 ∷ []) ∷ (affected_so 2 ∷ []) ∷ [] ∷ [];
+  course = record {
+    trace = marked 0 0 ∷ marked 3 4 ∷ marked 0 4 ∷ marked 3 4 ∷ marked 0 4 ∷ marked 1 4 ∷ marked 3 6 ∷ marked 0 6 ∷ marked 3 10 ∷ marked 0 10 ∷ marked 1 10 ∷ marked 2 10 ∷ marked 3 10 ∷ [];
+    book = booked 0 0 0 (prepare_q ∷ []) ∷ booked 0 1 4 (copy_opening ∷ copy_piece ∷ ending ∷ []) ∷ booked 1 0 5 (query_b ∷ []) ∷ [];
+    replies = described_copy ∷ copied_one ∷ updated 2 ∷ [];
+    asked = asked 0 0 0 NextStatement (Number 0) ∷ [];
+  };
+}
+
 -- ---- a begin that the server refuses, and a commit behind it
 
 -- the request that begins it
@@ -165,26 +207,6 @@ refused_begin = record {
 
 -- ---- two handles with a simple query each
 
--- the query of the first
-abbrev pub simple_a : Command
-simple_a = Simple (codes "a") None
-
--- the query of the second
-abbrev pub simple_b : Command
-simple_b = Simple (codes "b") None
-
--- the request of the first
-abbrev pub query_a : List ℕ
-query_a = frame (query_frame (codes "a"))
-
--- the request of the second
-abbrev pub query_b : List ℕ
-query_b = frame (query_frame (codes "b"))
-
--- so many rows were affected
-abbrev pub affected_so : ℕ → Answer
-affected_so n = Messages (Ok (Complete n ∷ []))
-
 -- the session
 abbrev pub two_queries : Session
 two_queries = record {
@@ -194,7 +216,7 @@ two_queries = record {
   course = record {
     trace = marked 0 0 ∷ marked 1 0 ∷ marked 2 4 ∷ marked 0 4 ∷ marked 1 4 ∷ marked 2 4 ∷ [];
     book = booked 0 0 0 (query_a ∷ []) ∷ booked 1 0 1 (query_b ∷ []) ∷ [];
-    replies = (complete (codes "UPDATE 1") ∷ ready ∷ []) ∷ (complete (codes "UPDATE 2") ∷ ready ∷ []) ∷ [];
+    replies = updated 1 ∷ updated 2 ∷ [];
     asked = [];
   };
 }

@@ -1,4 +1,4 @@
-use Rattle.pg_course_examples.proofs.Wrongly.{astray, cut, early, forgets, late, no-rollback, nobody, other-answer, twice}
+use Rattle.pg_course_examples.proofs.Wrongly.{asked-beside, astray, cut, early, forgets, late, late-answer, lost, no-answer, no-rollback, nobody, order, other-answer, same-twice, twice}
 use Rattle.pg_course_examples.proofs.laws.refused.Goals as goal
 
 pub returns-clause-late : goal.returns-clause-late
@@ -27,3 +27,21 @@ returns-clause-twice c h = twice h
 
 pub returns-clause-nobody : goal.returns-clause-nobody
 returns-clause-nobody c h = nobody h
+
+pub returns-clause-asked_beside : goal.returns-clause-asked_beside
+returns-clause-asked_beside c h = asked-beside h
+
+pub returns-clause-late_answer : goal.returns-clause-late_answer
+returns-clause-late_answer c h = late-answer h
+
+pub returns-clause-lost : goal.returns-clause-lost
+returns-clause-lost c h = lost h
+
+pub returns-clause-no_answer : goal.returns-clause-no_answer
+returns-clause-no_answer c h = no-answer h
+
+pub returns-clause-order : goal.returns-clause-order
+returns-clause-order c h = order h
+
+pub returns-clause-same_twice : goal.returns-clause-same_twice
+returns-clause-same_twice c h = same-twice h
