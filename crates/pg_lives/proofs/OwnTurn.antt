@@ -1,0 +1,172 @@
+-- A turn of a command: where it leads, in the course of its session.
+use Rattle.std.proofs.Common.{◌≡◌, ◌≢◌, ◌⊎◌, inl, inr, ℕ, suc, ◌+◌, ◌<◌, ◌≤◌, List, [], ◌∷◌, ◌++◌, length, map, Bool, false, Result, Err, refl, sym, ap, subst, ◌∙◌, arith}
+use Rattle.std.proofs.lemmas.List.{length-map}
+use Rattle.std.specs.Prelude.{⊤}
+use Rattle.pg_spec.specs.Book as said
+use Rattle.pg_spec.specs.Turns.{IsFirstTurn, IsOwnTurn, turn_of}
+use Rattle.pg_spec.specs.declared.stamps.Stamp.{Stamp}
+use Rattle.pg_desk.specs.History.{State, after_all, ended, IsLegal, kept}
+use Rattle.pg_desk.specs.Kept.{stored-part}
+use Rattle.pg_faults.specs.declared.error.Error.{Error}
+use Rattle.pg_faults.specs.declared.error.Error.TheVariants.{OutOfMemory}
+use Rattle.pg_query.specs.Dialogue.{Dialogue, Answer}
+use Rattle.pg_query.specs.Lives.{Deed}
+use Rattle.pg_query.specs.Meaning.{Place}
+use Rattle.pg_query.specs.Scripts.{IsRead}
+use Rattle.pg_query.specs.declared.desk_call.DeskCall.{DeskCall}
+use Rattle.pg_query.specs.declared.desk_call.Reply.{Reply}
+use Rattle.pg_query.proofs.RequestLaws.{Leads}
+use Rattle.pg_course.specs.Courses.{Asked, Course, Point, Request, Unfolds, Who, begun_in, nowhere, questions_of, requests_of, stamp_of}
+use Rattle.pg_core.specs.Counters.{Counts, ToldSo, tells}
+use Rattle.pg_core.specs.Deeds.{asked_in, requests_in}
+use Rattle.pg_core.specs.Lists.{came_of, events_of, state_behind}
+use Rattle.pg_core.specs.Outcomes.{asked}
+use Rattle.pg_core.specs.Times.{AnsweredWell, IsUpright, LackedMemory, StaysUpright, TurnedWell}
+use Rattle.pg_core.specs.Trails.{AllUnder, AreNumbered, AreToldIn, AreTurnsOf, BooksSo, CameBy, IsNext, IsTurnOf, Moment, OwnTurn, PollEnds, begun_at, goes_on, moment_of, point_of, ran_by, said_booking}
+use Rattle.pg_core.proofs.Booked.{books-so}
+use Rattle.pg_core.proofs.Counted.{told-so}
+use Rattle.pg_core.proofs.Glued.{glued}
+use Rattle.pg_core.proofs.Owned.{own-questions, own-requests}
+use Rattle.pg_core.proofs.Trail.{trail-unfolds}
+use Rattle.pg_core.proofs.Upright.{upright-turn}
+use Rattle.pg_lives.specs.Kept.{IsReady, IsUnderWay, NoneFrom, Now, book_of, first_at}
+use Rattle.pg_lives.proofs.StillReads.{still-reads}
+
+-- what stands behind a turn in which this was done
+abbrev pub behind_turn : Now → List Deed → Now
+behind_turn now ds = record { turns = suc now.turns; asked = now.asked ++ asked_in ds; state = after_all now.state (events_of ds) }
+
+-- the turn in which this was done
+abbrev pub moment_in : Now → List Deed → Moment
+moment_in now ds = moment_of now.turns (came_of (state_behind now.state ds)) ds
+
+-- A poll of a command, in this turn of its handle.
+pub record IsPolled {T : Type 0} (course : Course DeskCall Reply) (who : Who) (d : Dialogue T) (trail : List Moment) (free : ℕ) (now : Now) (p : Place T) (stamp : Stamp) (ds : List Deed) (q : Place T) : Type 0 where
+  pub ready : IsReady course who d trail now p
+  pub next : IsNext course who.handle d trail now.turns
+  pub here : IsOwnTurn course.trace who.handle now.turns now.turns
+  pub begins : IsFirstTurn course.trace who.handle free (λ place. ⊤) (first_at now.turns trail)
+  pub leads : Leads p.dialogue p.reads ds q.dialogue q.reads
+  pub legal : IsLegal now.state (events_of ds)
+  pub open_ : ended (after_all now.state (events_of ds)) ≡ false
+  pub ends : PollEnds ds q
+  pub stamped : stamp ≡ stamp_of who now.turns
+  pub under : AllUnder stamp ds
+  pub counts : Counts (map (λ a. a.question) now.asked) now.state
+  pub came : CameBy course now.turns (came_of (state_behind now.state ds))
+
+-- the numbers of its requests, and what it was told
+pub record Grows (who : Who) (now : Now) (ds : List Deed) : Type 0 where
+  pub numbered : AreNumbered who now.turns (length (book_of now)) (requests_in ds)
+  pub book : book_of (behind_turn now ds) ≡ book_of now ++ map (λ r. r.booking) (requests_in ds)
+  pub told : AreToldIn tells who now.turns (map (λ a. a.question) now.asked) (asked_in ds)
+  pub counts : Counts (map (λ a. a.question) now.asked ++ map (λ a. a.question) (asked_in ds)) (after_all now.state (events_of ds))
+
+pub grows : {T : Type 0} (who : Who) (now : Now) (d : Dialogue T) (id : ℕ) (stamp : Stamp) (ds : List Deed) (q : Dialogue T) (end : ℕ) → stamp ≡ stamp_of who now.turns → AllUnder stamp ds → Leads d id ds q end →
+    IsLegal now.state (events_of ds) → Counts (map (λ a. a.question) now.asked) now.state → Grows who now ds
+grows who now d id stamp ds q end same under l legal counts =
+    let part = stored-part now.state (events_of ds) in
+    let stored = part.legal legal in
+    let b = books-so who now.turns stamp same d id ds q end now.state under l stored in
+    let t = told-so who now.turns stamp same ds (map (λ a. a.question) now.asked) now.state under stored counts in
+    record {
+      numbered = subst (λ (n : ℕ). AreNumbered who now.turns n (requests_in ds)) (sym (length-map now.state.book said_booking)) b.numbered;
+      book = ap (λ (s : State). map said_booking s.book) (sym part.state) ∙ b.book;
+      told = t.told;
+      counts = subst (λ (s : State). Counts (map (λ a. a.question) now.asked ++ map (λ a. a.question) (asked_in ds)) s) part.state t.counts;
+    }
+
+module _ {T : Type 0} (course : Course DeskCall Reply) (who : Who) (d : Dialogue T) (trail : List Moment) (free : ℕ) (now : Now) (p : Place T) (stamp : Stamp) (ds : List Deed) (q : Place T)
+    (h : IsPolled course who d trail free now p stamp ds q) where
+  grew : Grows who now ds
+  grew = grows who now p.dialogue p.reads stamp ds q.dialogue q.reads h.stamped h.under h.leads h.legal h.counts
+
+  turn : OwnTurn d now.turns trail now.state ds q × TurnedWell d (moment_in now ds ∷ trail) (state_behind now.state ds) q
+  turn = upright-turn d now.turns trail now.state p ds q h.ready.upright h.leads h.legal h.open_ h.ends
+
+  is-turn : IsTurnOf tells course who d trail (length now.state.book) (map (λ a. a.question) now.asked) (moment_in now ds) ⊎ (q.dialogue ≡ Answer (Err OutOfMemory))
+  is-turn = glued course who d now.turns trail now.state p ds q stamp (map (λ a. a.question) now.asked) h.ready.upright h.leads h.legal h.open_ h.ends h.stamped h.under h.counts h.here h.next h.came
+
+  requests : requests_of (book_of (behind_turn now ds)) who.handle who.command ≡ (ran_by d (moment_in now ds ∷ trail)).requests
+  requests =
+      ap (λ (b : List said.Booking). requests_of b who.handle who.command) grew.book
+      ∙ own-requests who now.turns (book_of now) (requests_in ds) grew.numbered
+      ∙ ap (λ (rs : List Request). rs ++ requests_in ds) h.ready.requests
+      ∙ ap (λ (rs : List Request). (ran_by d trail).requests ++ rs) (sym turn.0.met.0)
+
+  questions : questions_of (behind_turn now ds).asked who.handle who.command ≡ (ran_by d (moment_in now ds ∷ trail)).asked
+  questions =
+      own-questions tells who now.turns (map (λ a. a.question) now.asked) now.asked (asked_in ds) grew.told
+      ∙ ap (λ (qs : List (Asked DeskCall Reply)). qs ++ asked_in ds) h.ready.questions
+      ∙ ap (λ (qs : List (Asked DeskCall Reply)). (ran_by d trail).asked ++ qs) (sym turn.0.met.1)
+
+  begun : begun_at (moment_in now ds) trail ≡ first_at now.turns trail
+  begun = by trail
+    where
+      by : (before : List Moment) → begun_at (moment_in now ds) before ≡ first_at now.turns before
+      by [] = refl
+      by (m ∷ before) = refl
+
+  turns : IsTurnOf tells course who d trail (length now.state.book) (map (λ a. a.question) now.asked) (moment_in now ds) → AreTurnsOf tells course who d (moment_in now ds ∷ trail)
+  turns is = (length now.state.book, map (λ a. a.question) now.asked, is, h.ready.turns)
+
+  no-answer : (r : Result T Error) → q.dialogue ≡ Answer r → IsRead q.dialogue → ⊥
+  no-answer r e reads = subst IsRead e reads
+
+  -- it waits on
+  pub waits-on : IsRead q.dialogue → IsUnderWay course who d free (behind_turn now ds) q
+  waits-on reads = by turn.1 is-turn
+    where
+      part : state_behind now.state ds ≡ after_all now.state (events_of ds)
+      part = (stored-part now.state (events_of ds)).state
+
+      by : TurnedWell d (moment_in now ds ∷ trail) (state_behind now.state ds) q → IsTurnOf tells course who d trail (length now.state.book) (map (λ a. a.question) now.asked) (moment_in now ds) ⊎ (q.dialogue ≡ Answer (Err OutOfMemory)) →
+          IsUnderWay course who d free (behind_turn now ds) q
+      by w (inr e) = absurd (no-answer (Err OutOfMemory) e reads)
+      by (AnsweredWell r e is) (inl t) = absurd (no-answer r e reads)
+      by (LackedMemory e) (inl t) = absurd (no-answer (Err OutOfMemory) e reads)
+      by (StaysUpright upright left) (inl t) = record {
+        last = moment_in now ds;
+        before = trail;
+        ready = record {
+          upright = subst (λ (s : State). IsUpright d (moment_in now ds ∷ trail) s q) part upright;
+          turns = turns t;
+          requests = requests;
+          questions = questions;
+        };
+        waits = reads;
+        reads = left;
+        latest = omega arith;
+        none_since = λ place from to own. omega (arith, from, to);
+        begins = subst (λ (n : ℕ). IsFirstTurn course.trace who.handle free (λ place. ⊤) n) (sym begun) h.begins;
+      }
+
+  -- it answered: so it unfolds
+  pub answers-so : (r : Result T Error) → q.dialogue ≡ Answer r → r ≢ Err OutOfMemory →
+      Unfolds course who.handle (begun_in nowhere (first_at now.turns trail)) (asked d) (requests_of (book_of (behind_turn now ds)) who.handle who.command) (questions_of (behind_turn now ds).asked who.handle who.command)
+      (record { at = point_of now.turns (ran_by d (moment_in now ds ∷ trail)); answer = r })
+  answers-so r is memory = by turn.1 is-turn
+    where
+      so : IsTurnOf tells course who d trail (length now.state.book) (map (λ a. a.question) now.asked) (moment_in now ds) → (ran_by d (moment_in now ds ∷ trail)).left ≡ Answer r →
+          Unfolds course who.handle (begun_in nowhere (first_at now.turns trail)) (asked d) (requests_of (book_of (behind_turn now ds)) who.handle who.command) (questions_of (behind_turn now ds).asked who.handle who.command)
+          (record { at = point_of now.turns (ran_by d (moment_in now ds ∷ trail)); answer = r })
+      so t left =
+          subst (λ (n : ℕ). Unfolds course who.handle (begun_in nowhere n) (asked d) (requests_of (book_of (behind_turn now ds)) who.handle who.command) (questions_of (behind_turn now ds).asked who.handle who.command)
+          (record { at = point_of now.turns (ran_by d (moment_in now ds ∷ trail)); answer = r })) begun
+          (subst (λ (rs : List Request). Unfolds course who.handle (begun_in nowhere (begun_at (moment_in now ds) trail)) (asked d) rs (questions_of (behind_turn now ds).asked who.handle who.command)
+          (record { at = point_of now.turns (ran_by d (moment_in now ds ∷ trail)); answer = r })) (sym requests)
+          (subst (λ (qs : List (Asked DeskCall Reply)). Unfolds course who.handle (begun_in nowhere (begun_at (moment_in now ds) trail)) (asked d) (ran_by d (moment_in now ds ∷ trail)).requests qs
+          (record { at = point_of now.turns (ran_by d (moment_in now ds ∷ trail)); answer = r })) (sym questions)
+          (trail-unfolds tells course who d (moment_in now ds) trail r (turns t) turn.0.met left)))
+
+      lacks : q.dialogue ≡ Answer (Err OutOfMemory) → ⊥
+      lacks e = let same : Answer r ≡ Answer (Err OutOfMemory) = sym is ∙ e in memory cc
+
+      by : TurnedWell d (moment_in now ds ∷ trail) (state_behind now.state ds) q → IsTurnOf tells course who d trail (length now.state.book) (map (λ a. a.question) now.asked) (moment_in now ds) ⊎ (q.dialogue ≡ Answer (Err OutOfMemory)) →
+          Unfolds course who.handle (begun_in nowhere (first_at now.turns trail)) (asked d) (requests_of (book_of (behind_turn now ds)) who.handle who.command) (questions_of (behind_turn now ds).asked who.handle who.command)
+          (record { at = point_of now.turns (ran_by d (moment_in now ds ∷ trail)); answer = r })
+      by w (inr e) = absurd (lacks e)
+      by (LackedMemory e) (inl t) = absurd (lacks e)
+      by (AnsweredWell r' e left) (inl t) = so t (left ∙ sym e ∙ is)
+      by (StaysUpright upright left) (inl t) =
+          absurd (no-answer r is (still-reads d now.turns trail (state_behind now.state ds) (moment_in now ds).bookings (moment_in now ds).answers q upright.reached upright.runs left))
