@@ -1,8 +1,9 @@
 -- What is kept between turns: of a running command, of a handle, and of a session. All in the course of the whole session, so that no
 -- turn changes what is known of the turns before it.
-use Rattle.std.specs.Prelude.{◌≡◌, ℕ, zero, suc, ◌+◌, ◌<◌, ◌≤◌, List, [], ◌∷◌, length, map, Option, Some, None, unwrap_or, option_map, slice_get, ⊤}
+use Rattle.std.specs.Prelude.{◌≡◌, ℕ, zero, suc, ◌+◌, ◌<◌, ◌≤◌, List, [], ◌∷◌, length, map, Option, Some, None, unwrap_or, option_map, slice_get, take, sum_by, All, IsSome, ⊤}
+use Rattle.std.specs.List.Sorted.{IsNonDecreasingBy}
 use Rattle.pg_spec.specs.Book.{Booking}
-use Rattle.pg_spec.specs.Turns.{Times, turn_of, IsFirstTurn}
+use Rattle.pg_spec.specs.Turns.{Times, delivered_before, entry_at, turn_of, IsFirstTurn}
 use Rattle.pg_desk.specs.History.{State}
 use Rattle.pg_query.specs.Dialogue.{Dialogue}
 use Rattle.pg_query.specs.Meaning.{Place}
@@ -10,8 +11,9 @@ use Rattle.pg_query.specs.Scripts.{IsRead}
 use Rattle.pg_query.specs.declared.desk_call.DeskCall.{DeskCall}
 use Rattle.pg_query.specs.declared.desk_call.Reply.{Reply}
 use Rattle.pg_course.specs.Courses.{Asked, Course, Point, Who, Unfolds, begun_in, nowhere, requests_of, questions_of}
-use Rattle.pg_course.specs.Meanings.{Ending}
-use Rattle.pg_core.specs.Counters.{tells}
+use Rattle.pg_course.specs.Meanings.{AreTold, Ending, booked_in}
+use Rattle.pg_core.specs.Counters.{Counts, tells}
+use Rattle.pg_core.specs.Lists.{IsReached}
 use Rattle.pg_core.specs.Times.{IsUpright}
 use Rattle.pg_core.specs.Trails.{Moment, AreTurnsOf, begun_at, ran_by, said_booking}
 use Rattle.pg_lives.specs.Speeches.{Speech, meaning_of}
@@ -105,3 +107,23 @@ pub record HandleKept {C T A E : Type 0} (speech : Speech C T A E) (course : Cou
   pub does : Does speech course script handle h.own past now h.running
   pub free : free_of past (length past) ≤ now.turns
   pub none_later : (j : ℕ) → length past < j → (requests_of (book_of now) handle j ≡ []) × (questions_of now.asked handle j ≡ [])
+
+-- Every booking, or question, is a command's, made in a turn so far; they are in the order of their turns.
+pub record AreKnown {C X : Type 0} (scripts : List (List C)) (owner command turn : X → ℕ) (turns : ℕ) (xs : List X) : Type 0 where
+  pub known : All (λ x. IsSome (entry_at scripts (owner x) (command x))) xs
+  pub in_order : IsNonDecreasingBy turn xs
+  pub past : All (λ x. turn x < turns) xs
+
+-- what holds of all handles between two turns
+pub record AllKept {C T A E : Type 0} (speech : Speech C T A E) (scripts : List (List C)) (course : Course DeskCall Reply) (now : Now) (handles : List (HandleState T A E)) : Type 0 where
+  pub reached : IsReached now.state
+  pub counts : Counts (map (λ a. a.question) now.asked) now.state
+  -- what the commands of each handle answered
+  pub pasts : List (List (Past A E))
+  pub as_many : length pasts ≡ length scripts
+  pub each : (i : ℕ) (script : List C) (h : HandleState T A E) (past : List (Past A E)) → slice_get scripts i ≡ Some script → slice_get handles i ≡ Some h → slice_get pasts i ≡ Some past →
+      HandleKept speech course script i h past now
+  pub book : AreKnown scripts (λ b. b.stamp.owner) (λ b. b.stamp.command) (λ b. b.stamp.turn) now.turns (book_of now)
+  pub questions : AreKnown scripts (λ a. a.stamp.owner) (λ a. a.stamp.command) (λ a. a.stamp.turn) now.turns now.asked
+  pub told : AreTold tells [] now.asked
+  pub asked_first : (k : ℕ) → k < length (book_of now) → delivered_before course.trace (booked_in (book_of now) k) ≤ sum_by length (take k course.replies)
