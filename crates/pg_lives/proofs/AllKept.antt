@@ -80,7 +80,7 @@ reads-there {C} {T} {A} {E} speech course script i g past now p k runs =
     is-booked course (record { handle = i; command = length past }) (speech.says g.own x.command) (free_of past (length past)) now p x.under_way
 
 module _ {C T A E : Type 0} (speech : Speech C T A E) (scripts : List (List C)) (course : Course DeskCall Reply) (i : ℕ) (script : List C) (now : Now) (later : List RawMessage) (handles : List (HandleState T A E)) (old new : HandleState T A E) (b : State)
-    (ds : List Deed) (answered : ℕ) (script_at : slice_get scripts i ≡ Some script) (old_at : slice_get handles i ≡ Some old) (at : IsTurnAt course i now later) (k : AllKept speech scripts course now handles) where
+    (ds : List Deed) (answered : ℕ) (script_at : slice_get scripts i ≡ Some script) (old_at : slice_get handles i ≡ Some old) (done commands : ℕ) (at : IsTurnAt course i done commands now later) (k : AllKept speech scripts course now handles) where
   -- another handle
   left-alone : (j : ℕ) → j ≢ i → (t : TurnSo speech course script i now old new b ds answered) → LeavesAlone course j now ds (behind_turn now ds)
   left-alone j other t = record {

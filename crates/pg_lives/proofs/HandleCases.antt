@@ -37,7 +37,7 @@ use Rattle.pg_lives.proofs.Rows.{free-before, free-last, get-cases, get-within, 
 use Rattle.pg_lives.proofs.Told as told
 
 module _ {C T A E : Type 0} (speech : Speech C T A E) (course : Course DeskCall Reply) (script : List C) (handle : ℕ) (now : Now) (later : List RawMessage) (old : HandleState T A E) (past : List (Past A E))
-    (commands : AreCommands speech) (at : IsTurnAt course handle now later) (k : HandleKept speech course script handle old past now) where
+    (commands : AreCommands speech) (at : IsTurnAt course handle (length past) (length script) now later) (k : HandleKept speech course script handle old past now) where
   many : length old.answers ≡ length past
   many = answered-many speech course script handle old past now k
 

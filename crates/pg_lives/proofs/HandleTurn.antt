@@ -40,18 +40,18 @@ use Rattle.pg_lives.proofs.Alone.{begin-spares, poll-spares}
 use Rattle.pg_lives.proofs.Others.{done-on}
 use Rattle.pg_lives.proofs.OwnCalls.{SameEngine, own-keep}
 use Rattle.pg_lives.proofs.OwnTurn.{Grows, IsPolled, answers-so, behind_turn, grows, moment_in, waits-on}
-use Rattle.pg_lives.proofs.Rows.{free-before, free-last, get-cases, one-more, states-before, states-last}
+use Rattle.pg_lives.proofs.Rows.{get-within}
 use Rattle.pg_lives.proofs.Told as told
 
 -- by legal events a state became another
 abbrev pub StateBecomes : State → List Event → State → Type 0
 StateBecomes s es t = IsLegal s es × (t ≡ after_all s es)
 
--- What a turn of a handle is in its session: the hub is open, and what came is counted in the course.
-pub record IsTurnAt (course : Course DeskCall Reply) (handle : ℕ) (now : Now) (later : List RawMessage) : Type 0 where
+-- What a turn of a handle is in its session: the hub is open where a command is left, and what came is counted in the course.
+pub record IsTurnAt (course : Course DeskCall Reply) (handle : ℕ) (answered commands : ℕ) (now : Now) (later : List RawMessage) : Type 0 where
   pub here : IsOwnTurn course.trace handle now.turns now.turns
   pub reached : IsReached now.state
-  pub closed : now.state.closed ≡ false
+  pub closed : answered < commands → now.state.closed ≡ false
   pub failed : now.state.failed ≡ false
   pub front : IsFrontOf (received now.state.deliveries) (sync_of later)
   pub replies : course.replies ≡ groups later
@@ -108,7 +108,7 @@ pub answered-many : {C T A E : Type 0} (speech : Speech C T A E) (course : Cours
     length h.answers ≡ length past
 answered-many {C} {T} {A} {E} speech course script handle h past now k = ap (λ (as_ : List A). length as_) k.answers ∙ length-map past (λ (x : Past A E). x.ending.answer)
 
-start-begins : {C T A E : Type 0} (speech : Speech C T A E) (course : Course DeskCall Reply) (script : List C) (handle : ℕ) (now : Now) (later : List RawMessage) (old : HandleState T A E) (past : List (Past A E)) (from : Place T) → AreCommands speech → IsTurnAt course handle now later →
+start-begins : {C T A E : Type 0} (speech : Speech C T A E) (course : Course DeskCall Reply) (script : List C) (handle : ℕ) (now : Now) (later : List RawMessage) (old : HandleState T A E) (past : List (Past A E)) (from : Place T) → AreCommands speech → IsTurnAt course handle (length past) (length script) now later →
     HandleKept speech course script handle old past now → (b : BeginsNext speech script old from) → from.dialogue ≡ speech.says old.own b.next → Started speech course script handle now old past from
 start-begins {C} {T} {A} {E} speech course script handle now later old past from commands at k b is =
     let rests : Rests course script handle past now = subst (λ (o : Option (Place T)). Does speech course script handle old.own past now o) b.none_runs k.does in
@@ -151,7 +151,7 @@ start-runs {C} {T} {A} {E} speech course script handle now old past from k is =
     }
 
 -- it is so, or memory lacked for its state
-pub starts : {C T A E : Type 0} (speech : Speech C T A E) (course : Course DeskCall Reply) (script : List C) (handle : ℕ) (now : Now) (later : List RawMessage) (old : HandleState T A E) (past : List (Past A E)) (from : Place T) → AreCommands speech → IsTurnAt course handle now later →
+pub starts : {C T A E : Type 0} (speech : Speech C T A E) (course : Course DeskCall Reply) (script : List C) (handle : ℕ) (now : Now) (later : List RawMessage) (old : HandleState T A E) (past : List (Past A E)) (from : Place T) → AreCommands speech → IsTurnAt course handle (length past) (length script) now later →
     HandleKept speech course script handle old past now → (begins : Bool) → StartsAt speech script old begins from → Started speech course script handle now old past from ⊎ (from.dialogue ≡ Answer (Err OutOfMemory))
 starts speech course script handle now later old past from commands at k false is = inl (start-runs speech course script handle now old past from k is)
 starts {C} {T} {A} {E} speech course script handle now later old past from commands at k true b = by b.asks
@@ -161,9 +161,9 @@ starts {C} {T} {A} {E} speech course script handle now later old past from comma
     by (inr lacks) = inr lacks
 
 -- what came by its turn
-came-here : (course : Course DeskCall Reply) (handle : ℕ) (now : Now) (later : List RawMessage) (ds : List Deed) → IsTurnAt course handle now later → SameEngine now.state (after_all now.state (events_of ds)) →
+came-here : (course : Course DeskCall Reply) (handle answered commands : ℕ) (now : Now) (later : List RawMessage) (ds : List Deed) → IsTurnAt course handle answered commands now later → SameEngine now.state (after_all now.state (events_of ds)) →
     CameBy course now.turns (came_of (state_behind now.state ds))
-came-here course handle now later ds at same =
+came-here course handle answered commands now later ds at same =
     let part = stored-part now.state (events_of ds) in
     let as_ : (state_behind now.state ds).deliveries ≡ now.state.deliveries = ap (λ (s : State). s.deliveries) part.state ∙ same.deliveries in
     subst (λ (xs : List Delivery). CameBy course now.turns (λ k. joined (given k xs))) (sym as_)
@@ -172,7 +172,7 @@ came-here course handle now later ds at same =
 still-open : (s t : State) → SameEngine s t → s.closed ≡ false → s.failed ≡ false → ended t ≡ false
 still-open s t same c f = ap (λ (b : Bool). b || t.failed) (same.closed ∙ c) ∙ same.failed ∙ f
 
-pub polled-so : {C T A E : Type 0} (speech : Speech C T A E) (course : Course DeskCall Reply) (script : List C) (handle : ℕ) (now : Now) (later : List RawMessage) (old : HandleState T A E) (past : List (Past A E)) (from : Place T) (stamp : Stamp) (ds : List Deed) (q : Place T) → IsTurnAt course handle now later →
+pub polled-so : {C T A E : Type 0} (speech : Speech C T A E) (course : Course DeskCall Reply) (script : List C) (handle : ℕ) (now : Now) (later : List RawMessage) (old : HandleState T A E) (past : List (Past A E)) (from : Place T) (stamp : Stamp) (ds : List Deed) (q : Place T) → IsTurnAt course handle (length past) (length script) now later →
     (st : Started speech course script handle now old past from) → stamp ≡ stamp_of (record { handle = handle; command = length past }) now.turns → AllUnder stamp ds →
     Leads from.dialogue from.reads ds q.dialogue q.reads → IsLegal now.state (events_of ds) → PollEnds ds q →
     IsPolled course (record { handle = handle; command = length past }) (speech.says old.own st.command) st.trail (free_of past (length past)) now from stamp ds q
@@ -185,12 +185,12 @@ polled-so speech course script handle now later old past from stamp ds q at st s
       begins = st.begins;
       leads = l;
       legal = legal;
-      open_ = still-open now.state (after_all now.state (events_of ds)) same at.closed at.failed;
+      open_ = still-open now.state (after_all now.state (events_of ds)) same (at.closed (get-within script (length past) st.command st.stands)) at.failed;
       ends = ends;
       stamped = stamped;
       under = under;
       counts = at.counts;
-      came = came-here course handle now later ds at same;
+      came = came-here course handle (length past) (length script) now later ds at same;
     }
 
 -- ---- what is kept then

@@ -1,5 +1,5 @@
 -- Turns of a session one after another, whatever its commands are, and what they called and asked.
-use Rattle.std.specs.Prelude.{◌≡◌, ℕ, true, false, List, [], ◌∷◌, ◌++◌, length}
+use Rattle.std.specs.Prelude.{◌≡◌, ℕ, Bool, true, false, List, [], ◌∷◌, ◌++◌, length}
 use Rattle.std.proofs.Common.{inl, inr}
 use Rattle.pg_spec.specs.Links.{LinkView}
 use Rattle.pg_spec.specs.declared.stamps.Stamp.{Stamp}
