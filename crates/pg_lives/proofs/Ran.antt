@@ -22,6 +22,7 @@ use Rattle.pg_lives.specs.States.{SessionState}
 use Rattle.pg_lives.specs.Sessions.{IsNewSession, Plays, asked_of, calls_of}
 use Rattle.pg_lives.specs.Kept.{AllKept, HandleKept, HasDone, Now, Past, book_of, free_of, states_of}
 use Rattle.pg_lives.proofs.Left.{left-at}
+use Rattle.pg_lives.proofs.Order.{turns-in-order}
 use Rattle.pg_lives.proofs.Played.{SessionEnds, session-ends}
 use Rattle.pg_lives.proofs.Rows.{get-within, places-below}
 use Rattle.pg_lives.proofs.Session.{IsWithin, now_of, past-there}
@@ -171,10 +172,10 @@ module _ {C T A E : Type 0} (speech : Speech C T A E) (scripts : List (List C)) 
 
 -- a session that was played
 pub session-has-run : {C T A E : Type 0} (speech : Speech C T A E) → AreCommands speech → (scripts : List (List C)) (given : List ℕ) (s : SessionState T A E) (l : LinkView) (t : SessionState T A E) (m : LinkView) →
-    IsNewSession speech scripts s → s.streams.closing ≡ false → s.streams.delivered ≡ 0 → (plays : Plays speech scripts given s l t m) → IsTrace given (length scripts) t.trace →
+    IsNewSession speech scripts s → s.streams.closing ≡ false → s.streams.delivered ≡ 0 → (plays : Plays speech scripts given s l t m) →
     (later : List RawMessage) → IsFrontOf (delivered_by (calls_of speech scripts given s l t m plays)) (sync_of later) → length (sync_of later) < 2 ^ 64 →
     HasRun (meaning_of speech) scripts given (map (λ h. h.answers) t.handles) (course_at t (groups later) (asked_of speech scripts given s l t m plays))
-session-has-run speech commands scripts given s l t m new active none plays made later front small =
+session-has-run speech commands scripts given s l t m new active none plays later front small =
     ran speech scripts given (groups later) (asked_of speech scripts given s l t m plays) (delivered_by (calls_of speech scripts given s l t m plays)) t
     (session-ends speech scripts given (course_at t (groups later) (asked_of speech scripts given s l t m plays)) later s l t m commands new active none plays
-    (record { turns = ([], append-nil t.trace); front = front; replies = refl; small = small })) made
+    (record { turns = ([], append-nil t.trace); front = front; replies = refl; small = small })) (turns-in-order speech scripts given s l t m new none plays)

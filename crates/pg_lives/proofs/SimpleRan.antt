@@ -20,7 +20,6 @@ use Rattle.pg_session.proofs.Crossing.All.{fewer-messages, filter-short}
 use Rattle.pg_session.proofs.Crossing.End.{of-bytes}
 use Rattle.pg_session.proofs.EndsWell.{came-so}
 use Rattle.pg_session.proofs.LivesLink.{came-behind}
-use Rattle.pg_session.proofs.Order.Holds.{turns_are_in_order}
 use Rattle.pg_session.specs.Crossed.{session_of}
 use Rattle.pg_session.specs.Lives.{calls_of}
 use Rattle.pg_session.specs.Sessions.{HasPlayed}
@@ -44,7 +43,7 @@ has-run-by settings nonce scripts given before after report p later front small 
     let so = plays-so scripts given p.new p.link p.last after p.is_new p.plays in
     let qs = any.asked_of simple_speech scripts given (state_of p.new) p.link (state_of p.last) after so.plays in
     let ran = session-has-run simple_speech are-commands scripts given (state_of p.new) p.link (state_of p.last) after (new-so scripts p.new p.is_new) p.fresh.active p.fresh.delivered so.plays
-    (turns_are_in_order scripts given p.new p.last p.link after p.is_new p.fresh.delivered p.plays) later
+    later
     (subst (λ (es : List Event). IsFrontOf (delivered_by es) (sync_of later)) (sym so.calls) front) small in
     record {
       asked = qs;
