@@ -1,10 +1,10 @@
 -- What holds of all handles is kept by each turn.
-use Rattle.std.proofs.Common.{◌≡◌, ◌≢◌, ◌⊎◌, inl, inr, ℕ, zero, suc, ◌+◌, ◌-◌, ◌^◌, ◌<◌, ◌≤◌, ◌==◌, ◌&&◌, List, [], ◌∷◌, ◌++◌, length, map, set, Bool, true, false, Option, Some, None, refl, sym, ap, subst, ◌∙◌, arith, slice_get, take, sum_by}
+use Rattle.std.proofs.Common.{◌≡◌, ◌≢◌, ◌⊎◌, inl, inr, ℕ, zero, suc, ◌-◌, ◌^◌, ◌<◌, ◌≤◌, ◌==◌, ◌&&◌, List, [], ◌∷◌, ◌++◌, length, map, set, Bool, true, false, Option, Some, refl, sym, ap, subst, ◌∙◌, arith, slice_get, take, sum_by}
 use Rattle.std.specs.Prelude.{IsSome, is_some}
 use Rattle.std.specs.Option.{option_and_then}
 use Rattle.std.proofs.lemmas.Bool.{cases_eq, cases_lt}
 use Rattle.std.proofs.lemmas.Bool.Decides.{nat_tests}
-use Rattle.std.proofs.lemmas.List.{length-append, length-map, length-set, map-append}
+use Rattle.std.proofs.lemmas.List.{length-map, length-set, map-append}
 use Rattle.std.proofs.lemmas.Option.{same_Some}
 use Rattle.pg_spec.specs.Book as said
 use Rattle.pg_spec.specs.RawMessages.{RawMessage}
@@ -14,11 +14,11 @@ use Rattle.pg_query.specs.Lives.{Deed}
 use Rattle.pg_query.specs.Meaning.{Place}
 use Rattle.pg_query.specs.declared.desk_call.DeskCall.{DeskCall}
 use Rattle.pg_query.specs.declared.desk_call.Reply.{Reply}
-use Rattle.pg_course.specs.Courses.{Asked, Course, Request, Who, questions_of, requests_of}
+use Rattle.pg_course.specs.Courses.{Asked, Course, requests_of}
 use Rattle.pg_course.specs.Meanings.{booked_in}
 use Rattle.pg_core.specs.Counters.{Counts, number_to, tells}
 use Rattle.pg_core.specs.Deeds.{asked_in, requests_in}
-use Rattle.pg_core.specs.Lists.{SparesAll, came_of, events_of}
+use Rattle.pg_core.specs.Lists.{SparesAll, events_of}
 use Rattle.pg_core.specs.Times.{HangsUpNone}
 use Rattle.pg_core.specs.Trails.{said_booking}
 use Rattle.pg_core.proofs.Counts.{came-by}
@@ -26,14 +26,14 @@ use Rattle.pg_core.proofs.Owned.{others-questions, others-requests-apart}
 use Rattle.pg_core.proofs.Steps.{firm, reached-on}
 use Rattle.pg_lives.specs.Speeches.{Speech}
 use Rattle.pg_lives.specs.Handles.{HandleState}
-use Rattle.pg_lives.specs.Kept.{AllKept, AreKnown, Does, HandleKept, IsUnderWay, NoneFrom, Now, Past, Runs, book_of, free_of}
+use Rattle.pg_lives.specs.Kept.{AllKept, AreKnown, Does, HandleKept, NoneFrom, Now, Past, Runs, book_of, free_of}
 use Rattle.pg_lives.proofs.Alone.{is-booked}
 use Rattle.pg_lives.proofs.AskedFirst.{asked-first}
 use Rattle.pg_lives.proofs.HandleTurn.{IsTurnAt, TurnSo}
 use Rattle.pg_lives.proofs.Known.{AreNew, booked-before, booked-now, known-grows, known-later, new-bookings, new-questions, told-more}
 use Rattle.pg_lives.proofs.Numbers.{IsBookedBy, one-owner, reads-booked}
 use Rattle.pg_lives.proofs.Others.{LeavesAlone, others-keep}
-use Rattle.pg_lives.proofs.OwnTurn.{Grows, behind_turn}
+use Rattle.pg_lives.proofs.OwnTurn.{behind_turn}
 use Rattle.pg_lives.proofs.Rows.{get-within}
 
 -- ---- writes

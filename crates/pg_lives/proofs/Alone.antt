@@ -1,13 +1,12 @@
 -- What a command's poll leaves alone.
-use Rattle.std.proofs.Common.{◌≡◌, ◌≢◌, ℕ, ◌<◌, List, [], ◌∷◌, length, Bool, false, Ok, refl, sym, subst}
+use Rattle.std.proofs.Common.{◌≡◌, ◌≢◌, ℕ, ◌<◌, List, length, sym, subst}
 use Rattle.pg_desk.specs.History.{State, IsLegal}
 use Rattle.pg_query.specs.Dialogue.{Dialogue, Answer, Ask, Send, Leave, Read, Put, Finish, Close, HangUp, Call, Hear}
-use Rattle.pg_query.specs.Lives.{Deed}
+use Rattle.pg_query.specs.Lives.{Deed, Leads}
 use Rattle.pg_query.specs.Meaning.{Place}
 use Rattle.pg_query.specs.Scripts.{IsRead}
 use Rattle.pg_query.specs.declared.desk_call.DeskCall.{DeskCall}
 use Rattle.pg_query.specs.declared.desk_call.Reply.{Reply}
-use Rattle.pg_query.proofs.RequestLaws.{Leads}
 use Rattle.pg_course.specs.Courses.{Course, Who}
 use Rattle.pg_core.specs.Lists.{SparesAll, events_of}
 use Rattle.pg_core.specs.Times.{Fits, HangsUpNone, IsCommand, IsOff, IsSane, IsThere}

@@ -1,5 +1,5 @@
 -- A turn of the connection keeps what holds of a session.
-use Rattle.std.proofs.Common.{◌≡◌, ◌⊎◌, inl, inr, ℕ, suc, ◌+◌, ◌<◌, ◌≤◌, List, [], ◌∷◌, ◌++◌, length, Bool, true, false, Option, Some, None, Result, Ok, Err, refl, sym, ap, subst, ◌∙◌, arith}
+use Rattle.std.proofs.Common.{◌≡◌, ◌⊎◌, inl, inr, ℕ, suc, ◌<◌, ◌≤◌, List, ◌++◌, length, Bool, true, false, Option, Some, None, Result, Ok, Err, sym, ap, subst, ◌∙◌, arith}
 use Rattle.std.proofs.lemmas.List.{length-append}
 use Rattle.futures.specs.declared.task.Poll.{Poll}
 use Rattle.futures.specs.declared.task.Poll.TheVariants.{Ready, Pending}
@@ -14,7 +14,7 @@ use Rattle.pg_connect.specs.Passed.{AllEngineCalls, delivered_by}
 use Rattle.pg_connect.specs.Passes.{risen}
 use Rattle.pg_connect.specs.declared.streams.Streams.{Streams}
 use Rattle.pg_desk.specs.declared.event.Event.{Event}
-use Rattle.pg_desk.specs.History.{IsFrontOf, State, after_all, received}
+use Rattle.pg_desk.specs.History.{IsFrontOf, after_all, received}
 use Rattle.pg_errors.specs.declared.async_message.AsyncMessage.{AsyncMessage}
 use Rattle.pg_faults.specs.declared.error.Error.{Error}
 use Rattle.pg_hub.specs.Fits.{Fits, HubBecomes}
@@ -33,11 +33,11 @@ use Rattle.pg_lives.specs.Handles.{HandleState}
 use Rattle.pg_lives.specs.States.{SessionState}
 use Rattle.pg_lives.specs.Turns.{ConnectionMade}
 use Rattle.pg_lives.specs.Kept.{AllKept, NoneFrom}
-use Rattle.pg_lives.specs.SessionKept.{SessionKept, left}
+use Rattle.pg_lives.specs.SessionKept.{IsWithin, SessionKept, left}
 use Rattle.pg_lives.proofs.AllKept.{nobodys-keep}
 use Rattle.pg_lives.proofs.Hubs.{Becomes, becomes, engine-nobodys, nobodys, nobodys-events}
 use Rattle.pg_lives.proofs.Rows.{one-more}
-use Rattle.pg_lives.proofs.Session.{IsWithin, now_of, turn-at}
+use Rattle.pg_lives.proofs.Session.{now_of, turn-at}
 
 -- what a poll's calls of the hub did, and that it began to close only where nothing more comes
 record EnginePolled (a b : Standing) (old new : Streams) (events : List Event) : Type 0 where

@@ -1,5 +1,5 @@
 -- The cases of a handle's turn: nothing is left to do, its command waits, or it answered.
-use Rattle.std.proofs.Common.{◌≡◌, ◌≢◌, ◌⊎◌, inl, inr, ℕ, suc, ◌+◌, ◌<◌, ◌≤◌, List, [], ◌∷◌, ◌++◌, length, map, Bool, true, false, Option, Some, None, Result, Err, refl, sym, ap, subst, ◌∙◌, arith, slice_get}
+use Rattle.std.proofs.Common.{◌≡◌, ◌≢◌, ◌⊎◌, inl, inr, ℕ, suc, ◌+◌, ◌<◌, ◌≤◌, List, [], ◌∷◌, ◌++◌, length, map, Bool, Option, Some, None, Result, Err, refl, sym, ap, subst, ◌∙◌, arith, slice_get}
 use Rattle.std.proofs.lemmas.List.{append-nil, map-append}
 use Rattle.std.proofs.lemmas.Option.{same_Some}
 use Rattle.std.specs.Prelude.{⊤}
@@ -11,27 +11,25 @@ use Rattle.pg_desk.specs.declared.event.Event.{Event}
 use Rattle.pg_faults.specs.declared.error.Error.{Error}
 use Rattle.pg_faults.specs.declared.error.Error.TheVariants.{OutOfMemory}
 use Rattle.pg_query.specs.Dialogue.{Dialogue, Answer}
-use Rattle.pg_query.specs.Lives.{Deed}
-use Rattle.pg_query.specs.Meaning.{Goes, GoesToAnswer, Pauses, Place}
+use Rattle.pg_query.specs.Lives.{Deed, Leads}
+use Rattle.pg_query.specs.Meaning.{Place}
 use Rattle.pg_query.specs.Scripts.{IsRead}
 use Rattle.pg_query.specs.declared.desk_call.DeskCall.{DeskCall}
 use Rattle.pg_query.specs.declared.desk_call.Reply.{Reply}
-use Rattle.pg_query.proofs.RequestLaws.{Leads, stays-answered}
+use Rattle.pg_query.proofs.RequestLaws.{stays-answered}
 use Rattle.pg_course.specs.Courses.{Asked, Course, Who, begun_in, nowhere, questions_of, requests_of, stamp_of}
-use Rattle.pg_course.specs.Meanings.{Ending}
 use Rattle.pg_core.specs.Counters.{Counts}
-use Rattle.pg_core.specs.Deeds.{asked_in}
 use Rattle.pg_core.specs.Lists.{events_of}
 use Rattle.pg_core.specs.Outcomes.{asked}
-use Rattle.pg_core.specs.Trails.{AllUnder, PollEnds, point_of, ran_by}
+use Rattle.pg_core.specs.Trails.{PollEnds, point_of, ran_by}
 use Rattle.pg_core.proofs.Polls.{IsPoll, answer-ends, pause-ends, poll-is, under_stamp}
-use Rattle.pg_lives.specs.Speeches.{AreCommands, Speech, meaning_of}
+use Rattle.pg_lives.specs.Speeches.{AreCommands, Speech}
 use Rattle.pg_lives.specs.Handles.{HandleState}
 use Rattle.pg_lives.specs.HandleTurns.{Answers, Idles, Waits}
-use Rattle.pg_lives.specs.Kept.{Does, HandleKept, HasDone, IsUnderWay, Now, Past, Rests, Runs, book_of, first_at, free_of, states_of}
+use Rattle.pg_lives.specs.Kept.{Does, HandleKept, HasDone, Now, Past, Rests, book_of, first_at, free_of, states_of}
 use Rattle.pg_lives.proofs.HandleTurn.{IsTurnAt, Started, StateBecomes, TurnSo, answered-many, done-before, none-behind, polled-so, starts}
 use Rattle.pg_lives.proofs.Others.{done-on}
-use Rattle.pg_lives.proofs.OwnCalls.{SameEngine, own-keep}
+use Rattle.pg_lives.proofs.OwnCalls.{own-keep}
 use Rattle.pg_lives.proofs.OwnTurn.{Grows, IsPolled, answers-so, behind_turn, grows, moment_in, waits-on}
 use Rattle.pg_lives.proofs.Rows.{free-before, free-last, get-cases, get-within, one-more, places-below, states-before, states-last}
 use Rattle.pg_lives.proofs.Told as told

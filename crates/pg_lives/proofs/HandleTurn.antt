@@ -1,47 +1,40 @@
 -- A turn of a handle: what is kept of it then, and what it leaves alone.
-use Rattle.std.proofs.Common.{◌≡◌, ◌≢◌, ◌⊎◌, inl, inr, ℕ, suc, ◌+◌, ◌<◌, ◌≤◌, ◌==◌, ◌&&◌, ◌||◌, List, [], ◌∷◌, ◌++◌, length, map, Bool, true, false, Option, Some, None, Result, Err, refl, sym, ap, subst, ◌∙◌, arith, slice_get}
+use Rattle.std.proofs.Common.{◌≡◌, ◌≢◌, ◌⊎◌, inl, inr, ℕ, ◌+◌, ◌<◌, ◌≤◌, ◌==◌, ◌&&◌, ◌||◌, List, [], ◌∷◌, length, map, Bool, true, false, Option, Some, Err, sym, ap, subst, ◌∙◌, arith, slice_get}
 use Rattle.std.specs.Prelude.{⊤}
 use Rattle.std.proofs.lemmas.Bool.Decides.{nat_tests}
-use Rattle.std.proofs.lemmas.List.{append-nil, length-map, map-append}
-use Rattle.std.proofs.lemmas.Option.{same_Some}
+use Rattle.std.proofs.lemmas.List.{length-map}
 use Rattle.pg_spec.specs.Book as said
 use Rattle.pg_spec.specs.RawMessages.{RawMessage, groups, sync_of}
-use Rattle.pg_spec.specs.Turns.{IsFirstTurn, IsOwnTurn, delivered_before, turn_of}
+use Rattle.pg_spec.specs.Turns.{IsFirstTurn, IsOwnTurn, delivered_before}
 use Rattle.pg_spec.specs.declared.stamps.Stamp.{Stamp}
-use Rattle.pg_desk.specs.History.{Delivery, IsFrontOf, IsLegal, State, after_all, ended, given, joined, kept, received}
+use Rattle.pg_desk.specs.History.{Delivery, IsFrontOf, IsLegal, State, after_all, ended, given, joined, received}
 use Rattle.pg_desk.specs.Kept.{stored-part}
 use Rattle.pg_desk.specs.declared.event.Event.{Event}
-use Rattle.pg_faults.specs.declared.error.Error.{Error}
 use Rattle.pg_faults.specs.declared.error.Error.TheVariants.{OutOfMemory}
 use Rattle.pg_query.specs.Dialogue.{Dialogue, Answer}
-use Rattle.pg_query.specs.Lives.{Deed}
-use Rattle.pg_query.specs.Meaning.{Goes, Place}
-use Rattle.pg_query.specs.Scripts.{IsRead}
+use Rattle.pg_query.specs.Lives.{Deed, Leads}
+use Rattle.pg_query.specs.Meaning.{Place}
 use Rattle.pg_query.specs.declared.desk_call.DeskCall.{DeskCall}
 use Rattle.pg_query.specs.declared.desk_call.Reply.{Reply}
-use Rattle.pg_query.proofs.RequestLaws.{Leads, stays-answered}
-use Rattle.pg_course.specs.Courses.{Asked, Course, Request, Who, questions_of, requests_of, stamp_of}
+use Rattle.pg_course.specs.Courses.{Course, questions_of, requests_of, stamp_of}
 use Rattle.pg_core.specs.Counters.{Counts, tells}
 use Rattle.pg_core.specs.Deeds.{asked_in, requests_in}
 use Rattle.pg_core.specs.Lists.{IsReached, SparesAll, came_of, events_of, state_behind}
-use Rattle.pg_core.specs.Outcomes.{asked}
-use Rattle.pg_core.specs.Times.{HangsUpNone, IsCommand}
-use Rattle.pg_core.specs.Trails.{AllUnder, CameBy, IsNext, Moment, PollEnds, begun_at, point_of, ran_by}
+use Rattle.pg_core.specs.Times.{HangsUpNone}
+use Rattle.pg_core.specs.Trails.{AllUnder, CameBy, IsNext, Moment, PollEnds}
 use Rattle.pg_core.proofs.Counts.{came-by}
 use Rattle.pg_core.proofs.Owned.{others-questions, others-requests-apart}
-use Rattle.pg_core.proofs.Polls.{answer-ends, pause-ends, poll-is, under_stamp}
 use Rattle.pg_core.proofs.Steps.{firm}
 use Rattle.pg_core.proofs.Upright.{upright-begins}
-use Rattle.pg_lives.specs.Speeches.{AreCommands, Speech, meaning_of}
+use Rattle.pg_lives.specs.Speeches.{AreCommands, Speech}
 use Rattle.pg_lives.specs.Handles.{HandleState}
-use Rattle.pg_lives.specs.HandleTurns.{Answers, AsksCommand, BeginsNext, Idles, StartsAt, Waits}
-use Rattle.pg_lives.specs.Kept.{Does, HandleKept, HasDone, IsReady, NoneFrom, Now, Past, Rests, Runs, book_of, first_at, free_of, states_of}
+use Rattle.pg_lives.specs.HandleTurns.{AsksCommand, BeginsNext, StartsAt}
+use Rattle.pg_lives.specs.Kept.{Does, HandleKept, HasDone, IsReady, Now, Past, Rests, Runs, book_of, first_at, free_of, states_of}
 use Rattle.pg_lives.proofs.Alone.{begin-spares, poll-spares}
 use Rattle.pg_lives.proofs.Others.{done-on}
 use Rattle.pg_lives.proofs.OwnCalls.{SameEngine, own-keep}
-use Rattle.pg_lives.proofs.OwnTurn.{Grows, IsPolled, answers-so, behind_turn, grows, moment_in, waits-on}
+use Rattle.pg_lives.proofs.OwnTurn.{Grows, IsPolled, behind_turn}
 use Rattle.pg_lives.proofs.Rows.{get-within}
-use Rattle.pg_lives.proofs.Told as told
 
 -- by legal events a state became another
 abbrev pub StateBecomes : State → List Event → State → Type 0

@@ -1,6 +1,5 @@
 -- Turns over a hub, as turns over the states that it stands for.
-use Rattle.std.proofs.Common.{◌≡◌, ◌⊎◌, inl, inr, ℕ, zero, suc, ◌-◌, ◌≤◌, ◌<◌, List, [], ◌∷◌, ◌++◌, length, Bool, true, false, Ok, Err, refl, sym, ap, subst, ◌∙◌, arith}
-use Rattle.pg_spec.specs.RawMessages.{RawMessage}
+use Rattle.std.proofs.Common.{◌≡◌, ℕ, ◌≤◌, ◌<◌, List, [], ◌∷◌, length, Bool, Ok, Err, refl, sym, ap, subst, ◌∙◌, arith}
 use Rattle.pg_spec.specs.declared.stamps.Stamp.{Stamp}
 use Rattle.pg_connect.specs.Passed.{AllEngineCalls, IsEngineCall}
 use Rattle.pg_desk.specs.declared.event.Deliver.TheVariants as delivering
@@ -20,7 +19,7 @@ use Rattle.pg_core.specs.Times.{HangsUpNone}
 use Rattle.pg_core.proofs.Polls.{under_stamp}
 use Rattle.pg_lives.specs.Speeches.{Speech}
 use Rattle.pg_lives.specs.Handles.{HandleState}
-use Rattle.pg_lives.specs.HandleTurns.{Answers, Idles, Waits}
+use Rattle.pg_lives.specs.HandleTurns.{Answers, Waits}
 use Rattle.pg_lives.specs.Kept.{NoneFrom, Now}
 use Rattle.pg_lives.proofs.AllKept.{AreNobodys}
 use Rattle.pg_lives.proofs.HandleTurn.{StateBecomes}

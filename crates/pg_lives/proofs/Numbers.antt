@@ -1,5 +1,5 @@
 -- The request that a command reads is one of its own, so no two commands read the same.
-use Rattle.std.proofs.Common.{◌≡◌, ◌≢◌, ◌⊎◌, inl, inr, ℕ, zero, suc, ◌+◌, ◌==◌, ◌&&◌, List, [], ◌∷◌, ◌++◌, take, drop, filter, Bool, true, false, if◌then◌else◌, Option, Some, None, Result, Ok, Err, refl, sym, ap, subst, ◌∙◌, arith, slice_get}
+use Rattle.std.proofs.Common.{◌≡◌, ◌⊎◌, inl, inr, ℕ, suc, ◌+◌, ◌==◌, ◌&&◌, List, [], ◌∷◌, ◌++◌, take, drop, filter, Bool, true, false, if◌then◌else◌, Option, Some, None, Result, Ok, Err, refl, sym, ap, subst, ◌∙◌, arith, slice_get}
 use Rattle.std.proofs.lemmas.Bool.{eqb-true}
 use Rattle.std.proofs.lemmas.Option.{same_Some}
 use Rattle.pg_spec.specs.Book.{Booking, is_of}
@@ -8,10 +8,9 @@ use Rattle.pg_faults.specs.declared.error.Error.{Error}
 use Rattle.pg_query.specs.Dialogue.{Dialogue, Answer, Ask, Send, Leave, Read, Put, Finish, Close, HangUp, Call, Hear}
 use Rattle.pg_query.specs.Meaning.{Place}
 use Rattle.pg_query.specs.Scripts.{IsRead}
-use Rattle.pg_query.specs.declared.desk_call.Cleanup.{Cleanup}
 use Rattle.pg_query.specs.declared.desk_call.DeskCall.{DeskCall}
 use Rattle.pg_query.specs.declared.desk_call.Reply.{Reply}
-use Rattle.pg_course.specs.Courses.{Asked, Course, Request, Who, numbered, requests_of}
+use Rattle.pg_course.specs.Courses.{Asked, Course, Request, Who, numbered}
 use Rattle.pg_course.specs.Dialogues.{decided_after}
 use Rattle.pg_core.specs.Runs.{At, Ran, ReadsNothing, of_request, run, stays}
 use Rattle.pg_core.specs.Trails.{Moment, ran_by}

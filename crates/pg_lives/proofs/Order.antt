@@ -1,5 +1,5 @@
 -- The turns of a session are those of its turn list, whatever its commands are.
-use Rattle.std.proofs.Common.{◌≡◌, ℕ, ◌+◌, ◌-◌, ◌<◌, ◌≤◌, List, [], ◌∷◌, ◌++◌, length, Bool, true, false, Option, Some, None, Result, Ok, Err, inl, inr, refl, sym, ap, subst, ◌∙◌, arith, append_assoc}
+use Rattle.std.proofs.Common.{◌≡◌, ℕ, ◌+◌, ◌-◌, ◌≤◌, List, [], ◌∷◌, ◌++◌, length, Bool, true, false, Option, Some, None, Result, Ok, Err, inl, inr, refl, sym, ap, subst, ◌∙◌, arith, append_assoc}
 use Rattle.std.proofs.lemmas.List.{append-nil, get_or_at, length_push}
 use Rattle.futures.specs.declared.task.Poll.{Poll}
 use Rattle.futures.specs.declared.task.Poll.TheVariants.{Ready, Pending}
@@ -17,7 +17,7 @@ use Rattle.pg_session.proofs.Order.Places.{in_order_at}
 use Rattle.pg_session.specs.Sessions.{InOrder}
 use Rattle.pg_session.specs.Turns.{HandsOn}
 use Rattle.pg_lives.specs.Speeches.{Speech}
-use Rattle.pg_lives.specs.Sessions.{EndsWith, IsNewSession, MakesAll, Plays}
+use Rattle.pg_lives.specs.Sessions.{IsNewSession, MakesAll, Plays}
 use Rattle.pg_lives.specs.States.{SessionState}
 use Rattle.pg_lives.specs.Turns.{Makes}
 

@@ -1,8 +1,8 @@
 -- What others do leaves what is kept of a handle as it is.
-use Rattle.std.proofs.Common.{◌≡◌, ◌⊎◌, inl, inr, ℕ, suc, ◌+◌, ◌<◌, ◌≤◌, List, [], ◌∷◌, length, Option, Some, None, refl, sym, ap, subst, ◌∙◌, arith, slice_get}
+use Rattle.std.proofs.Common.{◌≡◌, ◌⊎◌, inl, inr, ℕ, ◌+◌, ◌<◌, ◌≤◌, List, ◌∷◌, length, Option, Some, None, refl, sym, subst, ◌∙◌, arith, slice_get}
 use Rattle.std.proofs.lemmas.Bool.{cases_lt}
 use Rattle.std.specs.Prelude.{⊤}
-use Rattle.pg_spec.specs.Turns.{turn_of, IsFirstTurn}
+use Rattle.pg_spec.specs.Turns.{IsFirstTurn}
 use Rattle.pg_desk.specs.History.{State, after_all, IsLegal}
 use Rattle.pg_query.specs.Dialogue.{Dialogue}
 use Rattle.pg_query.specs.Lives.{Deed}
@@ -15,7 +15,7 @@ use Rattle.pg_core.specs.Times.{HangsUpNone, IsUpright}
 use Rattle.pg_core.proofs.Upright.{upright-others}
 use Rattle.pg_lives.specs.Speeches.{Speech, meaning_of}
 use Rattle.pg_lives.specs.Handles.{HandleState}
-use Rattle.pg_lives.specs.Kept.{Does, HandleKept, HasDone, IsUnderWay, NoneFrom, Now, Past, Rests, Runs, book_of, free_of, states_of}
+use Rattle.pg_lives.specs.Kept.{Does, HandleKept, HasDone, IsUnderWay, NoneFrom, Now, Past, book_of, free_of, states_of}
 
 -- What others did, as a handle sees it: no turn of it was made, and nothing was booked or asked in its name.
 pub record LeavesAlone (course : Course DeskCall Reply) (handle : ℕ) (now : Now) (L : List Deed) (later : Now) : Type 0 where

@@ -1,35 +1,34 @@
 -- A turn of a command: where it leads, in the course of its session.
-use Rattle.std.proofs.Common.{◌≡◌, ◌≢◌, ◌⊎◌, inl, inr, ℕ, suc, ◌+◌, ◌<◌, ◌≤◌, List, [], ◌∷◌, ◌++◌, length, map, Bool, false, Result, Err, refl, sym, ap, subst, ◌∙◌, arith}
+use Rattle.std.proofs.Common.{◌≡◌, ◌≢◌, ◌⊎◌, inl, inr, ℕ, suc, List, [], ◌∷◌, ◌++◌, length, map, false, Result, Err, refl, sym, ap, subst, ◌∙◌, arith}
 use Rattle.std.proofs.lemmas.List.{length-map}
 use Rattle.std.specs.Prelude.{⊤}
 use Rattle.pg_spec.specs.Book as said
-use Rattle.pg_spec.specs.Turns.{IsFirstTurn, IsOwnTurn, turn_of}
+use Rattle.pg_spec.specs.Turns.{IsFirstTurn, IsOwnTurn}
 use Rattle.pg_spec.specs.declared.stamps.Stamp.{Stamp}
-use Rattle.pg_desk.specs.History.{State, after_all, ended, IsLegal, kept}
+use Rattle.pg_desk.specs.History.{State, after_all, ended, IsLegal}
 use Rattle.pg_desk.specs.Kept.{stored-part}
 use Rattle.pg_faults.specs.declared.error.Error.{Error}
 use Rattle.pg_faults.specs.declared.error.Error.TheVariants.{OutOfMemory}
 use Rattle.pg_query.specs.Dialogue.{Dialogue, Answer}
-use Rattle.pg_query.specs.Lives.{Deed}
+use Rattle.pg_query.specs.Lives.{Deed, Leads}
 use Rattle.pg_query.specs.Meaning.{Place}
 use Rattle.pg_query.specs.Scripts.{IsRead}
 use Rattle.pg_query.specs.declared.desk_call.DeskCall.{DeskCall}
 use Rattle.pg_query.specs.declared.desk_call.Reply.{Reply}
-use Rattle.pg_query.proofs.RequestLaws.{Leads}
-use Rattle.pg_course.specs.Courses.{Asked, Course, Point, Request, Unfolds, Who, begun_in, nowhere, questions_of, requests_of, stamp_of}
-use Rattle.pg_core.specs.Counters.{Counts, ToldSo, tells}
+use Rattle.pg_course.specs.Courses.{Asked, Course, Request, Unfolds, Who, begun_in, nowhere, questions_of, requests_of, stamp_of}
+use Rattle.pg_core.specs.Counters.{Counts, tells}
 use Rattle.pg_core.specs.Deeds.{asked_in, requests_in}
 use Rattle.pg_core.specs.Lists.{came_of, events_of, state_behind}
 use Rattle.pg_core.specs.Outcomes.{asked}
 use Rattle.pg_core.specs.Times.{AnsweredWell, IsUpright, LackedMemory, StaysUpright, TurnedWell}
-use Rattle.pg_core.specs.Trails.{AllUnder, AreNumbered, AreToldIn, AreTurnsOf, BooksSo, CameBy, IsNext, IsTurnOf, Moment, OwnTurn, PollEnds, begun_at, goes_on, moment_of, point_of, ran_by, said_booking}
+use Rattle.pg_core.specs.Trails.{AllUnder, AreNumbered, AreToldIn, AreTurnsOf, CameBy, IsNext, IsTurnOf, Moment, OwnTurn, PollEnds, begun_at, moment_of, point_of, ran_by, said_booking}
 use Rattle.pg_core.proofs.Booked.{books-so}
 use Rattle.pg_core.proofs.Counted.{told-so}
 use Rattle.pg_core.proofs.Glued.{glued}
 use Rattle.pg_core.proofs.Owned.{own-questions, own-requests}
 use Rattle.pg_core.proofs.Trail.{trail-unfolds}
 use Rattle.pg_core.proofs.Upright.{upright-turn}
-use Rattle.pg_lives.specs.Kept.{IsReady, IsUnderWay, NoneFrom, Now, book_of, first_at}
+use Rattle.pg_lives.specs.Kept.{IsReady, IsUnderWay, Now, book_of, first_at}
 use Rattle.pg_lives.proofs.StillReads.{still-reads}
 
 -- what stands behind a turn in which this was done

@@ -1,22 +1,19 @@
 -- What holds of a session from its first turn to its last.
-use Rattle.std.proofs.Common.{◌≡◌, ◌⊎◌, inl, inr, ℕ, zero, suc, ◌+◌, ◌^◌, ◌<◌, ◌≤◌, List, [], ◌∷◌, ◌++◌, length, map, Bool, true, false, Option, Some, None, Ok, refl, sym, ap, subst, ◌∙◌, arith, slice_get, append_assoc}
+use Rattle.std.proofs.Common.{◌≡◌, inl, inr, ℕ, zero, suc, List, [], ◌∷◌, ◌++◌, length, map, Bool, true, false, Some, Ok, refl, sym, ap, subst, ◌∙◌, arith, slice_get, append_assoc}
 use Rattle.std.proofs.lemmas.List.{append-nil, length-map}
 use Rattle.pg_spec.specs.Links.{LinkView}
-use Rattle.pg_spec.specs.RawMessages.{RawMessage, groups, sync_of}
+use Rattle.pg_spec.specs.RawMessages.{RawMessage, sync_of}
 use Rattle.pg_spec.specs.Turns.{delivered_before}
 use Rattle.pg_spec.specs.declared.stamps.TurnMark.{TurnMark}
 use Rattle.pg_connect.proofs.Joining.{delivered_by-append}
 use Rattle.pg_connect.specs.Passed.{delivered_by}
-use Rattle.pg_connect.specs.Passes.{risen}
 use Rattle.pg_desk.specs.declared.event.Event.TheVariants.{CloseRequests}
 use Rattle.pg_desk.specs.History.{IsFrontOf, State, after_all, received, start}
 use Rattle.pg_hub.specs.Fits.{Fits}
 use Rattle.pg_hub.specs.Standing.{Standing}
-use Rattle.pg_query.specs.Meaning.{Place}
 use Rattle.pg_query.specs.declared.desk_call.DeskCall.{DeskCall}
 use Rattle.pg_query.specs.declared.desk_call.Reply.{Reply}
 use Rattle.pg_course.specs.Courses.{Asked, Course}
-use Rattle.pg_core.specs.Lists.{IsReached, events_of}
 use Rattle.pg_core.proofs.Steps.{reached-start}
 use Rattle.pg_session.specs.Turns.{Closes}
 use Rattle.pg_lives.specs.Speeches.{AreCommands, Speech}
@@ -24,14 +21,14 @@ use Rattle.pg_lives.specs.Handles.{HandleState, idle_handle}
 use Rattle.pg_lives.specs.States.{SessionState, commands_in, new_handles}
 use Rattle.pg_lives.specs.Turns.{Makes}
 use Rattle.pg_lives.specs.Sessions.{IsNewSession, MakesAll, Plays, asked_in_all, asked_in_turn, asked_of, calls_in, calls_in_turn, calls_of}
-use Rattle.pg_lives.specs.Kept.{AllKept, HandleKept, Now, Past, book_of}
-use Rattle.pg_lives.specs.SessionKept.{SessionKept, left}
+use Rattle.pg_lives.specs.Kept.{AllKept, HandleKept, Past}
+use Rattle.pg_lives.specs.SessionKept.{IsWithin, SessionKept, left}
 use Rattle.pg_lives.proofs.AllKept.{nobodys-keep}
 use Rattle.pg_lives.proofs.Connection.{connection-keeps, over-closing}
 use Rattle.pg_lives.proofs.Hubs.{becomes, closing-nobodys, nobodys}
 use Rattle.pg_lives.proofs.Known.{none-known}
 use Rattle.pg_lives.proofs.Left.{left-new}
-use Rattle.pg_lives.proofs.Session.{IsWithin, handle-keeps}
+use Rattle.pg_lives.proofs.Session.{handle-keeps}
 
 front-then : {A : Type 0} (xs ys zs : List A) → IsFrontOf xs ys → IsFrontOf ys zs → IsFrontOf xs zs
 front-then {A} xs ys zs (more, e) (rest, f) = (more ++ rest, sym (append_assoc xs more rest) ∙ ap (λ (l : List A). l ++ rest) e ∙ f)

@@ -1,5 +1,5 @@
 -- A session that ended has run as its commands mean.
-use Rattle.std.proofs.Common.{◌≡◌, ◌⊎◌, inl, inr, ℕ, zero, suc, ◌+◌, ◌-◌, ◌^◌, ◌<◌, ◌≤◌, List, [], ◌∷◌, ◌++◌, length, map, Option, Some, None, option_map, unwrap_or, refl, sym, ap, subst, ◌∙◌, arith, slice_get}
+use Rattle.std.proofs.Common.{◌≡◌, ℕ, zero, suc, ◌+◌, ◌^◌, ◌<◌, ◌≤◌, List, [], ◌∷◌, length, map, Option, Some, None, option_map, unwrap_or, refl, sym, ap, subst, ◌∙◌, arith, slice_get}
 use Rattle.std.specs.Prelude.{⊤, All, EachIndex, IsSome, false, take, sum_by}
 use Rattle.std.specs.Option.{option_and_then}
 use Rattle.std.specs.List.Sorted.{IsNonDecreasingBy}
@@ -20,12 +20,12 @@ use Rattle.pg_lives.specs.Speeches.{AreCommands, Speech, meaning_of}
 use Rattle.pg_lives.specs.Handles.{HandleState}
 use Rattle.pg_lives.specs.States.{SessionState}
 use Rattle.pg_lives.specs.Sessions.{IsNewSession, Plays, asked_of, calls_of}
-use Rattle.pg_lives.specs.Kept.{AllKept, HandleKept, HasDone, Now, Past, book_of, free_of, states_of}
+use Rattle.pg_lives.specs.Kept.{HandleKept, Past, book_of, free_of, states_of}
 use Rattle.pg_lives.proofs.Left.{left-at}
 use Rattle.pg_lives.proofs.Order.{turns-in-order}
 use Rattle.pg_lives.proofs.Played.{SessionEnds, session-ends}
 use Rattle.pg_lives.proofs.Rows.{get-within, places-below}
-use Rattle.pg_lives.proofs.Session.{IsWithin, now_of, past-there}
+use Rattle.pg_lives.proofs.Session.{now_of, past-there}
 
 -- ---- rows of rows
 

@@ -1,25 +1,14 @@
 -- What holds of a session is kept by each of its turns.
-use Rattle.std.proofs.Common.{◌≡◌, ◌⊎◌, inl, inr, ℕ, zero, suc, ◌+◌, ◌-◌, ◌^◌, ◌<◌, ◌≤◌, List, [], ◌∷◌, ◌++◌, length, map, set, Bool, true, false, Option, Some, None, Result, Ok, Err, refl, sym, ap, subst, ◌∙◌, arith, slice_get, append_assoc, unwrap_or, option_map}
-use Rattle.std.proofs.lemmas.Bool.{cases_lt}
-use Rattle.std.proofs.lemmas.List.{append-nil, length-append, length-set}
-use Rattle.futures.specs.declared.task.Poll.{Poll}
-use Rattle.futures.specs.declared.task.Poll.TheVariants.{Ready, Pending}
-use Rattle.pg_spec.specs.Links.{LinkView}
-use Rattle.pg_spec.specs.RawMessages.{RawMessage, groups, sync_of}
-use Rattle.pg_spec.specs.Turns.{IsOwnTurn, delivered_before, turn_of}
+use Rattle.std.proofs.Common.{◌≡◌, ℕ, zero, suc, ◌+◌, ◌-◌, ◌^◌, ◌<◌, ◌≤◌, List, [], ◌∷◌, ◌++◌, length, set, Bool, true, false, Option, Some, Ok, refl, sym, ap, subst, ◌∙◌, arith, slice_get, unwrap_or, option_map}
+use Rattle.std.proofs.lemmas.List.{length-append, length-set}
+use Rattle.pg_spec.specs.RawMessages.{RawMessage, sync_of}
+use Rattle.pg_spec.specs.Turns.{delivered_before, turn_of}
 use Rattle.pg_spec.specs.declared.stamps.Stamp.{Stamp}
 use Rattle.pg_spec.specs.declared.stamps.TurnMark.{TurnMark}
-use Rattle.pg_connect.proofs.Joining.{risen_then}
-use Rattle.pg_connect.specs.Answers.{PollAnswers}
-use Rattle.pg_connect.specs.Ends.{has_no_more, last_is}
-use Rattle.pg_connect.specs.Passed.{AllEngineCalls, delivered_by}
 use Rattle.pg_connect.specs.Passes.{risen}
 use Rattle.pg_connect.specs.declared.streams.Streams.{Streams}
-use Rattle.pg_desk.specs.declared.event.Event.{Event}
 use Rattle.pg_desk.specs.declared.event.Event.TheVariants.{CloseRequests}
 use Rattle.pg_desk.specs.History.{Delivery, IsFrontOf, State, after_all, received}
-use Rattle.pg_errors.specs.declared.async_message.AsyncMessage.{AsyncMessage}
-use Rattle.pg_faults.specs.declared.error.Error.{Error}
 use Rattle.pg_hub.specs.Becomes.{fits-touched}
 use Rattle.pg_hub.specs.Fits.{Fits, HubBecomes}
 use Rattle.pg_hub.specs.Standing.{Standing}
@@ -29,36 +18,26 @@ use Rattle.pg_query.specs.declared.desk_call.Reply.{Reply}
 use Rattle.pg_course.specs.Courses.{Asked, Course}
 use Rattle.pg_core.specs.Deeds.{asked_in}
 use Rattle.pg_core.specs.Lists.{events_of}
-use Rattle.pg_session.proofs.LivesCame.{counted-before, counted-last}
-use Rattle.pg_session.proofs.LivesHub.{engine-all, no-more-closed}
-use Rattle.pg_session.proofs.LivesTakes.{engine-received}
-use Rattle.pg_session.specs.Lives.{calls_in_poll}
-use Rattle.pg_session.specs.Turns.{Closes, ClosesBehind, HandsOn, left_behind, untouched}
+use Rattle.pg_session.proofs.LivesCame.{counted-last}
+use Rattle.pg_session.specs.Turns.{Closes, ClosesBehind, left_behind, untouched}
 use Rattle.pg_session.specs.declared.handle_turn.Polling.{Polling}
 use Rattle.pg_session.specs.declared.handle_turn.Polling.TheVariants as polling
 use Rattle.pg_lives.specs.Speeches.{AreCommands, Speech}
 use Rattle.pg_lives.specs.Handles.{HandleState}
 use Rattle.pg_lives.specs.States.{SessionState}
-use Rattle.pg_lives.specs.Turns.{ConnectionMade, HandleMade, HandleTurns, Makes}
-use Rattle.pg_lives.specs.Sessions.{asked_in_turn, calls_in_turn, deeds_in_handle}
-use Rattle.pg_lives.specs.Kept.{AllKept, HandleKept, NoneFrom, Now, Past}
-use Rattle.pg_lives.specs.SessionKept.{SessionKept, left}
+use Rattle.pg_lives.specs.Turns.{HandleMade, HandleTurns}
+use Rattle.pg_lives.specs.Sessions.{deeds_in_handle}
+use Rattle.pg_lives.specs.Kept.{AllKept, HandleKept, Now, Past}
+use Rattle.pg_lives.specs.SessionKept.{IsWithin, SessionKept, left}
 use Rattle.pg_lives.proofs.AllKept.{nobodys-keep, turn-keeps}
 use Rattle.pg_lives.proofs.HandleCases.{answers-turn, idle-turn, waits-turn}
-use Rattle.pg_lives.proofs.HandleTurn.{IsTurnAt, StateBecomes, TurnSo, answered-many}
-use Rattle.pg_lives.proofs.Hubs.{answers-state, becomes, closing-nobodys, engine-nobodys, nobodys, nobodys-events, none-given, waits-state}
+use Rattle.pg_lives.proofs.HandleTurn.{IsTurnAt, TurnSo, answered-many}
+use Rattle.pg_lives.proofs.Hubs.{answers-state, becomes, closing-nobodys, nobodys, none-given, waits-state}
 use Rattle.pg_lives.proofs.Left.{left-at, left-set}
 use Rattle.pg_lives.proofs.OwnTurn.{behind_turn}
 use Rattle.pg_lives.proofs.Rows.{get-last, get-within, one-more}
 
 -- ---- the course of the whole session
-
--- What the turns so far are in the whole session: a front of its trace, and what came is a front of all that came.
-pub record IsWithin (course : Course DeskCall Reply) (later : List RawMessage) (trace : List TurnMark) (came : List RawMessage) : Type 0 where
-  pub turns : IsFrontOf trace course.trace
-  pub front : IsFrontOf came (sync_of later)
-  pub replies : course.replies ≡ groups later
-  pub small : length (sync_of later) < 2 ^ 64
 
 get-front : {X : Type 0} (xs ys : List X) (i : ℕ) → i < length xs → slice_get (xs ++ ys) i ≡ slice_get xs i
 get-front [] ys i h = absurd (omega (arith, h))

@@ -1,19 +1,17 @@
 -- What simple queries mean, as commands of any session.
-use Rattle.std.proofs.Common.{◌≡◌, ℕ, List, [], ◌∷◌, Bool, true, false, Option, Some, None, option_map, Result, Ok, Err, refl, sym, ap, subst, ◌∙◌}
+use Rattle.std.proofs.Common.{◌≡◌, ℕ, List, [], Bool, true, false, Option, Some, None, option_map, Result, Ok, Err, refl, ap, ◌∙◌}
 use Rattle.std.specs.Prelude.{is_some}
 use Rattle.pg_spec.specs.Faults.{FrameFault}
 use Rattle.pg_spec.specs.Frames.{query_frame}
-use Rattle.pg_spec.specs.RawMessages.{RawMessage, ends_in, is_ready}
 use Rattle.pg_spec.specs.SimpleQuery.{SimpleAnswer, simple_reading}
 use Rattle.pg_client.specs.Simple.{answer_from, asks_by as asks_of, told}
 use Rattle.pg_faults.specs.declared.error.Error.{Error}
 use Rattle.pg_query.specs.Reading.{ends}
-use Rattle.pg_query.specs.Requests.{asks, reads_unless}
+use Rattle.pg_query.specs.Requests.{reads_unless}
 use Rattle.pg_query.specs.declared.desk_call.DeskCall.{DeskCall}
 use Rattle.pg_query.specs.declared.desk_call.Reply.{Reply}
 use Rattle.pg_query.specs.declared.simple_message.SimpleMessage.{SimpleMessage}
 use Rattle.pg_text.specs.declared.command.Answer.{Answer}
-use Rattle.pg_text.specs.declared.command.Command.{Command}
 use Rattle.pg_text.specs.declared.command.Command.TheVariants as command
 use Rattle.pg_session.proofs.LivesTakes.{whole-decides}
 use Rattle.pg_session.specs.HandleTurns.{kept_answer}
@@ -25,7 +23,7 @@ use Rattle.pg_core.specs.Outcomes.{asked}
 use Rattle.pg_core.specs.Times.{IsCommand}
 use Rattle.pg_core.proofs.Requests.{request-so}
 use Rattle.pg_lives.specs.Speeches.{AreCommands, meaning_of}
-use Rattle.pg_lives.specs.SimpleSessions.{says_of, simple_speech, simply}
+use Rattle.pg_lives.specs.SimpleSessions.{simple_speech, simply}
 
 -- ---- they decide in time
 

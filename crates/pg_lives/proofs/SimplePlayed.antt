@@ -1,14 +1,13 @@
 -- A session of simple queries that was played, as a session of any commands.
-use Rattle.std.proofs.Common.{◌≡◌, ◌⊎◌, inl, inr, ℕ, zero, suc, List, [], ◌∷◌, ◌++◌, length, map, set, Bool, true, false, Option, Some, None, option_map, Result, Ok, Err, refl, sym, ap, subst, ◌∙◌, slice_get}
+use Rattle.std.proofs.Common.{◌≡◌, ◌⊎◌, inl, inr, ℕ, zero, suc, List, [], ◌∷◌, ◌++◌, length, map, set, Bool, true, false, Option, Some, None, option_map, refl, sym, ap, subst, ◌∙◌, slice_get}
 use Rattle.std.proofs.lemmas.Bool.{cases_eq}
-use Rattle.std.proofs.lemmas.List.{length-map}
 use Rattle.std.proofs.lemmas.Option.{same_Some, slice_get-map}
 use Rattle.pg_spec.specs.Links.{LinkView}
 use Rattle.pg_spec.specs.declared.stamps.Stamp.{Stamp}
 use Rattle.pg_desk.specs.declared.event.Event.{Event}
 use Rattle.pg_hub.specs.Fits.{HubBecomes}
 use Rattle.pg_hub.specs.Standing.{Standing}
-use Rattle.pg_query.specs.Dialogue.{Dialogue, Answer as AnswerNode}
+use Rattle.pg_query.specs.Dialogue.{Dialogue}
 use Rattle.pg_query.specs.Meaning.{Place}
 use Rattle.pg_query.specs.declared.simple_message.SimpleMessage.{SimpleMessage}
 use Rattle.pg_text.specs.declared.command.Answer.{Answer}
@@ -22,12 +21,12 @@ use Rattle.pg_session.specs.Sessions as played
 use Rattle.pg_session.specs.States as simple
 use Rattle.pg_session.specs.Turns as turns
 use Rattle.pg_session.specs.Turns.{untouched}
-use Rattle.pg_lives.specs.HandleTurns.{Answers, AsksCommand, Idles, StartsAt, Waits}
+use Rattle.pg_lives.specs.HandleTurns.{AsksCommand, StartsAt, Waits}
 use Rattle.pg_lives.specs.Handles.{HandleState}
-use Rattle.pg_lives.specs.SimpleSessions.{handle_of, says_of, simple_speech, state_of}
-use Rattle.pg_lives.specs.States.{SessionState, commands_in, new_handles}
+use Rattle.pg_lives.specs.SimpleSessions.{PlaysSo, handle_of, says_of, simple_speech, state_of}
+use Rattle.pg_lives.specs.States.{new_handles}
 use Rattle.pg_lives.specs.Turns.{ConnectionMade, HandleMade, HandleTurns, Makes}
-use Rattle.pg_lives.specs.Sessions.{IsNewSession, MakesAll, Plays, calls_in, calls_in_turn, calls_of}
+use Rattle.pg_lives.specs.Sessions.{IsNewSession, MakesAll, calls_in, calls_in_turn}
 use Rattle.pg_lives.proofs.AllKept.{set-here, set-there}
 
 -- ---- a turn of a handle
@@ -193,10 +192,6 @@ new-so scripts s h = record {
   trace = h.trace;
   asynchronous = h.asynchronous;
 }
-
-pub record PlaysSo (scripts : List (List Command)) (given : List ℕ) (s : simple.SessionState) (l : LinkView) (t : simple.SessionState) (m : LinkView) (was_played : played.Plays scripts given s l t m) : Type 0 where
-  pub plays : Plays simple_speech scripts given (state_of s) l (state_of t) m
-  pub calls : calls_of simple_speech scripts given (state_of s) l (state_of t) m plays ≡ calls.calls_of scripts given s l t m was_played
 
 pub plays-so : (scripts : List (List Command)) (given : List ℕ) (s : simple.SessionState) (l : LinkView) (t : simple.SessionState) (m : LinkView) → played.IsNewSession scripts s → (plays : played.Plays scripts given s l t m) → PlaysSo scripts given s l t m plays
 plays-so scripts given s l t m new plays =

@@ -1,8 +1,8 @@
 -- A session of simple queries that was played has run as they mean.
-use Rattle.std.proofs.Common.{◌≡◌, ℕ, ◌^◌, ◌<◌, List, [], ◌∷◌, ◌++◌, length, map, not, refl, sym, ap, subst, ◌∙◌, arith}
+use Rattle.std.proofs.Common.{◌≡◌, ℕ, ◌^◌, ◌<◌, List, [], ◌∷◌, length, map, not, refl, sym, ap, subst, ◌∙◌, arith}
 use Rattle.std.proofs.lemmas.List.{length-append}
 use Rattle.pg_spec.specs.Links.{LinkView, OfBytes}
-use Rattle.pg_spec.specs.RawMessages.{RawMessage, groups, is_aside, messages, sync_of}
+use Rattle.pg_spec.specs.RawMessages.{RawMessage, groups, is_aside, sync_of}
 use Rattle.pg_spec.specs.Settings.{Settings}
 use Rattle.pg_spec.specs.declared.stamps.TurnMark.{TurnMark}
 use Rattle.pg_promises.specs.EndedWell.{later_messages, replies}
@@ -10,8 +10,6 @@ use Rattle.pg_connect.specs.Passed.{delivered_by}
 use Rattle.pg_desk.specs.declared.event.Booking.{Booking}
 use Rattle.pg_desk.specs.declared.event.Event.{Event}
 use Rattle.pg_desk.specs.History.{IsFrontOf}
-use Rattle.pg_query.specs.declared.desk_call.DeskCall.{DeskCall}
-use Rattle.pg_query.specs.declared.desk_call.Reply.{Reply}
 use Rattle.pg_text.specs.Views.{booking_of}
 use Rattle.pg_text.specs.declared.command.Answer.{Answer}
 use Rattle.pg_text.specs.declared.command.Command.{Command}
@@ -24,7 +22,6 @@ use Rattle.pg_session.specs.Crossed.{session_of}
 use Rattle.pg_session.specs.Lives.{calls_of}
 use Rattle.pg_session.specs.Sessions.{HasPlayed}
 use Rattle.pg_session.specs.States as simple
-use Rattle.pg_course.specs.Courses.{Asked}
 use Rattle.pg_course.specs.Meanings.{HasRun}
 use Rattle.pg_lives.specs.Sessions as any
 use Rattle.pg_lives.specs.SimpleSessions.{HasRunBy, course_of, handle_of, simple_speech, state_of}
@@ -78,5 +75,5 @@ pub has-run-by-bytes : (settings : Settings) (nonce : List ℕ) (scripts : List 
 has-run-by-bytes settings nonce scripts given before after report p =
     of-bytes before after (λ g t. HasRunBy scripts given report (replies (session_of settings nonce scripts given report g)))
     (λ g t e d.
-        let came = came-so settings nonce scripts given before after report p g e in
-        has-run-by settings nonce scripts given before after report p (later_messages (session_of settings nonce scripts given report g)) came.front came.small)
+    let came = came-so settings nonce scripts given before after report p g e in
+    has-run-by settings nonce scripts given before after report p (later_messages (session_of settings nonce scripts given report g)) came.front came.small)

@@ -6,3 +6,4 @@ pub mod Turns
 pub mod Sessions
 pub mod Kept
 pub mod SessionKept
+pub mod SimpleSessions

@@ -1,10 +1,11 @@
 -- What holds of a session between two turns.
-use Rattle.std.specs.Prelude.{◌≡◌, ℕ, ◌+◌, ◌-◌, true, false, List, [], ◌∷◌, length}
-use Rattle.pg_spec.specs.RawMessages.{RawMessage}
+use Rattle.std.specs.Prelude.{◌≡◌, ℕ, ◌+◌, ◌-◌, true, false, List, [], ◌∷◌, length, ◌<◌, ◌^◌}
+use Rattle.pg_spec.specs.RawMessages.{RawMessage, groups, sync_of}
 use Rattle.pg_spec.specs.Turns.{delivered_before}
+use Rattle.pg_spec.specs.declared.stamps.TurnMark.{TurnMark}
 use Rattle.pg_connect.specs.Passes.{risen}
 use Rattle.pg_desk.specs.History as history
-use Rattle.pg_desk.specs.History.{State}
+use Rattle.pg_desk.specs.History.{IsFrontOf, State}
 use Rattle.pg_hub.specs.Fits.{Fits}
 use Rattle.pg_query.specs.declared.desk_call.DeskCall.{DeskCall}
 use Rattle.pg_query.specs.declared.desk_call.Reply.{Reply}
@@ -19,6 +20,13 @@ abbrev pub left : {C T A E : Type 0} → List (List C) → List (HandleState T A
 left [] handles = 0
 left (script ∷ scripts) [] = 0
 left (script ∷ scripts) (h ∷ handles) = (length script - length h.answers) + left scripts handles
+
+-- What the turns so far are in the whole session: a front of its trace, and what came is a front of all that came.
+pub record IsWithin (course : Course DeskCall Reply) (later : List RawMessage) (trace : List TurnMark) (came : List RawMessage) : Type 0 where
+  pub turns : IsFrontOf trace course.trace
+  pub front : IsFrontOf came (sync_of later)
+  pub replies : course.replies ≡ groups later
+  pub small : length (sync_of later) < 2 ^ 64
 
 -- What holds of a session between two turns, where this was asked so far and these messages came.
 pub record SessionKept {C T A E : Type 0} (speech : Speech C T A E) (scripts : List (List C)) (course : Course DeskCall Reply) (asked : List (Asked DeskCall Reply)) (came : List RawMessage) (s : SessionState T A E) : Type 0 where

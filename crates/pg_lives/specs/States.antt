@@ -1,5 +1,5 @@
 -- What stands between two turns of a session, whatever its commands are.
-use Rattle.std.specs.Prelude.{ℕ, List, [], map, sum_by, length}
+use Rattle.std.specs.Prelude.{ℕ, List, map, sum_by, length}
 use Rattle.pg_errors.specs.declared.async_message.AsyncMessage.{AsyncMessage}
 use Rattle.pg_connect.specs.declared.streams.Streams.{Streams}
 use Rattle.pg_hub.specs.Standing.{Standing}
