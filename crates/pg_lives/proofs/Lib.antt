@@ -21,3 +21,5 @@ pub mod Ran
 pub mod SimpleMeans
 pub mod SimplePlayed
 pub mod SimpleRan
+pub mod Renamed
+pub mod Headlines

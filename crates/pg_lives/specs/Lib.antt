@@ -7,3 +7,4 @@ pub mod Sessions
 pub mod Kept
 pub mod SessionKept
 pub mod SimpleSessions
+pub mod Headlines

@@ -18,6 +18,10 @@ ghost use Rattle.pg_course.specs.Courses.{Asked, Course};
 ghost use Rattle.pg_course.specs.Meanings.{HasRun};
 ghost use Rattle.pg_course.specs.Simples.{AreSimple};
 ghost use Rattle.pg_core.specs.Trails.{said_booking};
+ghost use Rattle.pg_headline.specs.Endings.{EndedWell};
+ghost use Rattle.pg_session.specs.WholeSession.{EndsWell};
+ghost use Rattle.pg_lives.specs.Headlines as headlines;
+ghost use Rattle.pg_lives.specs.Headlines.{simple_meaning};
 ghost use Rattle.pg_lives.specs.Speeches.{Speech, AreCommands, meaning_of};
 ghost use Rattle.pg_lives.specs.States.{SessionState};
 ghost use Rattle.pg_lives.specs.Turns.{Makes};
@@ -70,4 +74,13 @@ pub fn a_session_of_simple_queries_has_run()
         OfBytes before after (λ g t. HasRunBy scripts given report (replies (session_of settings nonce scripts given report g))) }
     ensures anyway { (settings : Settings) (nonce : List ℕ) (scripts : List (List Command)) (given : List ℕ) (before after : LinkView) (report : Report) →
         simple_sessions.HasPlayed settings nonce scripts given before after report → (replies : List (List RawMessage)) × HasRunBy scripts given report replies }
+{}
+
+/// By the main theorem over any commands it ended well, and so by that on simple queries.
+pub fn a_session_of_simple_queries_ended_well()
+    ensures ended_well { (settings : Settings) (nonce : List ℕ) (scripts : List (List Command)) (given : List ℕ) (before after : LinkView) (report : Report) →
+        simple_sessions.HasPlayed settings nonce scripts given before after report →
+        OfBytes before after (λ g t. EndedWell simple_meaning (headlines.session_of settings nonce scripts given report g) t) }
+    ensures as_before { (settings : Settings) (nonce : List ℕ) (scripts : List (List Command)) (given : List ℕ) (before after : LinkView) (report : Report) →
+        simple_sessions.HasPlayed settings nonce scripts given before after report → EndsWell settings nonce scripts given before after report }
 {}
