@@ -1,1 +1,2 @@
 pub mod OneAtATime
+pub mod Runs

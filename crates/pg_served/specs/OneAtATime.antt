@@ -1,16 +1,14 @@
 -- Sessions over a server: pipelined equals one at a time (PostgreSQL documentation, "Message Flow": "Pipelining").
-use Rattle.std.specs.Prelude.{◌≡◌, ℕ, List, [], ◌++◌, map, Some}
+use Rattle.std.specs.Prelude.{◌≡◌, ℕ, List, ◌++◌, map, Some}
 use Rattle.std.specs.List.{AllByRecursion}
-use Rattle.pg_promises.specs.Causes.{Call, OfDialogue}
 use Rattle.pg_promises.specs.EndedWell.{Session, replies, answer_of}
 use Rattle.pg_spec.specs.Book.{Booking, request_of}
-use Rattle.pg_spec.specs.Links.{LinkView}
 use Rattle.pg_spec.specs.RawMessages.{sync_of}
-use Rattle.pg_spec.specs.Report.{Command, Report}
+use Rattle.pg_spec.specs.Report.{Command}
 use Rattle.pg_spec.specs.Turns.{entry_at}
 use Rattle.pg_serving.specs.Serving.{Service, joined}
 use Rattle.pg_serving.specs.Requests.{IsReply, OnlyCopiesOpen}
-use Rattle.pg_serving.specs.Sessions.{AreRequests, alone, begun, frames_of, gives, spoken}
+use Rattle.pg_serving.specs.Sessions.{AreRequests, alone, begun, frames_of, spoken}
 
 -- Each booking is the whole frames of one request, and no request but a copy's opens a copy of this server.
 pub record AsksInRequests {S : Type 0} (service : Service S) (begins : S) (book : List Booking) : Type 0 where
@@ -30,10 +28,3 @@ pub record IsOneAtATime {S : Type 0} (service : Service S) (begins : S) (startup
   -- so each answer is the one that these replies give
   pub answers : (handle place : ℕ) (command : Command) → entry_at s.scripts handle place ≡ Some command →
       entry_at s.report.answers handle place ≡ answer_of (fed_alone service begins startup s) command (request_of s.report.book handle place)
-
--- A link to this server over which nothing crossed yet: it tells its bytes, and what it gives by those taken.
-pub record IsNewLink {S : Type 0} (service : Service S) (begins : S) (startup : List ℕ) (link : LinkView) : Type 0 where
-  pub given : link.given ≡ Some []
-  pub taken : link.taken ≡ Some []
-  pub due : link.due ≡ Some []
-  pub course : link.course ≡ Some (gives service begins startup)
