@@ -5,4 +5,5 @@ mod Requests
 mod Sessions
 mod Serving
 mod Running
+mod Played
 mod Feeding

@@ -130,8 +130,7 @@ only-copies {S = S} service state (b ∷ book) all =
     let query : RawMessage = record { tag = byte "Q"; body = one.body } in
     let none : opens_copy service (begun state) (frames_of b) ≡ false = ap (opens_copy service (begun state)) one.frames in
     let next : (served service (begun state) (frames_of b)).next ≡ begun (served service (begun state) (query ∷ [])).next.state
-    = ap (λ (fs : List RawMessage). (served service (begun state) fs).next) one.frames in
-    (
+    = ap (λ (fs : List RawMessage). (served service (begun state) fs).next) one.frames in (
       λ opens. absurd (false-true (opens_copy service (begun state) (frames_of b)) none opens),
       subst (λ (at : Serving S). OnlyCopiesOpen service at (map frames_of book)) (sym next) (only-copies service (served service (begun state) (query ∷ [])).next.state book all.1),
     )

@@ -66,8 +66,7 @@ pub ran-server : {S : Type 0} (step : Step S) (heard : Heard S) (cut room : ℕ)
 unfolding unfed-heard
 ran-server {S = S} step heard cut room after call report state startup before_is after_is goes (s, means, ended) new asks =
     let before : call.before ≡ server_links.link_of step (new_server_link (unfed-heard state startup) cut room)
-    = before_is ∙ ap (λ (h : Heard S). server_links.link_of step (new_server_link h cut room)) new.heard_is in
-    (
+    = before_is ∙ ap (λ (h : Heard S). server_links.link_of step (new_server_link h cut room)) new.heard_is in (
       s,
       means,
       follows-same call.before call.after (server_links.link_of step (new_server_link (unfed-heard state startup) cut room)) (server_links.link_of step after)
@@ -107,9 +106,9 @@ pub serves-alone : {S : Type 0} (step : Step S) (heard : Heard S) (cut room : �
 serves-alone {S = S} step heard cut room after call (Err failure) before_is after_is contract = tt
 serves-alone {S = S} step heard cut room after call (Ok report) before_is after_is contract =
     λ state startup new.
-        let ran = contract.has_run in
-        ran-server step heard cut room after call report state startup before_is after_is contract.link contract.ended_well new
-        (queries-asked (service_of step) state report.book (ask-queries call.scripts call.turns report ran.0 ran.1))
+    let ran = contract.has_run in
+    ran-server step heard cut room after call report state startup before_is after_is contract.link contract.ended_well new
+    (queries-asked (service_of step) state report.book (ask-queries call.scripts call.turns report ran.0 ran.1))
 
 pub machine-alone : (table : Table) (startup : List ℕ) (cut room : ℕ) (after : machine_links.Served) (call : Call) (result : SessionResult) →
     call.before ≡ machine_links.link_of (new_machine_link table startup cut room) → call.after ≡ machine_links.link_of after → SessionContract call result →
@@ -117,6 +116,6 @@ pub machine-alone : (table : Table) (startup : List ℕ) (cut room : ℕ) (after
 machine-alone table startup cut room after call (Err failure) before_is after_is contract = tt
 machine-alone table startup cut room after call (Ok report) before_is after_is contract =
     λ is form.
-        let ran = contract.has_run in
-        ran-machine table startup cut room after call report before_is after_is contract.link contract.ended_well is form
-        (queries-asked (machines.service_of table) 0 report.book (ask-queries call.scripts call.turns report ran.0 ran.1))
+    let ran = contract.has_run in
+    ran-machine table startup cut room after call report before_is after_is contract.link contract.ended_well is form
+    (queries-asked (machines.service_of table) 0 report.book (ask-queries call.scripts call.turns report ran.0 ran.1))

@@ -16,7 +16,7 @@ use std::alloc::Global;
 /// Plays the scripts over a link to this server, which gives at most `cut` bytes a read and takes at most `room` bytes a
 /// write. Where it answers Ok and the server was fed with nothing before, the server's reply to each request is what it is
 /// where the requests are fed one at a time, whatever the turns, `cut` and `room`.
-pub fn run_served<H: Handler>(
+pub fn run_served<H: Handler + Drop>(
     alloc: Global,
     config: &str,
     scripts: &Scripts,
@@ -31,8 +31,14 @@ pub fn run_served<H: Handler>(
     requires cut { 0 < cut }
     requires room { 0 < room }
     ensures session { IsSession
-        (record { config = config.now; nonce = nonce.now; scripts = scripts.now; turns = turns.now; limit = max_bytes;
-          before = server_links.link_of H.step (new_server_link (heard_of H.state server) cut room) })
+        (record {
+          config = config.now;
+          nonce = nonce.now;
+          scripts = scripts.now;
+          turns = turns.now;
+          limit = max_bytes;
+          before = server_links.link_of H.step (new_server_link (heard_of H.state server) cut room);
+        })
         (ServesOneAtATime H.step (heard_of H.state server)) result }
 {
     let mut link = ServerLink::new(alloc, server, cut, room);
@@ -58,8 +64,14 @@ pub fn run_over_machine(
     requires cut { 0 < cut }
     requires room { 0 < room }
     ensures session { IsSession
-        (record { config = config.now; nonce = nonce.now; scripts = scripts.now; turns = turns.now; limit = max_bytes;
-          before = machine_links.link_of (new_machine_link machine startup cut room) })
+        (record {
+          config = config.now;
+          nonce = nonce.now;
+          scripts = scripts.now;
+          turns = turns.now;
+          limit = max_bytes;
+          before = machine_links.link_of (new_machine_link machine startup cut room);
+        })
         (MachineOneAtATime machine startup) result }
 {
     let mut link = MachineLink::new(alloc, machine, startup, cut, room);
