@@ -6,7 +6,6 @@ use Rattle.pg_promises.specs.ConnectionStrings.{Means}
 use Rattle.pg_spec.specs.Links.{LinkView}
 use Rattle.pg_spec.specs.Settings.{Settings}
 use Rattle.pg_session.specs.Sessions.{HasPlayed}
-use Rattle.pg_text.specs.declared.command.Command.{Command}
 use Rattle.pg_text.specs.declared.report.Report.{Report}
 use Rattle.pg_machine.specs.Machines.{Table}
 use Rattle.pg_machine.specs.MachineLinks as machine_links

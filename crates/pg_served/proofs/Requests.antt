@@ -1,5 +1,5 @@
 -- What is booked for simple queries is one Query each.
-use Rattle.std.proofs.Common.{◌≡◌, ℕ, zero, suc, ◌<◌, Bool, true, false, cond, ◌==◌, ◌&&◌, List, [], ◌∷◌, ◌++◌, Option, Some, None, Result, Ok, Err, refl, sym, ap, ◌∙◌, subst, append_assoc, append-nil, arith, inl, length}
+use Rattle.std.proofs.Common.{◌≡◌, ℕ, zero, suc, ◌<◌, Bool, true, false, cond, ◌==◌, ◌&&◌, List, [], ◌∷◌, ◌++◌, Option, Some, None, Result, Ok, Err, refl, sym, ap, ◌∙◌, subst, append_assoc, arith, inl, length}
 use Rattle.std.specs.Prelude.{IsSome, IsTrue, All, map, filter, slice_get}
 use Rattle.std.specs.List.{AllByRecursion, concat}
 use Rattle.std.specs.Str.{byte}
@@ -16,10 +16,8 @@ use Rattle.pg_spec.specs.Report.{Command, Simple, Report}
 use Rattle.pg_spec.specs.Turns.{Times, entry_at}
 use Rattle.pg_spec.proofs.MessageLaws.{message_at_front, messages-front}
 use Rattle.pg_wire.proofs.Cuts.{left_of_one}
-use Rattle.pg_serving.specs.declared.serving.Mode.{Mode}
-use Rattle.pg_serving.specs.declared.serving.Mode.TheVariants.{Normal}
 use Rattle.pg_serving.specs.Serving.{Service, Serving, served}
-use Rattle.pg_serving.specs.Requests.{IsRequest, IsCopy, OnlyCopiesOpen, opens_copy}
+use Rattle.pg_serving.specs.Requests.{OnlyCopiesOpen, opens_copy}
 use Rattle.pg_serving.specs.Sessions.{AreRequests, begun, frames_of}
 use Rattle.pg_session.proofs.Caused.Frames.{IsQuery, a-query}
 use Rattle.pg_served.specs.OneAtATime.{AsksInRequests}

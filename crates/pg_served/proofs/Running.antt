@@ -1,13 +1,12 @@
 -- A session over a link that was just made to a server, or to a machine.
-use Rattle.std.proofs.Common.{◌≡◌, ℕ, true, List, [], ◌++◌, Option, Some, None, Ok, Err, refl, sym, ap, ◌∙◌, subst, append-nil, length, drop}
+use Rattle.std.proofs.Common.{◌≡◌, ℕ, true, List, [], ◌++◌, Ok, Err, refl, sym, ap, ◌∙◌, subst, append-nil}
 use Rattle.std.specs.Prelude.{IfOk, map}
 use Rattle.std.proofs.lemmas.Option.{same_Some}
 use Rattle.pg_promises.specs.Causes.{Call}
 use Rattle.pg_promises.specs.EndedWell.{Session, EndedWell}
 use Rattle.pg_spec.specs.Links.{LinkView, OfBytes}
 use Rattle.pg_spec.specs.Report.{Report}
-use Rattle.pg_spec.specs.Settings.{Settings}
-use Rattle.pg_wire.specs.LinkCalls.{Continues, IsInCourse}
+use Rattle.pg_wire.specs.LinkCalls.{Continues}
 use Rattle.pg_serving.specs.Serving.{joined}
 use Rattle.pg_serving.specs.Sessions.{begun, frames_of}
 use Rattle.pg_serving.proofs.CourseLaws.{course-IsOver}

@@ -1,6 +1,6 @@
 -- What a server says is what the rules say to a front of the frames, each answered soundly.
 use Rattle.std.proofs.Common.{◌≡◌, ℕ, zero, suc, ◌<◌, Bool, true, false, not, ◌&&◌, List, [], ◌∷◌, ◌++◌, Option, Some, None, Result, Ok, Err, refl, sym, ap, subst, ◌∙◌, cond, arith, length}
-use Rattle.std.specs.Prelude.{IfSome, IsTrue, option_map, ◌||◌}
+use Rattle.std.specs.Prelude.{IfSome, IsTrue, option_map}
 use Rattle.std.proofs.lemmas.Grind.{flat_map-append}
 use Rattle.pg_faults.specs.declared.fault.WireFault.{WireFault}
 use Rattle.pg_faults.specs.declared.fault.WireFault.TheVariants.{BadLength}
@@ -8,7 +8,7 @@ use Rattle.pg_spec.specs.Batches.{is_nothing}
 use Rattle.pg_spec.specs.ClientFrames.{ClientFrame, client_frame_of}
 use Rattle.pg_spec.specs.RawMessages.{RawMessage, message_at, message_bytes, messages, bytes_left, has_bad_header}
 use Rattle.pg_spec.specs.Sent.{is_terminate}
-use Rattle.pg_wire.proofs.Cuts.{messages_of_one, messages_of_none}
+use Rattle.pg_wire.proofs.Cuts.{messages_of_one}
 use Rattle.pg_serving.specs.declared.serving.Turn.{Turn}
 use Rattle.pg_serving.specs.declared.serving.Turn.TheVariants.{Silent, Ready, AnswersReady, Answers, TakesData, EndsCopy, Refuses}
 use Rattle.pg_serving.specs.Serving as rules
@@ -18,14 +18,13 @@ use Rattle.pg_serving.specs.Requests.{SoundAlong, asked, is_sound, is_copy_in}
 use Rattle.pg_serving.specs.Tags.{has_two}
 use Rattle.pg_server.specs.declared.fault.ServerFault.{ServerFault}
 use Rattle.pg_server.specs.declared.fault.ServerFault.TheVariants as faults
-use Rattle.pg_server.specs.declared.session.Stage.{Stage}
 use Rattle.pg_server.specs.declared.session.Stage.TheVariants.{Serves, Over}
 use Rattle.pg_server.specs.Answers.{asks}
 use Rattle.pg_server.specs.Frames.{frame_or_fault}
 use Rattle.pg_server.specs.declared.handler.Effect.{Effect}
 use Rattle.pg_server.specs.Handlers.{Step, service_of, may_give, effect_view, answer_view}
-use Rattle.pg_server.specs.Hearing.{Said, before, said_to}
-use Rattle.pg_server.specs.Standings.{Standing, Front, Waits, Says, Stops, front, at_stage, serving, reading, serving_of, is_broken, replied, behind_frame}
+use Rattle.pg_server.specs.Hearing.{Said, said_to}
+use Rattle.pg_server.specs.Standings.{Standing, Says, Stops, front, at_stage, serving, reading, serving_of, is_broken, replied, behind_frame}
 use Rattle.pg_server.proofs.AnswerLaws.{was_laid_out}
 use Rattle.pg_server.proofs.CutLaws.{front-behind}
 use Rattle.pg_server.proofs.HearingLaws.{shorter, said_to-says, said_to-waits, said_to-stops}

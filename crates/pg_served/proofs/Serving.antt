@@ -1,19 +1,19 @@
 -- A session that ended well over a link to a server: the server stopped at no frame.
-use Rattle.std.proofs.Common.{◌≡◌, ℕ, zero, suc, ◌+◌, ◌-◌, ◌^◌, ◌<◌, ◌≤◌, Bool, true, false, cond, List, [], ◌∷◌, ◌++◌, Option, Some, None, Result, Ok, Err, refl, sym, ap, ◌∙◌, subst, append_assoc, append-nil, arith, inl, inr, ◌⊎◌, length, drop}
+use Rattle.std.proofs.Common.{◌≡◌, ℕ, zero, suc, ◌+◌, ◌-◌, ◌<◌, ◌≤◌, Bool, true, false, cond, List, [], ◌∷◌, ◌++◌, Option, Some, None, Result, Ok, Err, refl, sym, ap, ◌∙◌, subst, append_assoc, append-nil, arith, inl, inr, ◌⊎◌, length, drop}
 use Rattle.std.specs.Prelude.{map, if◌then◌else◌}
 use Rattle.std.specs.Int.{w32, to_be_bytes}
-use Rattle.std.specs.List.{AllByRecursion, concat, flat_map}
+use Rattle.std.specs.List.{concat, flat_map}
 use Rattle.std.proofs.lemmas.List.{drop_at, length-append}
 use Rattle.pg_faults.specs.declared.fault.WireFault.TheVariants.{BadLength, Layout}
 use Rattle.pg_promises.specs.EndedWell.{Session, EndedWell, replies}
 use Rattle.pg_spec.specs.Book.{Booking, wire}
-use Rattle.pg_spec.specs.Bytes.{bytes_at, number_at, text0}
+use Rattle.pg_spec.specs.Bytes.{text0}
 use Rattle.pg_spec.specs.Faults.{FrameFault}
 use Rattle.pg_spec.specs.Frames.{startup_frame, startup_body, untagged, terminate_frame}
-use Rattle.pg_spec.specs.RawMessages.{RawMessage, messages, bytes_left, groups}
+use Rattle.pg_spec.specs.RawMessages.{RawMessage, messages, bytes_left}
 use Rattle.pg_spec.specs.Sent.{after_startup_frame}
 use Rattle.pg_spec.specs.Settings.{Settings, startup_parameters}
-use Rattle.pg_spec.specs.Startup.{Startup, Done, More, Outcome, startup, session_part, used_of, dialogue, begun_by, First, plain_login}
+use Rattle.pg_spec.specs.Startup.{Startup, startup, session_part, used_of, dialogue, begun_by, First, plain_login}
 use Rattle.pg_spec.proofs.MessageLaws.{messages-append, messages-join}
 use Rattle.pg_spec.proofs.Readers.{bytes_at_front, number_at_front}
 use Rattle.pg_spec.proofs.SentLaws.{after_startup_frame-front}
@@ -21,13 +21,13 @@ use Rattle.pg_serving.specs.declared.serving.Mode.{Mode}
 use Rattle.pg_serving.specs.declared.serving.Mode.TheVariants.{Normal, Skip, CopyIn}
 use Rattle.pg_serving.specs.Serving.{Service, Serving, Replied, served, joined}
 use Rattle.pg_serving.specs.Requests.{SoundAlong}
-use Rattle.pg_serving.specs.Sessions.{AreRequests, IsOver, begun, frames_of, gives, spoken}
+use Rattle.pg_serving.specs.Sessions.{AreRequests, IsOver, begun, frames_of, spoken}
 use Rattle.pg_serving.proofs.ServingLaws.{served-append, SoundAlong-append, replies-Fit}
 use Rattle.pg_server.specs.declared.fault.ServerFault.{ServerFault}
 use Rattle.pg_server.specs.declared.fault.ServerFault.TheVariants as faults
 use Rattle.pg_server.specs.declared.session.Stage.TheVariants.{Serves}
 use Rattle.pg_server.specs.Handlers.{Step, service_of}
-use Rattle.pg_server.specs.Hearing.{Said, before, said_to}
+use Rattle.pg_server.specs.Hearing.{Said, said_to}
 use Rattle.pg_server.specs.Openings as opening
 use Rattle.pg_server.specs.Openings.{InFront, opening_in_front, opening_behind, opening_by, starting, is_length, is_parameters}
 use Rattle.pg_server.specs.Standings.{Standing, opened, unfed}

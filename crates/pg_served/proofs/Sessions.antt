@@ -1,26 +1,25 @@
 -- A session that ended well over a server: what the server is to each request where it is fed one at a time.
-use Rattle.std.proofs.Common.{◌≡◌, ℕ, zero, suc, ◌≤◌, true, List, [], ◌∷◌, ◌++◌, Option, Some, None, Result, Ok, Err, refl, sym, ap, ◌∙◌, subst, append_assoc, append-nil, arith, inl, inr, ◌⊎◌, length, drop}
-use Rattle.std.specs.Prelude.{map, IsTrue, unwrap_or, option_map, slice_get}
-use Rattle.std.specs.List.{AllByRecursion, concat, flat_map}
+use Rattle.std.proofs.Common.{◌≡◌, ℕ, true, List, [], ◌∷◌, ◌++◌, Option, Some, None, Result, Ok, Err, refl, sym, ap, ◌∙◌, subst, append-nil, inl, inr, length, drop}
+use Rattle.std.specs.Prelude.{map, unwrap_or, option_map, slice_get}
+use Rattle.std.specs.List.{AllByRecursion}
 use Rattle.std.proofs.lemmas.List.{drop_at}
 use Rattle.pg_promises.specs.EndedWell.{Session, EndedWell, replies, answer_of}
 use Rattle.pg_spec.specs.Batches.{is_nothing}
 use Rattle.pg_spec.specs.Book.{Booking, request_of}
 use Rattle.pg_spec.specs.Faults.{FrameFault, Frame, Encode}
 use Rattle.pg_spec.specs.Frames.{startup_frame, query_frame}
-use Rattle.pg_spec.specs.RawMessages.{RawMessage, messages, bytes_left, message_bytes, groups, sync_of}
-use Rattle.pg_spec.specs.Report.{Command, Simple, Failed, Answer, simple_answer}
+use Rattle.pg_spec.specs.RawMessages.{RawMessage, messages, bytes_left, groups, sync_of}
+use Rattle.pg_spec.specs.Report.{Command, Simple, Failed, simple_answer}
 use Rattle.pg_spec.specs.Sent.{after_startup_frame}
 use Rattle.pg_spec.specs.Settings.{Settings, startup_parameters}
 use Rattle.pg_spec.specs.SimpleQuery.{simple_reading}
-use Rattle.pg_spec.specs.Startup.{Startup, Outcome, Done, Refused, More, startup, session_part, used_of, dialogue, begun_by}
-use Rattle.pg_spec.specs.Turns.{Times, entry_at}
+use Rattle.pg_spec.specs.Startup.{Startup, Outcome, Done, Refused, More, startup, session_part, used_of, begun_by}
 use Rattle.pg_spec.proofs.MessageLaws.{messages-append, messages-join, Fits}
 use Rattle.pg_spec.proofs.StartupLaws.{IsOpenOr, startup-append}
 use Rattle.pg_wire.proofs.Cuts.{messages-behind}
-use Rattle.pg_serving.specs.Serving.{Service, Replied, served, joined}
+use Rattle.pg_serving.specs.Serving.{Service, served, joined}
 use Rattle.pg_serving.specs.Requests.{IsRequest, IsReply, SoundAlong}
-use Rattle.pg_serving.specs.Sessions.{AreRequests, IsExchange, IsStartup, IsOver, KeepsRules, alone, begun, frames_of, gives, spoken}
+use Rattle.pg_serving.specs.Sessions.{AreRequests, IsExchange, IsStartup, IsOver, alone, begun, frames_of, spoken}
 use Rattle.pg_serving.proofs.ServingLaws.{served-joined, replies-Fit, requests-IsReply, replies-groups}
 use Rattle.pg_serving.proofs.SessionLaws.{session-alone}
 use Rattle.pg_server.specs.Startups.{are_startup, is_startup}

@@ -1,5 +1,5 @@
 -- A server's startup that asks for nothing, in a session whose startup is done.
-use Rattle.std.proofs.Common.{◌≡◌, ℕ, suc, ◌+◌, Bool, true, false, cond, ◌&&◌, ◌||◌, ◌==◌, List, [], ◌∷◌, ◌++◌, Option, Some, None, Result, Ok, Err, refl, sym, ap, ◌∙◌, subst, arith, length}
+use Rattle.std.proofs.Common.{◌≡◌, ℕ, ◌+◌, Bool, true, false, cond, ◌&&◌, ◌||◌, ◌==◌, List, [], ◌∷◌, ◌++◌, Option, Some, None, Result, Ok, Err, refl, sym, ap, ◌∙◌, subst, arith, length}
 use Rattle.std.specs.Prelude.{if◌then◌else◌, ℤ}
 use Rattle.std.specs.Int.{w32}
 use Rattle.std.specs.Str.{byte, bytes_eq, is_utf8}
@@ -10,12 +10,10 @@ use Rattle.pg_spec.specs.Bytes.{◌>>=◌, byte_at, signed_at, text0_at}
 use Rattle.pg_spec.specs.Faults.{FrameFault, WireFault, Wire, NotText, Io, Parse, Layout, Failure}
 use Rattle.pg_spec.specs.Frames.{startup_frame}
 use Rattle.pg_spec.specs.Messages.{Message, BackendKeyData, ReadyForQuery, ParameterStatus, alone, text_alone, key_data, parameter, ready}
-use Rattle.pg_spec.specs.RawMessages.{RawMessage, is_ready, messages, bytes_left}
+use Rattle.pg_spec.specs.RawMessages.{RawMessage, is_ready}
 use Rattle.pg_spec.specs.Settings.{Mode, Disable, Prefer, Require, Settings, startup_parameters}
 use Rattle.pg_spec.specs.Startup.{Login, Phase, First, Info, Move, Writes, Ends, Refuses, Outcome, Done, Refused, More, Startup, startup_message, startup_move, moved_by, after_one, dialogue, begun_by, startup, plain_login, unless_required}
-use Rattle.pg_spec.proofs.MessageLaws.{messages-append}
-use Rattle.pg_spec.proofs.StartupLaws.{IsOpenOr, startup-append}
-use Rattle.pg_server.specs.Startups.{is_authentication_ok, is_report_tag, is_report, are_settled, are_startup, is_startup}
+use Rattle.pg_server.specs.Startups.{is_authentication_ok, is_report, are_settled, are_startup}
 
 pub both_true : (a b : Bool) → (a && b) ≡ true → (a ≡ true) × (b ≡ true)
 both_true true b e = (refl, e)

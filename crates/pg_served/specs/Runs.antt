@@ -1,5 +1,5 @@
 -- What a session over a server of its own promises.
-use Rattle.std.specs.Prelude.{◌≡◌, ℕ, false, true, List, [], Some, None, Result, IfOk}
+use Rattle.std.specs.Prelude.{◌≡◌, ℕ, false, true, List, [], None, Result, IfOk}
 use Rattle.pg_faults.specs.declared.error.Error.{Error}
 use Rattle.pg_promises.specs.Causes.{Call, OfDialogue}
 use Rattle.pg_promises.specs.ConnectionStrings.{Means}
