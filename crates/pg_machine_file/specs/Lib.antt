@@ -1,0 +1,2 @@
+pub mod MachineTexts
+pub mod Readings

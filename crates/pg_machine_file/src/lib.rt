@@ -1,0 +1,12 @@
+//! Machines as texts: what a server answers, a row a line.
+#![tactic(auto)]
+
+mod draft;
+mod fault;
+mod line;
+mod read;
+mod word;
+
+pub use draft::MachineFile;
+pub use fault::{FileFault, LineFault};
+pub use read::machine_of;

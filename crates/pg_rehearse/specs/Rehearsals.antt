@@ -1,0 +1,68 @@
+-- A session text that is played over a new link to a server of the repository.
+use Rattle.std.specs.Prelude.{ℕ, false, List, [], ◌∷◌, Option, None, codes}
+use Rattle.pg_spec.specs.Links.{LinkView}
+use Rattle.pg_wire.specs.Streams.{SourceView, SinkView}
+use Rattle.pg_machine.specs.Machines.{Table}
+use Rattle.pg_machine.specs.MachineLinks as machine
+use Rattle.pg_server.specs.Crossings.{untouched}
+use Rattle.pg_server.specs.Handlers.{Step}
+use Rattle.pg_server.specs.ServerLinks as server
+use Rattle.pg_server.specs.Standings.{unfed}
+use Rattle.pg_tool.specs.RunContract.{Run, RunContract}
+use Rattle.pg_tool.specs.SessionContract.{SessionResult}
+
+-- the words by which a session text is played over the link handed in
+abbrev pub pipe_words : List (List ℕ)
+pipe_words = codes "pipe" ∷ codes "-" ∷ codes "-" ∷ []
+
+-- the source and the sink before and after, and how it ended
+pub record Around : Type 0 where
+  pub source_before : SourceView
+  pub source_after : SourceView
+  pub sink_before : SinkView
+  pub sink_after : SinkView
+  pub status : ℕ
+  pub result : Option SessionResult
+
+-- the program's run with these words, over a link before and after
+abbrev pub over : Around → (before after : LinkView) → Run
+over a before after = record {
+  words = pipe_words;
+  source_before = a.source_before;
+  source_after = a.source_after;
+  sink_before = a.sink_before;
+  sink_after = a.sink_after;
+  link_before = before;
+  link_after = after;
+  status = a.status;
+  result = a.result;
+}
+
+-- all that the program promises, where it played over this link
+abbrev pub PlaysOver : LinkView → Around → Type 0
+PlaysOver before a = (after : LinkView) × RunContract (over a before after)
+
+-- a link to a machine, before its first call
+abbrev pub machine_link : Table → (startup : List ℕ) → (cut room : ℕ) → LinkView
+machine_link table startup cut room = machine.link_of (record {
+  table = table;
+  startup = startup;
+  cut = cut;
+  room = room;
+  given = [];
+  taken = [];
+  promised = false;
+  flushed = false;
+  shut = false;
+  quiet = 0;
+  dry = 0;
+  lulls = 0;
+})
+
+-- a link to a server that a handler answers for, before its first call
+abbrev pub server_link : {S : Type 0} → Step S → S → (startup : List ℕ) → (cut room : ℕ) → LinkView
+server_link step state startup cut room = server.link_of step (record {
+  heard = record { standing = unfed state startup; left = [] };
+  crossed = untouched cut room;
+  fault = None;
+})
