@@ -1,5 +1,5 @@
 -- A session text that is played over a new link to a server of the repository.
-use Rattle.std.specs.Prelude.{ℕ, false, List, [], ◌∷◌, Option, None, codes}
+use Rattle.std.specs.Prelude.{◌≡◌, ◌⊎◌, ℕ, false, List, [], ◌∷◌, Option, None, codes}
 use Rattle.pg_spec.specs.Links.{LinkView}
 use Rattle.pg_wire.specs.Streams.{SourceView, SinkView}
 use Rattle.pg_machine.specs.Machines.{Table}
@@ -38,9 +38,16 @@ over a before after = record {
   result = a.result;
 }
 
--- all that the program promises, where it played over this link
-abbrev pub PlaysOver : LinkView → Around → Type 0
-PlaysOver before a = (after : LinkView) × RunContract (over a before after)
+-- memory lacked before anything was read or written
+pub record LacksMemory (a : Around) : Type 0 where
+  pub status : a.status ≡ 5
+  pub result : a.result ≡ None
+  pub source : a.source_after ≡ a.source_before
+  pub sink : a.sink_after ≡ a.sink_before
+
+-- all that the program promises of a text that is played over this link, unless memory lacked at once
+abbrev pub PlaysOver : (before after : LinkView) → Around → Type 0
+PlaysOver before after a = RunContract (over a before after) ⊎ LacksMemory a
 
 -- a link to a machine, before its first call
 abbrev pub machine_link : Table → (startup : List ℕ) → (cut room : ℕ) → LinkView

@@ -4,6 +4,7 @@ ghost use Rattle.std.specs.Prelude.{◌≡◌, ◌<◌, [], IfOk, option_map};
 ghost use Rattle.pg_server.specs.Echoes.{echo_step};
 ghost use Rattle.pg_server.specs.Servers.{heard_of};
 ghost use Rattle.pg_server.specs.Standings.{unfed};
+ghost use Rattle.pg_spec.specs.Links.{LinkView};
 ghost use Rattle.pg_tool.specs.SessionContract.{result_of};
 ghost use Rattle.pg_rehearse.specs.Rehearsals.{PlaysOver, server_link};
 
@@ -20,7 +21,7 @@ const STARTUP: [u8; 15] = [b'R', 0, 0, 0, 8, 0, 0, 0, 0, b'Z', 0, 0, 0, 5, b'I']
 
 /// A server that echoes. Its startup is AuthenticationOk and ReadyForQuery.
 pub fn echo_server(alloc: Global) -> Result<Server<Echo>, OutOfMemory>
-    ensures { IfOk result (λ server. heard_of (λ _. tt) server ≡ record { standing = unfed tt STARTUP; left = [] }) }
+    ensures { IfOk result (λ server. heard_of {S = Unit {0}} (λ _. tt) server ≡ record { standing = unfed tt STARTUP; left = [] }) }
 {
     let startup = Blob::from_slice(alloc, &STARTUP)?;
     match Server::new(alloc, Echo::new(alloc), startup) {
@@ -39,7 +40,7 @@ pub fn rehearse_echo<S: Source, K: Sink>(
 ) -> Outcome
     requires cut { 0 < pieces.cut }
     requires room { 0 < pieces.room }
-    ensures { PlaysOver (server_link echo_step tt STARTUP pieces.cut pieces.room) (record {
+    ensures { (after : LinkView) × PlaysOver (server_link {S = Unit {0}} echo_step tt STARTUP pieces.cut pieces.room) after (record {
       source_before = S.state source.old;
       source_after = S.state source.new;
       sink_before = K.state sink.old;

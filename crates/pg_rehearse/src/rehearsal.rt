@@ -1,9 +1,8 @@
 //! A session text over a link that is handed in.
 
 ghost use Rattle.std.specs.Prelude.{◌≡◌, IfOk, map, option_map, string_bytes};
-ghost use Rattle.pg_tool.specs.RunContract.{RunContract};
 ghost use Rattle.pg_tool.specs.SessionContract.{result_of};
-ghost use Rattle.pg_rehearse.specs.Rehearsals.{over, pipe_words};
+ghost use Rattle.pg_rehearse.specs.Rehearsals.{PlaysOver, pipe_words};
 
 use pg_tool::{Outcome, run};
 use pg_types::OutOfMemory;
@@ -38,14 +37,14 @@ pub(crate) fn rehearse<S: Source, K: Sink, L: Link>(
     sink: &mut K,
     link: &mut L,
 ) -> Outcome
-    ensures { RunContract (over (record {
+    ensures { PlaysOver (L.view link.old) (L.view link.new) (record {
       source_before = S.state source.old;
       source_after = S.state source.new;
       sink_before = K.state sink.old;
       sink_after = K.state sink.new;
       status = result.status;
       result = option_map result_of result.result;
-    }) (L.view link.old) (L.view link.new)) }
+    }) }
 {
     match pipe_words(alloc) {
         Ok(words) => run(alloc, words.as_slice(), source, sink, link),

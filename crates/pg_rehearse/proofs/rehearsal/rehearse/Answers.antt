@@ -1,8 +1,17 @@
-use Rattle.pg_rehearse.proofs.Lacking.{lacking}
+use Rattle.std.proofs.Common.{inl, inr, refl, ap, map, ◌∙◌}
+use Rattle.std.specs.Prelude.{option_map, string_bytes}
+use Rattle.pg_tool.specs.SessionContract.{result_of}
 use Rattle.pg_rehearse.proofs.rehearsal.rehearse.Goals as goal
 
 pub returns-in-Ok : goal.returns-in-Ok
-returns-in-Ok g c = rw c.in-Ok.ensures at c.run.ensures
+returns-in-Ok g c =
+    let words = ap (λ words. map string_bytes words) c.as_slice.ensures.value ∙ c.in-Ok.ensures in
+    inl (rw words at c.run.ensures)
 
 pub returns-in-Err : goal.returns-in-Err
-returns-in-Err g c = rw c.out_of_memory.ensures (lacking _ _ _)
+returns-in-Err g c = inr (record {
+  status = ap (λ outcome. outcome.status) c.out_of_memory.ensures;
+  result = ap (λ outcome. option_map result_of outcome.result) c.out_of_memory.ensures;
+  source = refl;
+  sink = refl;
+})
