@@ -1,6 +1,5 @@
 -- What reading a text answers, by what its lines say.
 use Rattle.std.proofs.Common.{◌≡◌, Result, Ok, Err, refl, sym, subst}
-use Rattle.pg_machine_file.specs.declared.draft.Draft.{Draft}
 use Rattle.pg_machine_file.specs.declared.draft.MachineFile.{MachineFile}
 use Rattle.pg_machine_file.specs.declared.fault.FileFault.{FileFault}
 use Rattle.pg_machine_file.specs.declared.fault.FileFault.TheVariants as file

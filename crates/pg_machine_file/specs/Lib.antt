@@ -1,2 +1,3 @@
 pub mod MachineTexts
 pub mod Readings
+pub mod Written

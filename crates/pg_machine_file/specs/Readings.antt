@@ -1,5 +1,5 @@
 -- What the functions that read a text answer, by its meaning.
-use Rattle.std.specs.Prelude.{◌≡◌, ℕ, List, ◌++◌, length, Option, option_map, Result, Ok, Err}
+use Rattle.std.specs.Prelude.{◌≡◌, ℕ, List, ◌++◌, length, option_map, Result, Ok, Err}
 use Rattle.pg_machine_file.specs.declared.draft.Draft.{Draft}
 use Rattle.pg_machine_file.specs.declared.fault.FileFault.{FileFault}
 use Rattle.pg_machine_file.specs.declared.fault.FileFault.TheVariants as file

@@ -1,7 +1,7 @@
 //! Plays a session text against a server that echoes, or a machine that is read from a file.
 #![tactic(auto)]
 
-ghost use Rattle.std.specs.Prelude.{◌≡◌};
+ghost use Rattle.std.specs.Prelude.{◌≡◌, ◌<◌};
 
 use pg_machine_file::{FileFault, machine_of};
 use pg_rehearse::{Outcome, Pieces, pieces_of, rehearse_echo, rehearse_machine};
@@ -62,14 +62,20 @@ fn refuse_machine(rt: &HostRuntime, fault: FileFault) -> u8 {
 }
 
 /// A session text on standard input against a server that echoes.
-fn echo(rt: &HostRuntime, pieces: Pieces) -> u8 {
+fn echo(rt: &HostRuntime, pieces: Pieces) -> u8
+    requires cut { 0 < pieces.cut }
+    requires room { 0 < pieces.room }
+{
     let mut source = ReadSource::new(rt.reader());
     let mut sink = WriteSink::new(io::writer(rt));
     status_of(rehearse_echo(rt.alloc(), pieces, &mut source, &mut sink))
 }
 
 /// A session text on standard input against the machine of a file.
-fn machine(rt: &HostRuntime, file: &str, pieces: Pieces) -> u8 {
+fn machine(rt: &HostRuntime, file: &str, pieces: Pieces) -> u8
+    requires cut { 0 < pieces.cut }
+    requires room { 0 < pieces.room }
+{
     let text = match fs::read(rt, file) {
         Ok(text) => text,
         Err(error) if matches!(error.kind(), io::ErrorKind::OutOfMemory) => return OUT_OF_MEMORY,
