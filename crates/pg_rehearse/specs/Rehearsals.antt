@@ -50,8 +50,8 @@ abbrev pub PlaysOver : (before after : LinkView) → Around → Type 0
 PlaysOver before after a = RunContract (over a before after) ⊎ LacksMemory a
 
 -- a link to a machine, before its first call
-abbrev pub machine_link : Table → (startup : List ℕ) → (cut room : ℕ) → LinkView
-machine_link table startup cut room = machine.link_of (record {
+abbrev pub new_machine : Table → (startup : List ℕ) → (cut room : ℕ) → machine.Served
+new_machine table startup cut room = record {
   table = table;
   startup = startup;
   cut = cut;
@@ -64,12 +64,22 @@ machine_link table startup cut room = machine.link_of (record {
   quiet = 0;
   dry = 0;
   lulls = 0;
-})
+}
 
--- a link to a server that a handler answers for, before its first call
-abbrev pub server_link : {S : Type 0} → Step S → S → (startup : List ℕ) → (cut room : ℕ) → LinkView
-server_link step state startup cut room = server.link_of step (record {
+-- the same, where it played over a new link to this machine
+abbrev pub PlaysMachine : Table → (startup : List ℕ) → (cut room : ℕ) → Around → Type 0
+PlaysMachine table startup cut room a =
+    (after : machine.Served) × PlaysOver (machine.link_of (new_machine table startup cut room)) (machine.link_of after) a
+
+-- a link to a server that a handler answers for, before its first call; `S` are the states of the handler
+abbrev pub new_server : {S : Type 0} → S → (startup : List ℕ) → (cut room : ℕ) → server.Served S
+new_server state startup cut room = record {
   heard = record { standing = unfed state startup; left = [] };
   crossed = untouched cut room;
   fault = None;
-})
+}
+
+-- the same, where it played over a new link to this server
+abbrev pub PlaysServer : {S : Type 0} → Step S → S → (startup : List ℕ) → (cut room : ℕ) → Around → Type 0
+PlaysServer {S} step state startup cut room a =
+    (after : server.Served S) × PlaysOver (server.link_of step (new_server state startup cut room)) (server.link_of step after) a

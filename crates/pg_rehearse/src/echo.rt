@@ -4,9 +4,8 @@ ghost use Rattle.std.specs.Prelude.{◌≡◌, ◌<◌, [], IfOk, option_map};
 ghost use Rattle.pg_server.specs.Echoes.{echo_step};
 ghost use Rattle.pg_server.specs.Servers.{heard_of};
 ghost use Rattle.pg_server.specs.Standings.{unfed};
-ghost use Rattle.pg_spec.specs.Links.{LinkView};
 ghost use Rattle.pg_tool.specs.SessionContract.{result_of};
-ghost use Rattle.pg_rehearse.specs.Rehearsals.{PlaysOver, server_link};
+ghost use Rattle.pg_rehearse.specs.Rehearsals.{PlaysServer};
 
 use crate::pieces::Pieces;
 use crate::rehearsal::{out_of_memory, rehearse};
@@ -40,7 +39,7 @@ pub fn rehearse_echo<S: Source, K: Sink>(
 ) -> Outcome
     requires cut { 0 < pieces.cut }
     requires room { 0 < pieces.room }
-    ensures { (after : LinkView) × PlaysOver (server_link {S = Unit {0}} echo_step tt STARTUP pieces.cut pieces.room) after (record {
+    ensures { PlaysServer {S = Unit {0}} echo_step tt STARTUP pieces.cut pieces.room (record {
       source_before = S.state source.old;
       source_after = S.state source.new;
       sink_before = K.state sink.old;

@@ -1,9 +1,8 @@
 //! A session text against a machine.
 
 ghost use Rattle.std.specs.Prelude.{◌<◌, option_map};
-ghost use Rattle.pg_spec.specs.Links.{LinkView};
 ghost use Rattle.pg_tool.specs.SessionContract.{result_of};
-ghost use Rattle.pg_rehearse.specs.Rehearsals.{PlaysOver, machine_link};
+ghost use Rattle.pg_rehearse.specs.Rehearsals.{PlaysMachine};
 
 use crate::pieces::Pieces;
 use crate::rehearsal::rehearse;
@@ -24,7 +23,7 @@ pub fn rehearse_machine<S: Source, K: Sink>(
 ) -> Outcome
     requires cut { 0 < pieces.cut }
     requires room { 0 < pieces.room }
-    ensures { (after : LinkView) × PlaysOver (machine_link file.machine file.startup pieces.cut pieces.room) after (record {
+    ensures { PlaysMachine file.machine file.startup pieces.cut pieces.room (record {
       source_before = S.state source.old;
       source_after = S.state source.new;
       sink_before = K.state sink.old;
