@@ -5,3 +5,4 @@ pub mod Simple
 pub mod SimpleBack
 pub mod Headlines
 pub mod Alone
+pub mod Isolated

@@ -1,9 +1,10 @@
 -- What follows for commands that met the same.
-use Rattle.std.specs.Prelude.{◌≡◌, ℕ, List, map, Some}
+use Rattle.std.specs.Prelude.{◌≡◌, ℕ, List, [], map, Some}
 use Rattle.pg_spec.specs.RawMessages.{RawMessage}
+use Rattle.pg_spec.specs.Turns.{Times, entry_at}
 use Rattle.pg_course.specs.Dialogues.{Dialogue, Answers, Asks, Sends, Reads, Puts, Closes, Calls, behind}
-use Rattle.pg_course.specs.Courses.{Asked, Course, Request, Point, Given, Unfolds, met_in, outcome, unread}
-use Rattle.pg_course.specs.Meanings.{Ending, Meaning}
+use Rattle.pg_course.specs.Courses.{Asked, Course, Request, Point, Given, Met, Unfolds, met_in, outcome, outcome_of, questions_of, requests_of, unread}
+use Rattle.pg_course.specs.Meanings.{Did, Ending, Meaning}
 
 -- how a command unfolds, from any point, follows from what it met alone: what it booked, what it asked, its answer, and what it left
 abbrev pub ComesOfIt : {Q R A : Type 0} → Course Q R → Point → Dialogue Q R A → List Request → List (Asked Q R) → Given A → Type 0
@@ -39,6 +40,26 @@ pub record IsSame {C A E Q R : Type 0} {meaning : Meaning C A E Q R} (c : C) (a 
   pub requests : map (λ r. r.booking.parts) y.requests ≡ map (λ r. r.booking.parts) x.requests
   pub asked : map (λ q. q.question) y.asked ≡ map (λ q. q.question) x.asked
   pub left : unread b y.given.at ≡ unread a x.given.at
+
+-- A command of a session: which it is, what it did, and so what the report says of it.
+pub record RanSo {C A E Q R : Type 0} (meaning : Meaning C A E Q R) (c : C) (answers : List (List A)) (course : Course Q R) : Type 0 where
+  pub handle : ℕ
+  pub place : ℕ
+  pub times : Times
+  pub states : List (List E)
+  pub did : Did meaning course states answers handle place c times
+
+-- what it met: the replies to its own requests, and what its desk told it
+abbrev pub met_by : {Q R : Type 0} → Course Q R → (handle place : ℕ) → Met R
+met_by course handle place = met_in course (requests_of course.book handle place) (questions_of course.asked handle place)
+
+-- What it booked, asked and answered is the outcome of its dialogue on what it met.
+pub record IsOutcome {C A E Q R : Type 0} {meaning : Meaning C A E Q R} (c : C) (answers : List (List A)) (course : Course Q R) (x : RanSo meaning c answers course) : Type 0 where
+  pub ending : Ending A E
+  pub left : List RawMessage
+  pub answered : entry_at answers x.handle x.place ≡ Some ending.answer
+  pub comes : outcome_of (meaning.asks x.did.before c) (met_by course x.handle x.place)
+      ≡ record { parts = []; requests = map (λ r. r.booking.parts) (requests_of course.book x.handle x.place); asked = map (λ a. a.question) (questions_of course.asked x.handle x.place); answer = Some ending; left = left }
 
 -- ---- nothing is left to choose
 

@@ -2,10 +2,10 @@
 
 ghost use Rattle.std.specs.Prelude.{◌≡◌, ℕ, List, [], Option, ⊤};
 ghost use Rattle.pg_spec.specs.SimpleQuery.{SimpleAnswer};
-ghost use Rattle.pg_spec.specs.Turns.{IsFirstTurn, IsOwnTurn, Times};
+ghost use Rattle.pg_spec.specs.Turns.{IsFirstTurn, IsOwnTurn, Times, entry_at};
 ghost use Rattle.pg_course.specs.Courses.{Asked, Course, Request, Point, Given, Unfolds, met_in, questions_of, unread};
 ghost use Rattle.pg_course.specs.Dialogues.{Answers, Dialogue, behind};
-ghost use Rattle.pg_course.specs.Isolation.{answer_alone, ComesOfIt, DidSo, IsByNames, IsSame, NoPuts};
+ghost use Rattle.pg_course.specs.Isolation.{answer_alone, ComesOfIt, DidSo, IsByNames, IsOutcome, IsSame, met_by, NoPuts, RanSo};
 ghost use Rattle.pg_course.specs.Meanings.{Ending, HasRun, Meaning};
 ghost use Rattle.pg_course.specs.Simples.{AreSimple, Headline, IsAsBefore, Simply, Unmapped, UnfoldsBehind, UnfoldsSimple};
 
@@ -22,6 +22,18 @@ pub fn isolation<C, A, E, Q, R, N>()
     ensures { (meaning : Meaning C A E Q R) (named : C → E → N) → IsByNames meaning named →
         (c : C) (a b : Course Q R) (x : DidSo meaning c a) (y : DidSo meaning c b) → named c y.own ≡ named c x.own →
         met_in b y.requests y.asked ≡ met_in a x.requests x.asked → unread b y.from ≡ unread a x.from → IsSame c a b x y }
+{}
+
+/// What a command of a session booked, asked and answered is the outcome of its dialogue on what it met.
+pub fn outcome_of_a_command<C, A, E, Q, R>()
+    ensures { (meaning : Meaning C A E Q R) (c : C) (answers : List (List A)) (course : Course Q R) (x : RanSo meaning c answers course) → IsOutcome c answers course x }
+{}
+
+/// So in two sessions, whatever else they did, two reports say the same answer of a command that met the same and names the same.
+pub fn isolation_of_answers<C, A, E, Q, R, N>()
+    ensures { (meaning : Meaning C A E Q R) (named : C → E → N) → IsByNames meaning named →
+        (c : C) (one two : List (List A)) (a b : Course Q R) (x : RanSo meaning c one a) (y : RanSo meaning c two b) → named c y.did.before ≡ named c x.did.before →
+        met_by b y.handle y.place ≡ met_by a x.handle x.place → entry_at two y.handle y.place ≡ entry_at one x.handle x.place }
 {}
 
 /// Two dialogues that go on from one another in the same way but for what their scripts have then are the same but for that.
