@@ -73,7 +73,7 @@ pub record EndedWell {C A E Q R : Type 0} (meaning : Meaning C A E Q R) (s : Ses
   -- its commands did what they mean, by the server's replies
   pub asked : List (Asked Q R)
   pub has_run : HasRun meaning s.scripts s.turns s.report.answers (course_of s.report (replies s) asked)
-  -- No TLS was asked for. The startup is done, and behind it come whole groups, one for each request.
+  -- No TLS is required. The startup is done, and behind it come whole groups, one for each request.
   pub no_tls : s.settings.ssl_mode ≢ Require
   pub started : (used : ℕ) × ((startup_of s).outcome ≡ Done used)
   pub one_group_each : length (replies s) ≡ length s.report.book
