@@ -130,6 +130,7 @@ pub record Said : Type 0 where
   pub rows : List MachineRow
   pub numbers : List ℕ
 
+-- before the first line
 abbrev pub nothing_said : Said
 nothing_said = record { startup = None; refusal = None; rows = []; numbers = [] }
 
@@ -140,6 +141,7 @@ with_line n (says.Startup reply) s = if is_some s.startup then Err Twice else Ok
 with_line n (says.Refusal reply) s = if is_some s.refusal then Err Twice else Ok (record s { refusal = Some (n, reply) })
 with_line n (says.Row row) s = Ok (record s { rows = s.rows ++ row ∷ []; numbers = s.numbers ++ n ∷ [] })
 
+-- the same by the bytes of that line
 abbrev pub said_after : ℕ → List ℕ → Said → Result Said LineFault
 said_after n line s = do
   l ← line_at line

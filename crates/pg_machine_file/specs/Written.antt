@@ -18,6 +18,7 @@ row_words row = decimal row.state ∷ encode_lower row.frame ∷ decimal row.nex
 abbrev pub line_of : List ℕ → List (List ℕ) → List ℕ
 line_of word words = join_with_byte 32 (word ∷ words)
 
+-- a row as a line
 abbrev pub row_line : MachineRow → List ℕ
 row_line row = line_of (if row.opens then codes "opens" else codes "row") (row_words row)
 
