@@ -1,5 +1,5 @@
 -- What holds of all handles is kept by each turn.
-use Rattle.std.proofs.Common.{◌≡◌, ◌≢◌, ◌⊎◌, inl, inr, ℕ, zero, suc, ◌-◌, ◌^◌, ◌<◌, ◌≤◌, ◌==◌, ◌&&◌, List, [], ◌∷◌, ◌++◌, length, map, set, Bool, true, false, Option, Some, refl, sym, ap, subst, ◌∙◌, arith, slice_get, take, sum_by}
+use Rattle.std.proofs.Common.{◌≡◌, ◌≢◌, ◌⊎◌, inl, inr, ℕ, suc, ◌-◌, ◌^◌, ◌<◌, ◌≤◌, ◌==◌, ◌&&◌, List, [], ◌∷◌, ◌++◌, length, map, set, Bool, true, false, Option, Some, refl, sym, ap, subst, ◌∙◌, arith, slice_get, take, sum_by}
 use Rattle.std.specs.Prelude.{IsSome, is_some}
 use Rattle.std.specs.Option.{option_and_then}
 use Rattle.std.proofs.lemmas.Bool.{cases_eq, cases_lt}
@@ -24,6 +24,7 @@ use Rattle.pg_core.specs.Trails.{said_booking}
 use Rattle.pg_core.proofs.Counts.{came-by}
 use Rattle.pg_core.proofs.Owned.{others-questions, others-requests-apart}
 use Rattle.pg_core.proofs.Steps.{firm, reached-on}
+use Rattle.pg_session.proofs.LivesLists.{set-here, set-there}
 use Rattle.pg_lives.specs.Speeches.{Speech}
 use Rattle.pg_lives.specs.Handles.{HandleState}
 use Rattle.pg_lives.specs.Kept.{AllKept, AreKnown, Does, HandleKept, NoneFrom, Now, Past, Runs, book_of, free_of}
@@ -35,20 +36,6 @@ use Rattle.pg_lives.proofs.Numbers.{IsBookedBy, one-owner, reads-booked}
 use Rattle.pg_lives.proofs.Others.{LeavesAlone, others-keep}
 use Rattle.pg_lives.proofs.OwnTurn.{behind_turn}
 use Rattle.pg_lives.proofs.Rows.{get-within}
-
--- ---- writes
-
-pub set-here : {X : Type 0} (xs : List X) (i : ℕ) (old new x : X) → slice_get xs i ≡ Some old → slice_get (set xs i new) i ≡ Some x → x ≡ new
-set-here [] i old new x h k = absurd cc
-set-here (y ∷ xs) zero old new x h k = cc
-set-here (y ∷ xs) (suc i) old new x h k = set-here xs i old new x h k
-
-pub set-there : {X : Type 0} (xs : List X) (i j : ℕ) (new : X) → j ≢ i → slice_get (set xs i new) j ≡ slice_get xs j
-set-there [] i j new h = refl
-set-there (y ∷ xs) zero zero new h = absurd (h refl)
-set-there (y ∷ xs) zero (suc j) new h = refl
-set-there (y ∷ xs) (suc i) zero new h = refl
-set-there (y ∷ xs) (suc i) (suc j) new h = set-there xs i j new (λ e. h (ap suc e))
 
 -- a command of a script is one of what was asked
 pub entry-there : {C : Type 0} (scripts : List (List C)) (i place : ℕ) (script : List C) (c : C) → slice_get scripts i ≡ Some script → slice_get script place ≡ Some c → entry_at scripts i place ≡ Some c

@@ -28,6 +28,7 @@ use Rattle.pg_session.proofs.LivesHub.{SameBook, engine-all, no-more-closed}
 use Rattle.pg_session.proofs.LivesTakes.{engine-received}
 use Rattle.pg_session.specs.Lives.{calls_in_poll}
 use Rattle.pg_session.specs.Turns.{HandsOn}
+use Rattle.pg_session.proofs.LivesLists.{one-more}
 use Rattle.pg_lives.specs.Speeches.{Speech}
 use Rattle.pg_lives.specs.Handles.{HandleState}
 use Rattle.pg_lives.specs.States.{SessionState}
@@ -36,7 +37,6 @@ use Rattle.pg_lives.specs.Kept.{AllKept, NoneFrom}
 use Rattle.pg_lives.specs.SessionKept.{IsWithin, SessionKept, left}
 use Rattle.pg_lives.proofs.AllKept.{nobodys-keep}
 use Rattle.pg_lives.proofs.Hubs.{Becomes, becomes, engine-nobodys, nobodys, nobodys-events}
-use Rattle.pg_lives.proofs.Rows.{one-more}
 use Rattle.pg_lives.proofs.Session.{now_of, turn-at}
 
 -- what a poll's calls of the hub did, and that it began to close only where nothing more comes

@@ -23,6 +23,7 @@ use Rattle.pg_core.specs.Lists.{events_of}
 use Rattle.pg_core.specs.Outcomes.{asked}
 use Rattle.pg_core.specs.Trails.{PollEnds, point_of, ran_by}
 use Rattle.pg_core.proofs.Polls.{IsPoll, answer-ends, pause-ends, poll-is, under_stamp}
+use Rattle.pg_session.proofs.LivesLists.{get-cases, one-more}
 use Rattle.pg_lives.specs.Speeches.{AreCommands, Speech}
 use Rattle.pg_lives.specs.Handles.{HandleState}
 use Rattle.pg_lives.specs.HandleTurns.{Answers, Idles, Waits}
@@ -31,7 +32,7 @@ use Rattle.pg_lives.proofs.HandleTurn.{IsTurnAt, Started, StateBecomes, TurnSo, 
 use Rattle.pg_lives.proofs.Others.{done-on}
 use Rattle.pg_lives.proofs.OwnCalls.{own-keep}
 use Rattle.pg_lives.proofs.OwnTurn.{Grows, IsPolled, answers-so, behind_turn, grows, moment_in, waits-on}
-use Rattle.pg_lives.proofs.Rows.{free-before, free-last, get-cases, get-within, one-more, places-below, states-before, states-last}
+use Rattle.pg_lives.proofs.Rows.{free-before, free-last, get-within, places-below, states-before, states-last}
 use Rattle.pg_lives.proofs.Told as told
 
 module _ {C T A E : Type 0} (speech : Speech C T A E) (course : Course DeskCall Reply) (script : List C) (handle : ℕ) (now : Now) (later : List RawMessage) (old : HandleState T A E) (past : List (Past A E))

@@ -4,7 +4,6 @@ use Rattle.std.specs.Prelude.{is_some}
 use Rattle.pg_spec.specs.Faults.{FrameFault}
 use Rattle.pg_spec.specs.Frames.{query_frame}
 use Rattle.pg_spec.specs.Links.{LinkView, OfBytes, added}
-use Rattle.pg_spec.specs.RawMessages.{RawMessage}
 use Rattle.pg_spec.specs.Report as said
 use Rattle.pg_spec.specs.Report.{simple_answer}
 use Rattle.pg_spec.specs.Settings.{Settings}
@@ -13,7 +12,7 @@ use Rattle.pg_promises.specs.EndedWell.{later_messages}
 use Rattle.pg_client.specs.Simple.{answer_from, message_from}
 use Rattle.pg_query.specs.declared.desk_call.DeskCall.{DeskCall}
 use Rattle.pg_query.specs.declared.desk_call.Reply.{Reply}
-use Rattle.pg_text.specs.Views.{answer_of, command_of, item_of, report_of}
+use Rattle.pg_text.specs.Views.{answer_of, command_of, item_of}
 use Rattle.pg_text.specs.declared.command.Answer.{Answer}
 use Rattle.pg_text.specs.declared.command.Command.{Command}
 use Rattle.pg_text.specs.declared.command.Command.TheVariants as command
@@ -34,7 +33,7 @@ use Rattle.pg_headline.specs.Landed.{simply as in_words}
 use Rattle.pg_promises.specs.EndedWell as simple
 use Rattle.pg_lives.specs.Headlines.{asks_simple, session_of, simple_meaning}
 use Rattle.pg_lives.specs.Speeches.{meaning_of}
-use Rattle.pg_lives.specs.SimpleSessions.{simple_speech, simply}
+use Rattle.pg_lives.specs.SimpleSessions.{simple_speech}
 use Rattle.pg_lives.proofs.Renamed.{has-run-renamed}
 use Rattle.pg_lives.proofs.SimpleMeans.{are-simple}
 use Rattle.pg_lives.proofs.SimpleRan.{has-run-by}
@@ -56,16 +55,16 @@ answer-back (Err e) = refl
 
 -- ---- and so of dialogues
 
-abbrev Said : Type 0
+abbrev pub Said : Type 0
 Said = Dialogue DeskCall Reply (Ending said.Answer (Unit {0}))
 
-abbrev as_kept : Unit {0} → SimpleAnswer → Dialogue DeskCall Reply (Ending Answer (Unit {0}))
+abbrev pub as_kept : Unit {0} → SimpleAnswer → Dialogue DeskCall Reply (Ending Answer (Unit {0}))
 as_kept own a = Answers (record { answer = kept_answer (answer_from a); own = own })
 
-abbrev as_said : Ending Answer (Unit {0}) → Said
+abbrev pub as_said : Ending Answer (Unit {0}) → Said
 as_said e = Answers (record { answer = answer_of e.answer; own = e.own })
 
-abbrev in_said : Unit {0} → SimpleAnswer → Said
+abbrev pub in_said : Unit {0} → SimpleAnswer → Said
 in_said own a = Answers (record { answer = simple_answer a; own = own })
 
 answers-said : (own : Unit {0}) (a : SimpleAnswer) → in_said own a ≡ as_said (record { answer = kept_answer (answer_from a); own = own })
@@ -79,7 +78,7 @@ asks-said : (own : Unit {0}) (take : Option ℕ) (o : Result (List ℕ) FrameFau
 asks-said own take (Err fault) = refl
 asks-said own take (Ok frame) = ap (λ (d : Said). Asks false frame d) (reads-said own take (simple_reading take []))
 
-means-said : (own : Unit {0}) (c : Command) → asks_simple own (command_of c) ≡ behind ((meaning_of simple_speech).asks own c) as_said
+pub means-said : (own : Unit {0}) (c : Command) → asks_simple own (command_of c) ≡ behind ((meaning_of simple_speech).asks own c) as_said
 means-said own (command.Simple text take) =
     asks-said own take (query_frame text)
     ∙ ap (λ (d : Dialogue DeskCall Reply (Ending Answer (Unit {0}))). behind d as_said) (sym (are-simple own (command.Simple text take) text take refl))

@@ -1,5 +1,5 @@
 -- Books and lists of questions, as they grow.
-use Rattle.std.proofs.Common.{◌≡◌, ℕ, zero, suc, ◌+◌, ◌-◌, ◌<◌, ◌≤◌, List, [], ◌∷◌, ◌++◌, length, map, Option, option_map, unwrap_or, refl, sym, ap, subst, arith, slice_get, append_assoc}
+use Rattle.std.proofs.Common.{◌≡◌, ℕ, zero, suc, ◌+◌, ◌-◌, ◌<◌, ◌≤◌, List, [], ◌∷◌, ◌++◌, length, map, Option, option_map, unwrap_or, sym, ap, subst, arith, append_assoc}
 use Rattle.std.specs.Prelude.{IsSome}
 use Rattle.std.proofs.lemmas.List.{append-nil}
 use Rattle.std.proofs.lemmas.List.Elements.{All-nil, All-push, All-weaker}
@@ -11,6 +11,7 @@ use Rattle.pg_query.specs.declared.desk_call.Reply.{Reply}
 use Rattle.pg_course.specs.Courses.{Asked, Request, Who}
 use Rattle.pg_course.specs.Meanings.{AreTold, booked_in}
 use Rattle.pg_core.specs.Trails.{AreNumbered, AreToldIn}
+use Rattle.pg_session.proofs.Order.Traces.{in_front}
 use Rattle.pg_lives.specs.Kept.{AreKnown}
 
 module _ {C X : Type 0} (scripts : List (List C)) (owner command turn : X → ℕ) where
@@ -72,13 +73,8 @@ told-more tells who turn before (a ∷ asked) qs (reply, h) k =
 
 -- ---- the turns of bookings
 
-get-front : {X : Type 0} (xs ys : List X) (i : ℕ) → i < length xs → slice_get (xs ++ ys) i ≡ slice_get xs i
-get-front [] ys i h = absurd (omega (arith, h))
-get-front (x ∷ xs) ys zero h = refl
-get-front (x ∷ xs) ys (suc i) h = get-front xs ys i (omega (arith, h))
-
 pub booked-before : (xs ys : List Booking) (k : ℕ) → k < length xs → booked_in (xs ++ ys) k ≡ booked_in xs k
-booked-before xs ys k lt = ap (λ (o : Option Booking). unwrap_or (option_map (λ b. b.stamp.turn) o) 0) (get-front xs ys k lt)
+booked-before xs ys k lt = ap (λ (o : Option Booking). unwrap_or (option_map (λ b. b.stamp.turn) o) 0) (in_front xs ys k lt)
 
 pub booked-now : (who : Who) (turn n : ℕ) (xs : List Booking) (rs : List Request) (k : ℕ) → AreNumbered who turn n rs → length xs ≤ k → k < length (xs ++ map (λ r. r.booking) rs) → booked_in (xs ++ map (λ r. r.booking) rs) k ≡ turn
 booked-now who turn n [] [] k h ge lt = absurd (omega (arith, lt))

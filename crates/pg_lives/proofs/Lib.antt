@@ -23,3 +23,4 @@ pub mod SimplePlayed
 pub mod SimpleRan
 pub mod Renamed
 pub mod Headlines
+pub mod Landed

@@ -1,15 +1,14 @@
 -- What commands did, told in other words.
 use Rattle.std.proofs.Common.{◌≡◌, ℕ, zero, suc, ◌<◌, List, [], ◌∷◌, length, map, Option, Some, None, option_map, refl, sym, ap, subst, ◌∙◌, slice_get}
-use Rattle.std.specs.Prelude.{All, IsSome, is_some}
-use Rattle.std.specs.Option.{option_and_then}
+use Rattle.std.specs.Prelude.{IsSome, is_some}
 use Rattle.std.proofs.lemmas.List.{length-map}
 use Rattle.std.proofs.lemmas.List.Elements.{All-weaker}
 use Rattle.std.proofs.lemmas.Option.{same_Some, slice_get-map}
 use Rattle.pg_spec.specs.Book.{Booking}
-use Rattle.pg_spec.specs.Turns.{IsTrace, Times, entry_at}
+use Rattle.pg_spec.specs.Turns.{IsTrace, entry_at}
 use Rattle.pg_course.specs.Courses.{Asked, Course, Unfolds, begun_in, nowhere, questions_of, requests_of}
 use Rattle.pg_course.specs.Dialogues.{Answers, Dialogue, behind}
-use Rattle.pg_course.specs.Meanings.{Did, Ending, HasRun, Meaning}
+use Rattle.pg_course.specs.Meanings.{Ending, HasRun, Meaning}
 use Rattle.pg_lives.proofs.Told.{told-so}
 
 lengths-map : {X Y : Type 0} (f : X → Y) (rows : List (List X)) → map length (map (map f) rows) ≡ map length rows

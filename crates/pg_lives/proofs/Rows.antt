@@ -1,35 +1,8 @@
 -- Rows of commands that answered, as they grow.
-use Rattle.std.proofs.Common.{◌≡◌, ◌⊎◌, inl, inr, ℕ, zero, suc, ◌+◌, ◌<◌, ◌≤◌, List, [], ◌∷◌, ◌++◌, length, Option, Some, option_map, unwrap_or, refl, sym, ap, ◌∙◌, arith, slice_get}
+use Rattle.std.proofs.Common.{◌≡◌, ℕ, zero, suc, ◌+◌, ◌<◌, ◌≤◌, List, [], ◌∷◌, ◌++◌, length, Option, Some, option_map, unwrap_or, refl, sym, ap, ◌∙◌, arith, slice_get}
 use Rattle.std.proofs.lemmas.Option.{slice_get-map}
+use Rattle.pg_session.proofs.LivesLists.{get-before, get-last}
 use Rattle.pg_lives.specs.Kept.{Past, free_of, states_of}
-
--- an item in front of the last one
-pub get-before : {X : Type 0} (xs : List X) (y : X) (i : ℕ) → i < length xs → slice_get (xs ++ y ∷ []) i ≡ slice_get xs i
-get-before [] y i h = absurd (omega (arith, h))
-get-before (x ∷ xs) y zero h = refl
-get-before (x ∷ xs) y (suc i) h = get-before xs y i (omega (arith, h))
-
--- the last one
-pub get-last : {X : Type 0} (xs : List X) (y : X) → slice_get (xs ++ y ∷ []) (length xs) ≡ Some y
-get-last [] y = refl
-get-last (x ∷ xs) y = get-last xs y
-
--- an item of a list that grew stood before or is the last
-pub get-cases : {X : Type 0} (xs : List X) (y x : X) (i : ℕ) → slice_get (xs ++ y ∷ []) i ≡ Some x →
-    ((i < length xs) × (slice_get xs i ≡ Some x)) ⊎ ((i ≡ length xs) × (x ≡ y))
-get-cases [] y x zero h = let same : x ≡ y = cc in inr (refl, same)
-get-cases [] y x (suc i) h = absurd cc
-get-cases (z ∷ xs) y x zero h = inl (omega arith, h)
-get-cases {X} (z ∷ xs) y x (suc i) h = by (get-cases xs y x i h)
-  where
-    by : ((i < length xs) × (slice_get xs i ≡ Some x)) ⊎ ((i ≡ length xs) × (x ≡ y)) →
-        ((suc i < length (z ∷ xs)) × (slice_get xs i ≡ Some x)) ⊎ ((suc i ≡ length (z ∷ xs)) × (x ≡ y))
-    by (inl k) = inl (omega (arith, k.0), k.1)
-    by (inr k) = inr (ap suc k.0, k.1)
-
-pub one-more : {X : Type 0} (xs : List X) (x : X) → length (xs ++ x ∷ []) ≡ suc (length xs)
-one-more [] x = refl
-one-more (y ∷ xs) x = ap suc (one-more xs x)
 
 pub get-within : {X : Type 0} (xs : List X) (i : ℕ) (x : X) → slice_get xs i ≡ Some x → i < length xs
 get-within [] i x e = absurd cc

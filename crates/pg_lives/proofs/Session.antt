@@ -22,6 +22,8 @@ use Rattle.pg_session.proofs.LivesCame.{counted-last}
 use Rattle.pg_session.specs.Turns.{Closes, ClosesBehind, left_behind, untouched}
 use Rattle.pg_session.specs.declared.handle_turn.Polling.{Polling}
 use Rattle.pg_session.specs.declared.handle_turn.Polling.TheVariants as polling
+use Rattle.pg_session.proofs.LivesLists.{get-last, one-more}
+use Rattle.pg_session.proofs.Order.Traces.{in_front}
 use Rattle.pg_lives.specs.Speeches.{AreCommands, Speech}
 use Rattle.pg_lives.specs.Handles.{HandleState}
 use Rattle.pg_lives.specs.States.{SessionState}
@@ -35,20 +37,15 @@ use Rattle.pg_lives.proofs.HandleTurn.{IsTurnAt, TurnSo, answered-many}
 use Rattle.pg_lives.proofs.Hubs.{answers-state, becomes, closing-nobodys, nobodys, none-given, waits-state}
 use Rattle.pg_lives.proofs.Left.{left-at, left-set}
 use Rattle.pg_lives.proofs.OwnTurn.{behind_turn}
-use Rattle.pg_lives.proofs.Rows.{get-last, get-within, one-more}
+use Rattle.pg_lives.proofs.Rows.{get-within}
 
 -- ---- the course of the whole session
-
-get-front : {X : Type 0} (xs ys : List X) (i : ℕ) → i < length xs → slice_get (xs ++ ys) i ≡ slice_get xs i
-get-front [] ys i h = absurd (omega (arith, h))
-get-front (x ∷ xs) ys zero h = refl
-get-front (x ∷ xs) ys (suc i) h = get-front xs ys i (omega (arith, h))
 
 -- the mark of the next turn
 mark-at : (trace : List TurnMark) (m : TurnMark) (whole : List TurnMark) → IsFrontOf (trace ++ m ∷ []) whole → slice_get whole (length trace) ≡ Some m
 mark-at trace m whole (rest, e) =
     ap (λ (l : List TurnMark). slice_get l (length trace)) (sym e)
-    ∙ get-front (trace ++ m ∷ []) rest (length trace) (let s = one-more trace m in omega (arith, s)) ∙ get-last trace m
+    ∙ in_front (trace ++ m ∷ []) rest (length trace) (let s = one-more trace m in omega (arith, s)) ∙ get-last trace m
 
 pub turn-at : (trace : List TurnMark) (m : TurnMark) (whole : List TurnMark) → IsFrontOf (trace ++ m ∷ []) whole → turn_of whole (length trace) ≡ m.turn
 turn-at trace m whole h = ap (λ (o : Option TurnMark). unwrap_or (option_map (λ mark. mark.turn) o) 0) (mark-at trace m whole h)
@@ -56,7 +53,7 @@ turn-at trace m whole h = ap (λ (o : Option TurnMark). unwrap_or (option_map (�
 -- what was delivered when it begins
 before-front : (trace rest : List TurnMark) (n : ℕ) → n ≤ length trace → delivered_before (trace ++ rest) n ≡ delivered_before trace n
 before-front trace rest zero le = refl
-before-front trace rest (suc n) le = ap (λ (o : Option TurnMark). unwrap_or (option_map (λ mark. mark.delivered) o) 0) (get-front trace rest n (omega (arith, le)))
+before-front trace rest (suc n) le = ap (λ (o : Option TurnMark). unwrap_or (option_map (λ mark. mark.delivered) o) 0) (in_front trace rest n (omega (arith, le)))
 
 before-at : (trace : List TurnMark) (m : TurnMark) (whole : List TurnMark) → IsFrontOf (trace ++ m ∷ []) whole → delivered_before whole (length trace) ≡ delivered_before trace (length trace)
 before-at trace m whole (rest, e) =

@@ -21,13 +21,13 @@ use Rattle.pg_session.specs.Sessions as played
 use Rattle.pg_session.specs.States as simple
 use Rattle.pg_session.specs.Turns as turns
 use Rattle.pg_session.specs.Turns.{untouched}
+use Rattle.pg_session.proofs.LivesLists.{set-here, set-there}
 use Rattle.pg_lives.specs.HandleTurns.{AsksCommand, StartsAt, Waits}
 use Rattle.pg_lives.specs.Handles.{HandleState}
 use Rattle.pg_lives.specs.SimpleSessions.{PlaysSo, handle_of, says_of, simple_speech, state_of}
 use Rattle.pg_lives.specs.States.{new_handles}
 use Rattle.pg_lives.specs.Turns.{ConnectionMade, HandleMade, HandleTurns, Makes}
 use Rattle.pg_lives.specs.Sessions.{IsNewSession, MakesAll, calls_in, calls_in_turn}
-use Rattle.pg_lives.proofs.AllKept.{set-here, set-there}
 
 -- ---- a turn of a handle
 

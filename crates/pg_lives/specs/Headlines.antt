@@ -1,5 +1,5 @@
 -- Sessions of simple queries in the words of the main theorem over any commands.
-use Rattle.std.specs.Prelude.{ℕ, List, map}
+use Rattle.std.specs.Prelude.{ℕ, List}
 use Rattle.pg_spec.specs.Report as said
 use Rattle.pg_spec.specs.Report.{simple_answer}
 use Rattle.pg_spec.specs.Settings.{Settings}

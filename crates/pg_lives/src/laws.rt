@@ -5,6 +5,9 @@ ghost use Rattle.pg_spec.specs.Links.{LinkView, OfBytes};
 ghost use Rattle.pg_spec.specs.RawMessages.{RawMessage, groups, sync_of};
 ghost use Rattle.pg_spec.specs.Settings.{Settings};
 ghost use Rattle.pg_promises.specs.EndedWell.{replies};
+ghost use Rattle.pg_promises.specs.EndedWell as theorem;
+ghost use Rattle.pg_spec.specs.Turns.{Times};
+ghost use Rattle.pg_text.specs.Views.{report_of, scripts_of};
 ghost use Rattle.pg_connect.specs.Passed.{delivered_by};
 ghost use Rattle.pg_desk.specs.History.{IsFrontOf};
 ghost use Rattle.pg_query.specs.declared.desk_call.DeskCall.{DeskCall};
@@ -76,11 +79,14 @@ pub fn a_session_of_simple_queries_has_run()
         simple_sessions.HasPlayed settings nonce scripts given before after report → (replies : List (List RawMessage)) × HasRunBy scripts given report replies }
 {}
 
-/// By the main theorem over any commands it ended well, and so by that on simple queries.
+/// By the main theorem over any commands it ended well where its link tells its bytes, and so by that on simple queries; and over every
+/// link it did what that says without the bytes.
 pub fn a_session_of_simple_queries_ended_well()
     ensures ended_well { (settings : Settings) (nonce : List ℕ) (scripts : List (List Command)) (given : List ℕ) (before after : LinkView) (report : Report) →
         simple_sessions.HasPlayed settings nonce scripts given before after report →
         OfBytes before after (λ g t. EndedWell simple_meaning (headlines.session_of settings nonce scripts given report g) t) }
     ensures as_before { (settings : Settings) (nonce : List ℕ) (scripts : List (List Command)) (given : List ℕ) (before after : LinkView) (report : Report) →
         simple_sessions.HasPlayed settings nonce scripts given before after report → EndsWell settings nonce scripts given before after report }
+    ensures as_before_anyway { (settings : Settings) (nonce : List ℕ) (scripts : List (List Command)) (given : List ℕ) (before after : LinkView) (report : Report) →
+        simple_sessions.HasPlayed settings nonce scripts given before after report → (schedule : List (List Times)) × theorem.HasRun (scripts_of scripts) given (report_of report) schedule }
 {}

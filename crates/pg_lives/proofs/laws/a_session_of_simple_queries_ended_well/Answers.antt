@@ -1,4 +1,5 @@
 use Rattle.pg_lives.proofs.Headlines.{ends-as-before, ends-in-headline}
+use Rattle.pg_lives.proofs.Landed.{landed-anyway}
 use Rattle.pg_lives.proofs.laws.a_session_of_simple_queries_ended_well.Goals as goal
 
 pub returns-clause-ended_well : goal.returns-clause-ended_well
@@ -6,3 +7,6 @@ returns-clause-ended_well c settings nonce scripts given before after report p =
 
 pub returns-clause-as_before : goal.returns-clause-as_before
 returns-clause-as_before c settings nonce scripts given before after report p = ends-as-before settings nonce scripts given before after report p
+
+pub returns-clause-as_before_anyway : goal.returns-clause-as_before_anyway
+returns-clause-as_before_anyway c settings nonce scripts given before after report p = landed-anyway settings nonce scripts given before after report p
