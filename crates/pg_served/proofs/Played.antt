@@ -31,12 +31,12 @@ pub server-session : {S : Type 0} (step : Step S) (heard : Heard S) (cut room : 
     asked.before ≡ server_links.link_of step (new_server_link heard cut room) → link ≡ new_server_link heard cut room →
     SessionContract (call_to (record asked { before = server_links.link_of step link }) (server_links.link_of step after)) (result_of result) →
     IfOk result (λ report. (s : Settings) × Means asked.config s × HasPlayed s asked.nonce asked.scripts asked.turns (server_links.link_of step link) (server_links.link_of step after) report) →
-    IsSession asked (ServesOneAtATime step heard) result
+    IsSession (server_links.link_of step) asked (ServesOneAtATime step heard) result
 server-session {S = S} step heard cut room link after asked result before_is link_is session played =
     let ran : Ran asked (server_links.link_of step after) result
     = ran-so asked (server_links.link_of step link) (server_links.link_of step after) result (ap (server_links.link_of step) link_is ∙ sym before_is) session played in
     record {
-      after = server_links.link_of step after;
+      after = after;
       session = ran.session;
       played = ran.played;
       also = serves-alone step heard cut room after (call_to asked (server_links.link_of step after)) (result_of result) before_is refl ran.session;
@@ -46,12 +46,12 @@ pub machine-session : (table : Table) (startup : List ℕ) (cut room : ℕ) (lin
     asked.before ≡ machine_links.link_of (new_machine_link table startup cut room) → link ≡ new_machine_link table startup cut room →
     SessionContract (call_to (record asked { before = machine_links.link_of link }) (machine_links.link_of after)) (result_of result) →
     IfOk result (λ report. (s : Settings) × Means asked.config s × HasPlayed s asked.nonce asked.scripts asked.turns (machine_links.link_of link) (machine_links.link_of after) report) →
-    IsSession asked (MachineOneAtATime table startup) result
+    IsSession machine_links.link_of asked (MachineOneAtATime table startup) result
 machine-session table startup cut room link after asked result before_is link_is session played =
     let ran : Ran asked (machine_links.link_of after) result
     = ran-so asked (machine_links.link_of link) (machine_links.link_of after) result (ap machine_links.link_of link_is ∙ sym before_is) session played in
     record {
-      after = machine_links.link_of after;
+      after = after;
       session = ran.session;
       played = ran.played;
       also = machine-alone table startup cut room after (call_to asked (machine_links.link_of after)) (result_of result) before_is refl ran.session;

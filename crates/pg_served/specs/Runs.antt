@@ -40,13 +40,14 @@ call_to asked after = call_of asked.config asked.nonce asked.scripts asked.turns
 abbrev pub RanOneAtATime : {S : Type 0} → Service S → S → (startup : List ℕ) → Call → Report → Type 0
 RanOneAtATime service begins startup call report = OfDialogue call (λ s g t. IsOneAtATime service begins startup (session_of call s g report))
 
--- The session was played as asked, with all that any session promises of its link; and where it answers Ok, P.
-pub record IsSession (asked : Asked) (P : Call → Report → Type 0) (result : Result told.Report Error) : Type 0 where
+-- The session was played as asked, with all that any session promises of its link, which stays a link of this kind, with this view;
+-- and where it answers Ok, P.
+pub record IsSession {X : Type 0} (view : X → LinkView) (asked : Asked) (P : Call → Report → Type 0) (result : Result told.Report Error) : Type 0 where
   -- the link behind the call
-  pub after : LinkView
-  pub session : SessionContract (call_to asked after) (result_of result)
-  pub played : IfOk result (λ report. (s : Settings) × Means asked.config s × HasPlayed s asked.nonce asked.scripts asked.turns asked.before after report)
-  pub also : IfOk (result_of result) (P (call_to asked after))
+  pub after : X
+  pub session : SessionContract (call_to asked (view after)) (result_of result)
+  pub played : IfOk result (λ report. (s : Settings) × Means asked.config s × HasPlayed s asked.nonce asked.scripts asked.turns asked.before (view after) report)
+  pub also : IfOk (result_of result) (P (call_to asked (view after)))
 
 -- ---- a server
 

@@ -14,8 +14,9 @@ use pg_types::Blob;
 use std::alloc::Global;
 
 /// Plays the scripts over a link to this server, which gives at most `cut` bytes a read and takes at most `room` bytes a
-/// write. Where it answers Ok and the server was fed with nothing before, the server's reply to each request is what it is
-/// where the requests are fed one at a time, whatever the turns, `cut` and `room`.
+/// write. Where it answers Ok and the server was fed with nothing before, the server's reply to each request, but for
+/// notices, notifications and parameter reports, is what it is where the requests are fed one at a time, whatever the turns,
+/// `cut` and `room`.
 pub fn run_served<H: Handler + Drop>(
     alloc: Global,
     config: &str,
@@ -30,7 +31,7 @@ pub fn run_served<H: Handler + Drop>(
     requires limit { max_bytes < 2 ^ 63 }
     requires cut { 0 < cut }
     requires room { 0 < room }
-    ensures session { IsSession
+    ensures session { IsSession (server_links.link_of H.step)
         (record {
           config = config.now;
           nonce = nonce.now;
@@ -46,8 +47,8 @@ pub fn run_served<H: Handler + Drop>(
 }
 
 /// Plays the scripts over a link to this machine, which gives at most `cut` bytes a read and takes at most `room` bytes a
-/// write. Where it answers Ok and the startup asks for nothing, the machine's reply to each request is what `feed_alone`
-/// answers, whatever the turns, `cut` and `room`.
+/// write. Where it answers Ok and the startup asks for nothing, the machine's reply to each request, but for notices,
+/// notifications and parameter reports, is what `feed_alone` answers, whatever the turns, `cut` and `room`.
 pub fn run_over_machine(
     alloc: Global,
     config: &str,
@@ -63,7 +64,7 @@ pub fn run_over_machine(
     requires limit { max_bytes < 2 ^ 63 }
     requires cut { 0 < cut }
     requires room { 0 < room }
-    ensures session { IsSession
+    ensures session { IsSession machine_links.link_of
         (record {
           config = config.now;
           nonce = nonce.now;
