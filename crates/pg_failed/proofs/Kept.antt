@@ -1,0 +1,58 @@
+-- Simple queries ask at once, and hold nothing back.
+use Rattle.std.proofs.Common.{◌≡◌, ℕ, List, [], ◌∷◌, Bool, true, false, Option, Some, None, Result, Ok, Err, refl, sym, subst}
+use Rattle.std.specs.Prelude.{All, IsTrue}
+use Rattle.std.specs.List.{AllByRecursion}
+use Rattle.std.proofs.lemmas.List.Elements.{All-from_recursion, recursion_from_All}
+use Rattle.pg_course.specs.Dialogues.{Dialogue, Answers, behind}
+use Rattle.pg_course.specs.Meanings.{Ending, Meaning}
+use Rattle.pg_course.specs.Simples.{AreSimple, asks_by, reads_unless}
+use Rattle.pg_failed.specs.Kept.{AsksAtOnce, BeginsWithRequest, HasNoCopy, NoneKeptBack}
+use Rattle.pg_failed.specs.Landed.{call_of}
+use Rattle.pg_headline.specs.Landed.{simply}
+use Rattle.pg_promises.specs.Causes.{Call}
+use Rattle.pg_promises.specs.Promises as simple
+use Rattle.pg_promises.specs.Promises.{is_plain}
+use Rattle.pg_spec.specs.Faults.{Failure, FrameFault, Stalled, Tls}
+use Rattle.pg_spec.specs.Frames.{query_frame}
+use Rattle.pg_spec.specs.Report.{Answer, Command, Report, Simple, simple_answer}
+use Rattle.pg_spec.specs.SimpleQuery.{SimpleAnswer, simple_reading}
+
+module _ (Q R A : Type 0) (wanted : Option ℕ) (next : SimpleAnswer → A) where
+  one-request : (f : Result (List ℕ) FrameFault) → elim f as (λ _. Bool) [ Ok frame ↦ true | Err fault ↦ false ] ≡ true →
+      BeginsWithRequest {Q = Q} {R = R} {A = A} (behind (asks_by wanted f) (λ a. Answers (next a)))
+      × HasNoCopy {Q = Q} {R = R} {A = A} (behind (asks_by wanted f) (λ a. Answers (next a)))
+  one-request (Err fault) h = absurd cc
+  one-request (Ok frame) h = (tt, (refl, by (simple_reading wanted [])))
+    where
+      by : (r : Option SimpleAnswer) → HasNoCopy {Q = Q} {R = R} {A = A} (behind (reads_unless wanted r) (λ a. Answers (next a)))
+      by (Some a) = tt
+      by None = λ ms. tt
+
+module _ {E Q R : Type 0} (meaning : Meaning Command Answer E Q R) (are : AreSimple meaning simply) where
+  at-once : (c : Command) → IsTrue (is_plain c) → AsksAtOnce meaning c
+  at-once (Simple text (Some n)) h = absurd cc
+  at-once (Simple text None) h = record {
+    begins = λ own. subst (λ (d : Dialogue Q R (Ending Answer E)). BeginsWithRequest d) (sym (are own (Simple text None) text None refl))
+        (one-request Q R (Ending Answer E) None (λ a. record { answer = simple_answer a; own = own }) (query_frame text) h).0;
+    no_copy = λ own. subst (λ (d : Dialogue Q R (Ending Answer E)). HasNoCopy d) (sym (are own (Simple text None) text None refl))
+        (one-request Q R (Ending Answer E) None (λ a. record { answer = simple_answer a; own = own }) (query_frame text) h).1;
+  }
+
+  script-at-once : (script : List Command) → AllByRecursion (λ c. IsTrue (is_plain c)) script → AllByRecursion (AsksAtOnce meaning) script
+  script-at-once [] h = tt
+  script-at-once (c ∷ script) h = (at-once c h.0, script-at-once script h.1)
+
+  scripts-at-once : (scripts : List (List Command)) → AllByRecursion (λ script. All (λ c. IsTrue (is_plain c)) script) scripts → AllByRecursion (λ script. All (AsksAtOnce meaning) script) scripts
+  scripts-at-once [] h = tt
+  scripts-at-once (script ∷ scripts) h =
+      (All-from_recursion (AsksAtOnce meaning) script (script-at-once script (recursion_from_All (λ c. IsTrue (is_plain c)) script h.0)), scripts-at-once scripts h.1)
+
+  all-at-once : (scripts : List (List Command)) → All (λ script. All (λ c. IsTrue (is_plain c)) script) scripts → All (λ script. All (AsksAtOnce meaning) script) scripts
+  all-at-once scripts h =
+      All-from_recursion (λ script. All (AsksAtOnce meaning) script) scripts (scripts-at-once scripts (recursion_from_All (λ script. All (λ c. IsTrue (is_plain c)) script) scripts h))
+
+  pub kept : (call : Call) (result : Result Report Failure) → NoneKeptBack meaning (call_of call) result → simple.NoneKeptBack call result
+  kept call (Ok report) h = h
+  kept call (Err (Stalled before after)) h = λ steady plain. h steady (all-at-once call.scripts plain)
+  kept call (Err (Tls cause)) h = h
+  kept call (Err _) h = h

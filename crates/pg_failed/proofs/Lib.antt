@@ -1,0 +1,3 @@
+mod SentOrder
+mod NoFlush
+mod Kept
