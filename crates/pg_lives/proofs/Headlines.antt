@@ -7,12 +7,13 @@ use Rattle.pg_spec.specs.Links.{LinkView, OfBytes, added}
 use Rattle.pg_spec.specs.Report as said
 use Rattle.pg_spec.specs.Report.{simple_answer}
 use Rattle.pg_spec.specs.Settings.{Settings}
+use Rattle.pg_spec.specs.Turns.{Times}
 use Rattle.pg_spec.specs.SimpleQuery.{Columns, Complete, Item, Row, SimpleAnswer, simple_reading}
 use Rattle.pg_promises.specs.EndedWell.{later_messages}
 use Rattle.pg_client.specs.Simple.{answer_from, message_from}
 use Rattle.pg_query.specs.declared.desk_call.DeskCall.{DeskCall}
 use Rattle.pg_query.specs.declared.desk_call.Reply.{Reply}
-use Rattle.pg_text.specs.Views.{answer_of, command_of, item_of}
+use Rattle.pg_text.specs.Views.{answer_of, command_of, item_of, report_of, scripts_of}
 use Rattle.pg_text.specs.declared.command.Answer.{Answer}
 use Rattle.pg_text.specs.declared.command.Command.{Command}
 use Rattle.pg_text.specs.declared.command.Command.TheVariants as command
@@ -27,16 +28,16 @@ use Rattle.pg_session.specs.WholeSession.{EndsWell}
 use Rattle.pg_course.specs.Dialogues.{Answers, Asks, Dialogue, Reads, behind}
 use Rattle.pg_course.specs.Meanings.{Ending}
 use Rattle.pg_course.specs.Simples.{AreSimple, asks_by, reads_unless, told_or}
-use Rattle.pg_headline.proofs.Landed.{ended-well}
+use Rattle.pg_headline.proofs.Landed.{ended-well, has-run}
 use Rattle.pg_headline.specs.Endings.{EndedWell}
 use Rattle.pg_headline.specs.Landed.{simply as in_words}
 use Rattle.pg_promises.specs.EndedWell as simple
-use Rattle.pg_lives.specs.Headlines.{asks_simple, session_of, simple_meaning}
+use Rattle.pg_lives.specs.Headlines.{asks_simple, reported, session_of, simple_meaning}
 use Rattle.pg_lives.specs.Speeches.{meaning_of}
 use Rattle.pg_lives.specs.SimpleSessions.{simple_speech}
 use Rattle.pg_lives.proofs.Renamed.{has-run-renamed}
 use Rattle.pg_lives.proofs.SimpleMeans.{are-simple}
-use Rattle.pg_lives.proofs.SimpleRan.{has-run-by}
+use Rattle.pg_lives.proofs.SimpleRan.{has-run-anyway, has-run-by}
 
 -- ---- the words of answers
 
@@ -55,16 +56,16 @@ answer-back (Err e) = refl
 
 -- ---- and so of dialogues
 
-abbrev pub Said : Type 0
+abbrev Said : Type 0
 Said = Dialogue DeskCall Reply (Ending said.Answer (Unit {0}))
 
-abbrev pub as_kept : Unit {0} → SimpleAnswer → Dialogue DeskCall Reply (Ending Answer (Unit {0}))
+abbrev as_kept : Unit {0} → SimpleAnswer → Dialogue DeskCall Reply (Ending Answer (Unit {0}))
 as_kept own a = Answers (record { answer = kept_answer (answer_from a); own = own })
 
-abbrev pub as_said : Ending Answer (Unit {0}) → Said
+abbrev as_said : Ending Answer (Unit {0}) → Said
 as_said e = Answers (record { answer = answer_of e.answer; own = e.own })
 
-abbrev pub in_said : Unit {0} → SimpleAnswer → Said
+abbrev in_said : Unit {0} → SimpleAnswer → Said
 in_said own a = Answers (record { answer = simple_answer a; own = own })
 
 answers-said : (own : Unit {0}) (a : SimpleAnswer) → in_said own a ≡ as_said (record { answer = kept_answer (answer_from a); own = own })
@@ -78,7 +79,7 @@ asks-said : (own : Unit {0}) (take : Option ℕ) (o : Result (List ℕ) FrameFau
 asks-said own take (Err fault) = refl
 asks-said own take (Ok frame) = ap (λ (d : Said). Asks false frame d) (reads-said own take (simple_reading take []))
 
-pub means-said : (own : Unit {0}) (c : Command) → asks_simple own (command_of c) ≡ behind ((meaning_of simple_speech).asks own c) as_said
+means-said : (own : Unit {0}) (c : Command) → asks_simple own (command_of c) ≡ behind ((meaning_of simple_speech).asks own c) as_said
 means-said own (command.Simple text take) =
     asks-said own take (query_frame text)
     ∙ ap (λ (d : Dialogue DeskCall Reply (Ending Answer (Unit {0}))). behind d as_said) (sym (are-simple own (command.Simple text take) text take refl))
@@ -125,3 +126,11 @@ pub ends-as-before : (settings : Settings) (nonce : List ℕ) (scripts : List (L
 ends-as-before settings nonce scripts given before after report p =
     of-bytes before after (λ g t. simple.EndedWell (crossed.session_of settings nonce scripts given report g) t)
     (λ g t e d. ended-well simple_meaning in-headline (session_of settings nonce scripts given report g) t (ended settings nonce scripts given before after report p g t e d))
+
+-- over every link what that says without the bytes
+pub has-run-as-before : (settings : Settings) (nonce : List ℕ) (scripts : List (List Command)) (given : List ℕ) (before after : LinkView) (report : Report) → HasPlayed settings nonce scripts given before after report →
+    (schedule : List (List Times)) × simple.HasRun (scripts_of scripts) given (report_of report) schedule
+has-run-as-before settings nonce scripts given before after report p =
+    let some = has-run-anyway settings nonce scripts given before after report p in
+    let h = has-run-renamed (meaning_of simple_speech) asks_simple command_of answer_of means-said scripts given report.answers _ some.1.has_run in
+    (h.schedule, has-run simple_meaning in-headline (scripts_of scripts) given (reported report) some.0 some.1.asked h)

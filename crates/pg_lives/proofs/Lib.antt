@@ -23,4 +23,3 @@ pub mod SimplePlayed
 pub mod SimpleRan
 pub mod Renamed
 pub mod Headlines
-pub mod Landed

@@ -12,6 +12,7 @@ use Rattle.pg_course.specs.Dialogues.{Answers, Dialogue, behind}
 use Rattle.pg_course.specs.Meanings.{Ending, Meaning}
 use Rattle.pg_course.specs.Simples.{simple_query}
 use Rattle.pg_core.specs.Counters.{tells}
+use Rattle.pg_headline.specs.Endings as ending
 use Rattle.pg_headline.specs.Endings.{Session}
 
 -- what a simple query asks and answers, where its script keeps this
@@ -22,22 +23,19 @@ asks_simple own (said.Simple text take) = behind (simple_query text take) (λ a.
 abbrev pub simple_meaning : Meaning said.Command said.Answer (Unit {0}) DeskCall Reply
 simple_meaning = record { begins = tt; asks = asks_simple; tells = tells }
 
+-- what a session reported, in these words
+abbrev pub reported : Report → ending.Report said.Answer
+reported report = record {
+  answers = (report_of report).answers;
+  asynchronous = (report_of report).asynchronous;
+  parameters = (report_of report).parameters;
+  process_id = (report_of report).process_id;
+  secret_key = (report_of report).secret_key;
+  book = (report_of report).book;
+  trace = (report_of report).trace;
+  sent = (report_of report).sent;
+}
+
 -- the session that was played, where the server gave these bytes
 abbrev pub session_of : (settings : Settings) (nonce : List ℕ) (scripts : List (List Command)) (given : List ℕ) (report : Report) (g : List ℕ) → Session said.Command said.Answer
-session_of settings nonce scripts given report g = record {
-  settings = settings;
-  nonce = nonce;
-  scripts = scripts_of scripts;
-  turns = given;
-  given = g;
-  report = record {
-    answers = (report_of report).answers;
-    asynchronous = (report_of report).asynchronous;
-    parameters = (report_of report).parameters;
-    process_id = (report_of report).process_id;
-    secret_key = (report_of report).secret_key;
-    book = (report_of report).book;
-    trace = (report_of report).trace;
-    sent = (report_of report).sent;
-  };
-}
+session_of settings nonce scripts given report g = record { settings = settings; nonce = nonce; scripts = scripts_of scripts; turns = given; given = g; report = reported report }
