@@ -2,5 +2,6 @@
 use Rattle.pg_spec.specs.ClientFrames.{ClientFrame}
 use Rattle.pg_server.specs.declared.handler.Effect.{Effect}
 
+-- what it does with a frame: it gives the effect that is its state, and stays in it
 abbrev pub told_step : Effect → ClientFrame → Effect × Effect
 told_step effect frame = (effect, effect)

@@ -40,10 +40,11 @@ query_of (command.Simple text take) = Some (text, take)
 abbrev pub simply : Simply Command Answer
 simply = record { simple = query_of; said = λ a. kept_answer (answer_from a) }
 
--- a handle and a session of simple queries
+-- a handle of simple queries
 abbrev pub handle_of : simple.HandleState → HandleState (List SimpleMessage) Answer (Unit {0})
 handle_of h = record { running = h.running; answers = h.answers; own = tt }
 
+-- a session of simple queries between two turns
 abbrev pub state_of : simple.SessionState → SessionState (List SimpleMessage) Answer (Unit {0})
 state_of s = record { hub = s.hub; streams = s.streams; handles = map handle_of s.handles; unanswered = s.unanswered; trace = s.trace; asynchronous = s.asynchronous }
 
