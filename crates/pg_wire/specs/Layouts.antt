@@ -1,5 +1,6 @@
 -- What reading a body by its layout answers.
-use Rattle.std.specs.Prelude.{◌≡◌, ℕ, List, find, ◌==◌, Bool, true, false, Option, Some, None, Result, Ok, Err}
+use Rattle.std.specs.Prelude.{◌≡◌, ℕ, List, find, ◌==◌, ◌||◌, Bool, true, false, Option, Some, None, Result, Ok, Err}
+use Rattle.std.specs.Str.{byte}
 use Rattle.pg_spec.specs.Bytes.{◌>>=◌}
 use Rattle.pg_spec.specs.Faults as spec
 use Rattle.pg_spec.specs.Messages as messages
@@ -19,6 +20,10 @@ abbrev pub LaidOut : Option messages.Message → Result Message WireFault → Ty
 LaidOut read (Ok message) = read ≡ Some (message_view message)
 LaidOut read (Err wire.Layout) = read ≡ None
 LaidOut read (Err _) = ⊥
+
+-- the tag of a message of a query's reply: a row, a completion, the columns or the end
+abbrev pub is_reply_tag : ℕ → Bool
+is_reply_tag tag = ((tag == byte "D" || tag == byte "C") || tag == byte "T") || tag == byte "Z"
 
 -- the message of a tag and a body, or what is wrong with them
 abbrev pub Means : RawMessage → Result Message WireFault → Type 0

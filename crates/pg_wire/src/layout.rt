@@ -1,9 +1,9 @@
 //! The layout of each message's body (PostgreSQL documentation, "Message Formats").
 
-ghost use Rattle.std.specs.Prelude.{◌≡◌, true};
+ghost use Rattle.std.specs.Prelude.{◌≡◌, true, false};
 ghost use Rattle.pg_spec.specs.Messages as spec;
 ghost use Rattle.pg_wire.specs.Messages.{message_view};
-ghost use Rattle.pg_wire.specs.Layouts.{LaidOut, Means, KeepsLayout, request_of};
+ghost use Rattle.pg_wire.specs.Layouts.{LaidOut, Means, KeepsLayout, request_of, is_reply_tag};
 ghost use Rattle.pg_wire.specs.Fronts.{is_aside_tag};
 
 use crate::body::{
@@ -23,15 +23,27 @@ pub(crate) fn message_of(tag: u8, body: Bytes) -> Result<Message, WireFault>
     ensures { Means (record { tag = tag; body = body }) result }
 {
     match tag {
+        b'D' => data_row(body),
+        b'C' => command_complete(body),
+        b'T' => row_description(body),
+        b'Z' => ready(body),
+        _ => other_message_of(tag, body),
+    }
+}
+
+/// The same of the other tags. They stand apart because a function pays at each call for the room of all
+/// its arms, and most messages are those of a query's reply.
+#[inline(never)]
+fn other_message_of(tag: u8, body: Bytes) -> Result<Message, WireFault>
+    requires { is_reply_tag tag ≡ false }
+    ensures { Means (record { tag = tag; body = body }) result }
+{
+    match tag {
         b'R' => authentication(body),
         b'K' => key_data(body),
-        b'Z' => ready(body),
         b'S' => parameter(body),
         b'N' => Ok(Message::NoticeResponse(ErrorResponseBody { fields: body })),
         b'A' => notification(body),
-        b'T' => row_description(body),
-        b'D' => data_row(body),
-        b'C' => command_complete(body),
         b'I' => alone(Message::EmptyQueryResponse, body),
         b'E' => Ok(Message::ErrorResponse(ErrorResponseBody { fields: body })),
         b'1' => alone(Message::ParseComplete, body),
@@ -136,13 +148,13 @@ fn key_data(mut body: Bytes) -> Result<Message, WireFault>
     )
 }
 
-fn ready(mut body: Bytes) -> Result<Message, WireFault>
+fn ready(body: Bytes) -> Result<Message, WireFault>
     ensures { LaidOut (spec.ready body) result }
 {
-    match body.try_get_u8() {
-        Ok(status) => alone(Message::ReadyForQuery(ReadyForQueryBody { status }), body),
-        Err(_) => Err(WireFault::Layout),
-    }
+    let [status] = *body.as_slice() else {
+        return Err(WireFault::Layout);
+    };
+    Ok(Message::ReadyForQuery(ReadyForQueryBody { status }))
 }
 
 fn parameter(body: Bytes) -> Result<Message, WireFault>
