@@ -4,11 +4,12 @@ use Rattle.std.proofs.lemmas.List.{append-nil, length-append, map-append}
 use Rattle.pg_spec.specs.Book as said
 use Rattle.pg_spec.specs.declared.stamps.Stamp.{Stamp}
 use Rattle.pg_desk.specs.declared.event.Booking.{Booking}
+use Rattle.pg_desk.specs.declared.event.Put.TheVariants as putting
 use Rattle.pg_desk.specs.declared.event.Take.TheVariants as taking
 use Rattle.pg_desk.specs.declared.event.Out.TheVariants as out
 use Rattle.pg_desk.specs.declared.event.Deliver.TheVariants as delivering
 use Rattle.pg_desk.specs.declared.event.Event.{Event}
-use Rattle.pg_desk.specs.declared.event.Event.TheVariants.{Book, Take as TakeEvent, HangUp, NextStatement, NextPortal, NextOut, Deliver as DeliverEvent, CloseRequests, Fail}
+use Rattle.pg_desk.specs.declared.event.Event.TheVariants.{Book, Put as PutEvent, EndCopy, Take as TakeEvent, HangUp, NextStatement, NextPortal, NextOut, Deliver as DeliverEvent, CloseRequests, Fail}
 use Rattle.pg_desk.specs.History.{State, after, after_all, Allows, IsLegal, leaves_event, kept}
 use Rattle.pg_query.specs.Dialogue.{Dialogue, Answer, Ask, Send, Leave, Read, Put, Finish, Close, HangUp as Hang, Call, Hear, Steps}
 use Rattle.pg_query.specs.Lives.{Deed, Leads}
@@ -16,7 +17,7 @@ use Rattle.pg_query.specs.declared.desk_call.DeskCall.TheVariants as desk_call
 use Rattle.pg_course.specs.Courses.{Request, Who, stamp_of}
 use Rattle.pg_core.specs.Deeds.{booked_by, bookings_in, granted, requests_in}
 use Rattle.pg_core.proofs.Granted.{granted-append}
-use Rattle.pg_core.specs.Lists.{events_of, state_behind}
+use Rattle.pg_core.specs.Lists.{events_of, state_behind, AddsNoPart, AddNoParts}
 use Rattle.pg_core.specs.Trails.{AreNumbered, AllUnder, said_booking, BooksSo}
 
 -- a booking bears the stamp of its turn
@@ -39,33 +40,41 @@ data Booked (s : State) (e : Event) : Type 0 where
   One : (stamp : Stamp) (part : List ℕ) (copying : Bool) (new : ℕ) → e ≡ Book stamp part copying (Ok new) → Booked s e
   None : granted (booked_by e) ≡ [] → (after s e).book ≡ s.book → Booked s e
 
-booked : (s : State) (e : Event) → Booked s e
-booked s (Book stamp part copying (Ok id)) = One stamp part copying id refl
-booked s (Book stamp part copying (Err f)) = None refl refl
-booked s (TakeEvent id (Ok (taking.Batch ms))) = None refl refl
-booked s (TakeEvent id (Ok taking.Empty)) = None refl refl
-booked s (TakeEvent id (Ok taking.Over)) = None refl refl
-booked s (TakeEvent id (Ok taking.Gone)) = None refl refl
-booked s (TakeEvent id (Err f)) = None refl refl
-booked s (HangUp id (Ok x)) = None refl refl
-booked s (HangUp id (Err f)) = None refl refl
-booked s (NextStatement (Ok n)) = None refl refl
-booked s (NextStatement (Err f)) = None refl refl
-booked s (NextPortal (Ok n)) = None refl refl
-booked s (NextPortal (Err f)) = None refl refl
-booked s (NextOut (Ok (out.Part part))) = None refl refl
-booked s (NextOut (Ok out.CopyWaits)) = None refl refl
-booked s (NextOut (Ok out.Nothing)) = None refl refl
-booked s (NextOut (Ok out.NoMore)) = None refl refl
-booked s (NextOut (Err f)) = None refl refl
-booked s (DeliverEvent batch complete delivering.Taken) = None refl refl
-booked s (DeliverEvent batch complete (delivering.Full back)) = None refl refl
-booked s (DeliverEvent batch complete (delivering.NoRequest back)) = None refl refl
-booked s (DeliverEvent batch complete (delivering.OutOfMemory back)) = None refl refl
-booked s (CloseRequests (Ok x)) = None refl refl
-booked s (CloseRequests (Err f)) = None refl refl
-booked s (Fail (Ok x)) = None refl refl
-booked s (Fail (Err f)) = None refl refl
+booked : (s : State) (e : Event) → AddsNoPart e → Booked s e
+booked s (Book stamp part copying (Ok id)) none = One stamp part copying id refl
+booked s (Book stamp part copying (Err f)) none = None refl refl
+booked s (PutEvent id part putting.Took) none = absurd none
+booked s (PutEvent id part (putting.Full back)) none = None refl refl
+booked s (PutEvent id part (putting.Gone back)) none = None refl refl
+booked s (PutEvent id part (putting.OutOfMemory back)) none = None refl refl
+booked s (EndCopy id part putting.Took) none = absurd none
+booked s (EndCopy id part (putting.Full back)) none = None refl refl
+booked s (EndCopy id part (putting.Gone back)) none = None refl refl
+booked s (EndCopy id part (putting.OutOfMemory back)) none = None refl refl
+booked s (TakeEvent id (Ok (taking.Batch ms))) none = None refl refl
+booked s (TakeEvent id (Ok taking.Empty)) none = None refl refl
+booked s (TakeEvent id (Ok taking.Over)) none = None refl refl
+booked s (TakeEvent id (Ok taking.Gone)) none = None refl refl
+booked s (TakeEvent id (Err f)) none = None refl refl
+booked s (HangUp id (Ok x)) none = None refl refl
+booked s (HangUp id (Err f)) none = None refl refl
+booked s (NextStatement (Ok n)) none = None refl refl
+booked s (NextStatement (Err f)) none = None refl refl
+booked s (NextPortal (Ok n)) none = None refl refl
+booked s (NextPortal (Err f)) none = None refl refl
+booked s (NextOut (Ok (out.Part part))) none = None refl refl
+booked s (NextOut (Ok out.CopyWaits)) none = None refl refl
+booked s (NextOut (Ok out.Nothing)) none = None refl refl
+booked s (NextOut (Ok out.NoMore)) none = None refl refl
+booked s (NextOut (Err f)) none = None refl refl
+booked s (DeliverEvent batch complete delivering.Taken) none = None refl refl
+booked s (DeliverEvent batch complete (delivering.Full back)) none = None refl refl
+booked s (DeliverEvent batch complete (delivering.NoRequest back)) none = None refl refl
+booked s (DeliverEvent batch complete (delivering.OutOfMemory back)) none = None refl refl
+booked s (CloseRequests (Ok x)) none = None refl refl
+booked s (CloseRequests (Err f)) none = None refl refl
+booked s (Fail (Ok x)) none = None refl refl
+booked s (Fail (Err f)) none = None refl refl
 
 -- an event that a stored list leaves out books nothing
 left-out-books : (e : Event) → leaves_event e ≡ false → granted (booked_by e) ≡ []
@@ -98,10 +107,10 @@ module _ {T : Type 0} (who : Who) (turn : ℕ) (stamp : Stamp) (same : stamp ≡
             ∙ append_assoc (map said_booking s.book) (said_booking b ∷ []) (map (λ r. r.booking) (requests_in ds)),
       )
 
-  books-on : (ds : List Deed) (d : Dialogue T) (id : ℕ) (s : State) → AllUnder stamp ds → Leads d id ds q end → IsLegal s (kept (events_of ds)) →
+  books-on : (ds : List Deed) (d : Dialogue T) (id : ℕ) (s : State) → AllUnder stamp ds → Leads d id ds q end → AddNoParts ds → IsLegal s (kept (events_of ds)) →
       AreNumbered who turn (length s.book) (requests_in ds) × (map said_booking (state_behind s ds).book ≡ map said_booking s.book ++ map (λ r. r.booking) (requests_in ds))
-  books-on [] d id s under l legal = (tt, sym (append-nil (map said_booking s.book)))
-  books-on (a ∷ ds) d id s under (mid, n, step, l) legal = by (leaves_event a.event) refl legal (λ t legal'. books-on ds mid n t under.1 l legal')
+  books-on [] d id s under l none legal = (tt, sym (append-nil (map said_booking s.book)))
+  books-on (a ∷ ds) d id s under (mid, n, step, l) none legal = by (leaves_event a.event) refl legal (λ t legal'. books-on ds mid n t under.1 l none.1 legal')
     where
       one : (e : Event) → Steps a.stamp d id e mid n → Allows s e → (final : State) → Booked s e →
           AreNumbered who turn (length (after s e).book) (requests_in ds) × (map said_booking final.book ≡ map said_booking (after s e).book ++ map (λ r. r.booking) (requests_in ds)) →
@@ -117,9 +126,9 @@ module _ {T : Type 0} (who : Who) (turn : ℕ) (stamp : Stamp) (same : stamp ≡
           ((t : State) → IsLegal t (kept (events_of ds)) → AreNumbered who turn (length t.book) (requests_in ds) × (map said_booking (state_behind t ds).book ≡ map said_booking t.book ++ map (λ r. r.booking) (requests_in ds))) →
           AreNumbered who turn (length s.book) (requests_in (a ∷ ds))
           × (map said_booking (after_all s (if b then a.event ∷ kept (events_of ds) else kept (events_of ds))).book ≡ map said_booking s.book ++ map (λ r. r.booking) (requests_in (a ∷ ds)))
-      by true e (allows, legal) ih = one a.event step allows (after_all (after s a.event) (kept (events_of ds))) (booked s a.event) (ih (after s a.event) legal)
+      by true e (allows, legal) ih = one a.event step allows (after_all (after s a.event) (kept (events_of ds))) (booked s a.event none.0) (ih (after s a.event) legal)
       by false e legal ih = none-first s s a ds (after_all s (kept (events_of ds))) (left-out-books a.event e) refl (ih s legal)
 
 pub books-so : {T : Type 0} (who : Who) (turn : ℕ) (stamp : Stamp) → stamp ≡ stamp_of who turn → (d : Dialogue T) (id : ℕ) (ds : List Deed) (q : Dialogue T) (end : ℕ) (s : State) → AllUnder stamp ds →
-    Leads d id ds q end → IsLegal s (kept (events_of ds)) → BooksSo who turn s ds
-books-so who turn stamp same d id ds q end s under l legal = let h = books-on who turn stamp same q end ds d id s under l legal in record { numbered = h.0; book = h.1 }
+    Leads d id ds q end → AddNoParts ds → IsLegal s (kept (events_of ds)) → BooksSo who turn s ds
+books-so who turn stamp same d id ds q end s under l none legal = let h = books-on who turn stamp same q end ds d id s under l none legal in record { numbered = h.0; book = h.1 }

@@ -4,12 +4,13 @@ use Rattle.std.proofs.lemmas.Bool.Decides.{nat_tests}
 use Rattle.std.proofs.lemmas.List.{append-nil}
 use Rattle.pg_spec.specs.declared.stamps.Stamp.{Stamp}
 use Rattle.pg_desk.specs.declared.event.DeskFault.TheVariants as fault
+use Rattle.pg_desk.specs.declared.event.Put.TheVariants as putting
 use Rattle.pg_desk.specs.declared.event.Take.TheVariants as taking
 use Rattle.pg_desk.specs.declared.event.Out.TheVariants as out
 use Rattle.pg_desk.specs.declared.event.Deliver.TheVariants as delivering
 use Rattle.pg_desk.specs.declared.event.Event.{Event}
-use Rattle.pg_desk.specs.declared.event.Event.TheVariants.{Book, Take as TakeEvent, HangUp, NextStatement, NextPortal, NextOut, Deliver as DeliverEvent, CloseRequests, Fail}
-use Rattle.pg_desk.specs.History.{State, after, after_all, Allows, IsLegal, leaves_event, kept}
+use Rattle.pg_desk.specs.declared.event.Event.TheVariants.{Book, Put as PutEvent, EndCopy, Take as TakeEvent, HangUp, NextStatement, NextPortal, NextOut, Deliver as DeliverEvent, CloseRequests, Fail}
+use Rattle.pg_desk.specs.History.{State, start, after, after_all, Allows, IsLegal, leaves_event, kept}
 use Rattle.pg_query.specs.Lives.{Deed}
 use Rattle.pg_query.specs.declared.desk_call.DeskCall.{DeskCall}
 use Rattle.pg_query.specs.declared.desk_call.DeskCall.TheVariants as desk_call
@@ -126,6 +127,14 @@ data Says (stamp : Stamp) (s : State) (e : Event) : Type 0 where
 says : (stamp : Stamp) (s : State) (e : Event) → Allows s e → Says stamp s e
 says stamp s (Book given part copying (Ok id)) a = None refl (λ before h. record { statements = h.statements; portals = h.portals })
 says stamp s (Book given part copying (Err f)) a = None refl (λ before h. record { statements = h.statements; portals = h.portals })
+says stamp s (PutEvent id part putting.Took) a = None refl (λ before h. record { statements = h.statements; portals = h.portals })
+says stamp s (PutEvent id part (putting.Full back)) a = None refl (λ before h. record { statements = h.statements; portals = h.portals })
+says stamp s (PutEvent id part (putting.Gone back)) a = None refl (λ before h. record { statements = h.statements; portals = h.portals })
+says stamp s (PutEvent id part (putting.OutOfMemory back)) a = None refl (λ before h. record { statements = h.statements; portals = h.portals })
+says stamp s (EndCopy id part putting.Took) a = None refl (λ before h. record { statements = h.statements; portals = h.portals })
+says stamp s (EndCopy id part (putting.Full back)) a = None refl (λ before h. record { statements = h.statements; portals = h.portals })
+says stamp s (EndCopy id part (putting.Gone back)) a = None refl (λ before h. record { statements = h.statements; portals = h.portals })
+says stamp s (EndCopy id part (putting.OutOfMemory back)) a = None refl (λ before h. record { statements = h.statements; portals = h.portals })
 says stamp s (TakeEvent id (Ok (taking.Batch ms))) a = None refl (λ before h. record { statements = h.statements; portals = h.portals })
 says stamp s (TakeEvent id (Ok taking.Empty)) a = None refl (λ before h. record { statements = h.statements; portals = h.portals })
 says stamp s (TakeEvent id (Ok taking.Over)) a = None refl (λ before h. record { statements = h.statements; portals = h.portals })
@@ -158,6 +167,8 @@ says stamp s (Fail (Err f)) a = None refl (λ before h. record { statements = h.
 left-out-tells : (stamp : Stamp) (e : Event) → leaves_event e ≡ false → granted (told_by stamp e) ≡ []
 left-out-tells stamp (Book given part copying (Ok id)) h = refl
 left-out-tells stamp (Book given part copying (Err f)) h = refl
+left-out-tells stamp (PutEvent id part answer) h = refl
+left-out-tells stamp (EndCopy id part answer) h = refl
 left-out-tells stamp (TakeEvent id (Ok (taking.Batch ms))) h = refl
 left-out-tells stamp (TakeEvent id (Ok taking.Empty)) h = refl
 left-out-tells stamp (TakeEvent id (Ok taking.Over)) h = refl
@@ -220,5 +231,5 @@ pub told-so : (who : Who) (turn : ℕ) (stamp : Stamp) → stamp ≡ stamp_of wh
     ToldSo who turn before s ds
 told-so who turn stamp same ds before s under legal h = let r = told-on who turn stamp same ds before s under legal h in record { told = r.0; counts = r.1 }
 
-pub counts-start : Counts [] (record { book = []; gone_out = []; deliveries = []; takes = []; hung_up = []; statements = 0; portals = 0; closed = false; failed = false })
+pub counts-start : Counts [] (start 0 0)
 counts-start = record { statements = refl; portals = refl }

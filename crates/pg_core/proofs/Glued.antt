@@ -18,7 +18,8 @@ use Rattle.pg_core.specs.Times.{IsFaithful, IsUpright, TurnedWell, StaysUpright,
 use Rattle.pg_core.specs.Trails.{AllUnder, CameBy, IsNext, IsSettled, IsTurnOf, Moment, OwnTurn, PollEnds, moment_of, goes_on, ran_by}
 use Rattle.pg_core.proofs.Booked.{books-so}
 use Rattle.pg_core.proofs.Counted.{told-so}
-use Rattle.pg_core.proofs.Faithful.{granted-or-lacks}
+use Rattle.pg_core.proofs.Faithful.{granted-or-lacks, was-whole}
+use Rattle.pg_core.proofs.Gone.{Stays, none-gone, none-hung}
 use Rattle.pg_core.proofs.Upright.{upright-turn}
 
 pub glued : {T : Type 0} (course : Course DeskCall Reply) (who : Who) (d : Dialogue T) (place : ℕ) (trail : List Moment) (s : State) (p : Place T) (ds : List Deed) (q : Place T) (stamp : Stamp) (former : List DeskCall) →
@@ -30,6 +31,9 @@ glued {T} course who d place trail s p ds q stamp former h l legal open_ ends sa
     turn : OwnTurn d place trail s ds q × TurnedWell d (moment_of place (came_of (state_behind s ds)) ds ∷ trail) (state_behind s ds) q
     turn = upright-turn d place trail s p ds q h l legal open_ ends
 
+    walked : Stays s ds q.dialogue q.reads
+    walked = none-gone s p.dialogue p.reads ds q.dialogue q.reads h.fits (none-hung s h.reached) (was-whole s (events_of ds) open_) legal l
+
     so : IsSettled (goes_on (ran_by d trail) (moment_of place (came_of (state_behind s ds)) ds)).left → AreGranted (bookings_in ds) → AreGranted (answers_in ds) → IsTurnOf tells course who d trail (length s.book) former (moment_of place (came_of (state_behind s ds)) ds)
     so settled booked answered =
         let stored = (stored-part s (events_of ds)).legal legal in
@@ -38,7 +42,7 @@ glued {T} course who d place trail s p ds q stamp former h l legal open_ ends sa
           next = next;
           came = came;
           within = turn.0.within;
-          numbered = (books-so who place stamp same p.dialogue p.reads ds q.dialogue q.reads s under l stored).numbered;
+          numbered = (books-so who place stamp same p.dialogue p.reads ds q.dialogue q.reads s under l walked.no_parts stored).numbered;
           told = (told-so who place stamp same ds former s under stored counts).told;
           booked = booked;
           answered = answered;

@@ -5,12 +5,14 @@ use Rattle.std.proofs.lemmas.List.{length-append}
 use Rattle.pg_spec.specs.RawMessages.{RawMessage}
 use Rattle.pg_spec.specs.declared.stamps.Stamp.{Stamp}
 use Rattle.pg_desk.specs.declared.event.DeskFault.{DeskFault}
+use Rattle.pg_desk.specs.declared.event.Put.TheVariants as putting
 use Rattle.pg_desk.specs.declared.event.Take.TheVariants as taking
 use Rattle.pg_desk.specs.declared.event.Out.TheVariants as out
 use Rattle.pg_desk.specs.declared.event.Deliver.TheVariants as delivering
 use Rattle.pg_desk.specs.declared.event.Event.{Event}
-use Rattle.pg_desk.specs.declared.event.Event.TheVariants.{Book, Take as TakeEvent, HangUp, NextStatement, NextPortal, NextOut, Deliver as DeliverEvent, CloseRequests, Fail}
-use Rattle.pg_desk.specs.History.{State, Change, Booked, LetGo, change_of, changed, start, has_ended, is_in, is_hung_up, may_let_go, waiting, after, after_all, take_answer, take_of_waiting, Allows, IsLegal}
+use Rattle.pg_desk.specs.declared.event.Event.TheVariants.{Book, Put as PutEvent, EndCopy, Take as TakeEvent, HangUp, NextStatement, NextPortal, NextOut, Deliver as DeliverEvent, CloseRequests, Fail}
+use Rattle.pg_desk.specs.History.{State, Change, Booked, Added, Ended, LetGo, change_of, changed, start, has_ended, is_in, is_hung_up, may_let_go, waiting, after, after_all, take_answer, take_of_waiting, Allows, IsLegal}
+use Rattle.pg_desk.proofs.Parts.{extended-length}
 use Rattle.pg_faults.specs.declared.error.Error.{Error}
 use Rattle.pg_query.specs.Faults.{of_fault}
 use Rattle.pg_query.specs.Dialogue as code
@@ -20,8 +22,9 @@ use Rattle.pg_query.specs.declared.desk_call.DeskCall.{DeskCall}
 use Rattle.pg_query.specs.declared.desk_call.DeskCall.TheVariants as desk_call
 use Rattle.pg_query.specs.declared.desk_call.Reply.{Reply}
 use Rattle.pg_course.specs.Dialogues.{decided_after}
-use Rattle.pg_core.specs.Lists.{events_of, IsReached}
+use Rattle.pg_core.specs.Lists.{events_of, AddNoParts, IsReached}
 use Rattle.pg_core.specs.Runs.{ReadsNothing}
+use Rattle.pg_core.proofs.NoParts.{no-part}
 use Rattle.pg_core.specs.Times.{ReadsNo, IsSane, IsThere, Fits, IsNoHangUp, HangsUpNone}
 
 -- only requests that are booked are hung up
@@ -141,7 +144,9 @@ hung-hang : (s : State) (id : ℕ) → NoneHungAhead s → NoneHungAhead (after 
 hung-hang s id h k le = in-other-if (may_let_go s id) k id s.hung_up (λ e same. (let lt : id < length s.book = booked-first (nat_lt id (length s.book)) (is_hung_up s id) id (length s.book) refl e in let is : k ≡ id = same in omega (arith, lt, is, le))) ∙ h k le
 
 hung-by : (s : State) (c : Change) → NoneHungAhead s → NoneHungAhead (changed s c)
-hung-by s (Booked given part) h = λ k le. h k (let e = length-append s.book (record { stamp = given; parts = part ∷ [] } ∷ []) in omega (arith, le, e))
+hung-by s (Booked given part copying) h = λ k le. h k (let e = length-append s.book (record { stamp = given; parts = part ∷ [] } ∷ []) in omega (arith, le, e))
+hung-by s (Added id part) h = λ k le. h k (let e = extended-length id part s.book in omega (arith, le, e))
+hung-by s (Ended id part) h = λ k le. h k (let e = extended-length id part s.book in omega (arith, le, e))
 hung-by s (LetGo id) h = hung-hang s id h
 hung-by s c h = h
 
@@ -266,25 +271,35 @@ kept s stamp (code.Hear next) id e d' id' fits hung whole a st = absurd st
 
 pub record Stays {T : Type 0} (s : State) (ds : List Deed) (q : Dialogue T) (end : ℕ) : Type 0 where
   pub none_gone : NoneGone ds
+  pub no_parts : AddNoParts ds
   pub fits : Fits (after_all s (events_of ds)) q end
   pub hung : NoneHungAhead (after_all s (events_of ds))
 
 pub none-gone : {T : Type 0} (s : State) (d : Dialogue T) (id : ℕ) (ds : List Deed) (q : Dialogue T) (end : ℕ) → Fits s d id → NoneHungAhead s → s.failed ≡ false → IsLegal s (events_of ds) → Leads d id ds q end → Stays s ds q end
 none-gone {T} s d id [] q end fits hung whole legal l = record {
   none_gone = tt;
+  no_parts = tt;
   fits = subst (λ (x : Dialogue T). Fits s x end) (sym l.0) (subst (λ (k : ℕ). Fits s d k) (sym l.1) fits);
   hung = hung;
 }
 none-gone s d id (a ∷ ds) q end fits hung whole legal (mid, n, st, l) =
     let k = kept s a.stamp d id a.event mid n fits hung whole legal.0 st in
     let h = none-gone (after s a.event) mid n ds q end k.fits (hung-one s a.event hung) k.failed legal.1 l in
-    record { none_gone = (k.not_gone, h.none_gone); fits = h.fits; hung = h.hung }
+    record { none_gone = (k.not_gone, h.none_gone); no_parts = (no-part s a.stamp d id a.event mid n fits st, h.no_parts); fits = h.fits; hung = h.hung }
 
 -- ---- turns of others
 
 there-one : (s : State) (k : ℕ) (e : Event) → IsNoHangUp k e → IsThere s k → IsThere (after s e) k
 there-one s k (Book given part copying (Ok id)) none h = there-booked s given part copying id k h
 there-one s k (Book given part copying (Err f)) none h = h
+there-one s k (PutEvent id part putting.Took) none h = record { booked = subst (λ (n : ℕ). k < n) (sym (extended-length id part s.book)) h.booked; kept_up = h.kept_up }
+there-one s k (PutEvent id part (putting.Full back)) none h = h
+there-one s k (PutEvent id part (putting.Gone back)) none h = h
+there-one s k (PutEvent id part (putting.OutOfMemory back)) none h = h
+there-one s k (EndCopy id part putting.Took) none h = record { booked = subst (λ (n : ℕ). k < n) (sym (extended-length id part s.book)) h.booked; kept_up = h.kept_up }
+there-one s k (EndCopy id part (putting.Full back)) none h = h
+there-one s k (EndCopy id part (putting.Gone back)) none h = h
+there-one s k (EndCopy id part (putting.OutOfMemory back)) none h = h
 there-one s k (TakeEvent id (Ok (taking.Batch ms))) none h = record { booked = h.booked; kept_up = h.kept_up }
 there-one s k (TakeEvent id (Ok taking.Empty)) none h = h
 there-one s k (TakeEvent id (Ok taking.Over)) none h = h

@@ -15,6 +15,7 @@ pub mod Booked
 pub mod Counted
 pub mod Timely
 pub mod Refused
+pub mod NoParts
 pub mod Gone
 pub mod Upright
 pub mod Requests

@@ -3,12 +3,14 @@ use Rattle.std.proofs.Common.{◌≡◌, ℕ, ◌<◌, ◌≤◌, ◌==◌, nat_
 use Rattle.std.proofs.lemmas.Bool.Decides.{nat_tests, eqb_tells}
 use Rattle.std.proofs.lemmas.List.{append-nil, length-append}
 use Rattle.pg_spec.specs.RawMessages.{RawMessage}
+use Rattle.pg_desk.specs.declared.event.Put.TheVariants as putting
 use Rattle.pg_desk.specs.declared.event.Take.TheVariants as taking
 use Rattle.pg_desk.specs.declared.event.Out.TheVariants as out
 use Rattle.pg_desk.specs.declared.event.Deliver.TheVariants as delivering
 use Rattle.pg_desk.specs.declared.event.Event.{Event}
-use Rattle.pg_desk.specs.declared.event.Event.TheVariants.{Book, Take as TakeEvent, HangUp, NextStatement, NextPortal, NextOut, Deliver as DeliverEvent, CloseRequests, Fail}
-use Rattle.pg_desk.specs.History.{State, Change, Booked, Took, Came, change_of, changed, Admits, next_owner, given, taken, waiting, is_hung_up, after, after_all, take_answer, take_of_waiting, Allows, IsLegal, IsFrontOf, IsSound, joined, leaves_event, kept}
+use Rattle.pg_desk.specs.declared.event.Event.TheVariants.{Book, Put as PutEvent, EndCopy, Take as TakeEvent, HangUp, NextStatement, NextPortal, NextOut, Deliver as DeliverEvent, CloseRequests, Fail}
+use Rattle.pg_desk.specs.History.{State, Change, Booked, Added, Ended, Took, Came, change_of, changed, Admits, next_owner, given, taken, waiting, is_hung_up, after, after_all, take_answer, take_of_waiting, Allows, IsLegal, IsFrontOf, IsSound, joined, leaves_event, kept}
+use Rattle.pg_desk.proofs.Parts.{extended-length}
 use Rattle.pg_desk.proofs.Soundness.{admitted, given-more, taken-own, taken-other}
 use Rattle.pg_query.specs.Lives.{Deed}
 use Rattle.pg_core.specs.Deeds.{Serves, ServedBy, got_after, taken_from}
@@ -51,6 +53,14 @@ takes-own s id ms k = elim (eqb_tells id k) [
 pub takes-one : (s : State) (e : Event) (k : ℕ) → got_of (after s e) k ≡ got_of s k ++ taken_from k e
 takes-one s (Book stamp part copying (Ok id)) k = sym (append-nil (got_of s k))
 takes-one s (Book stamp part copying (Err f)) k = sym (append-nil (got_of s k))
+takes-one s (PutEvent id part putting.Took) k = sym (append-nil (got_of s k))
+takes-one s (PutEvent id part (putting.Full back)) k = sym (append-nil (got_of s k))
+takes-one s (PutEvent id part (putting.Gone back)) k = sym (append-nil (got_of s k))
+takes-one s (PutEvent id part (putting.OutOfMemory back)) k = sym (append-nil (got_of s k))
+takes-one s (EndCopy id part putting.Took) k = sym (append-nil (got_of s k))
+takes-one s (EndCopy id part (putting.Full back)) k = sym (append-nil (got_of s k))
+takes-one s (EndCopy id part (putting.Gone back)) k = sym (append-nil (got_of s k))
+takes-one s (EndCopy id part (putting.OutOfMemory back)) k = sym (append-nil (got_of s k))
 takes-one s (TakeEvent id (Ok (taking.Batch ms))) k = takes-own s id ms k
 takes-one s (TakeEvent id (Ok taking.Empty)) k = sym (append-nil (got_of s k))
 takes-one s (TakeEvent id (Ok taking.Over)) k = sym (append-nil (got_of s k))
@@ -107,7 +117,9 @@ ahead-take : (s : State) (id : ℕ) (ms : List RawMessage) → id < length s.boo
 ahead-take s id ms lt h k le = taken-other k s.takes (record { id = id; messages = ms }) (λ e. (let same : id ≡ k = e in omega (arith, same, lt, le))) ∙ h k le
 
 ahead-by : (s : State) (c : Change) → Admits s c → NoneAhead s → NoneAhead (changed s c)
-ahead-by s (Booked stamp part) a h = λ k le. h k (let e = length-append s.book (record { stamp = stamp; parts = part ∷ [] } ∷ []) in omega (arith, le, e))
+ahead-by s (Booked stamp part copying) a h = λ k le. h k (let e = length-append s.book (record { stamp = stamp; parts = part ∷ [] } ∷ []) in omega (arith, le, e))
+ahead-by s (Added id part) a h = λ k le. h k (let e = extended-length id part s.book in omega (arith, le, e))
+ahead-by s (Ended id part) a h = λ k le. h k (let e = extended-length id part s.book in omega (arith, le, e))
 ahead-by s (Took id ms) a h = ahead-take s id ms (gave-booked s id ms a) h
 ahead-by s c a h = h
 

@@ -2,6 +2,7 @@
 use Rattle.std.specs.Prelude.{◌≡◌, ℕ, ◌==◌, List, [], ◌∷◌, ◌++◌, map, Bool, true, false, Ok}
 use Rattle.pg_spec.specs.RawMessages.{RawMessage}
 use Rattle.pg_desk.specs.History.{State, start, given, taken, joined, after_all, kept, IsLegal}
+use Rattle.pg_desk.specs.declared.event.Put.TheVariants as putting
 use Rattle.pg_desk.specs.declared.event.Take.TheVariants as taking
 use Rattle.pg_desk.specs.declared.event.Event.{Event}
 use Rattle.pg_desk.specs.declared.event.Event.TheVariants as call
@@ -51,6 +52,17 @@ pub record IsReached (s : State) : Type 0 where
   pub before : List Event
   pub legal : IsLegal (start statements portals) before
   pub is : s ≡ after_all (start statements portals) before
+
+-- an event adds no part to a copy
+abbrev pub AddsNoPart : Event → Type 0
+AddsNoPart (call.Put id part putting.Took) = ⊥
+AddsNoPart (call.EndCopy id part putting.Took) = ⊥
+AddsNoPart _ = Unit {0}
+
+-- none of these deeds does
+abbrev pub AddNoParts : List Deed → Type 0
+AddNoParts [] = Unit {0}
+AddNoParts (a ∷ L) = AddsNoPart a.event × AddNoParts L
 
 -- these deeds take nothing of a request
 abbrev pub SparesAll : (request : ℕ) → List Deed → Type 0

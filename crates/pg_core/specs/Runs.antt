@@ -82,7 +82,7 @@ ReadsNothing (HangUp d) = ⊥
 ReadsNothing (Call q refused next) = ((e : Error) → ReadsNothing (refused e)) × ((r : Reply) → ReadsNothing (next r))
 ReadsNothing (Hear next) = ⊥
 
--- Behind a hang-up nothing is read or hung up before the next request is booked. No part of a copy is put: desks take none yet.
+-- Behind a hang-up nothing is read or hung up before the next request is booked. No part of a copy is put yet.
 abbrev pub IsTidy : {T : Type 0} → Dialogue T → Type 0
 IsTidy (Answer r) = Unit {0}
 IsTidy (Ask copying part d) = IsTidy d

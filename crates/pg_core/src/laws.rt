@@ -4,7 +4,7 @@
 ghost use Rattle.std.specs.Prelude.{◌≡◌, ◌<◌, ◌≤◌, ◌⊎◌, ◌==◌, ◌&&◌, [], ◌∷◌, ◌++◌, map, Bool, false, true, List, ℕ, Option, Result, Err, is_some, filter, length};
 ghost use Rattle.pg_core.specs.Counters.{Counts, ToldSo, tells};
 ghost use Rattle.pg_core.specs.Deeds.{Serves, IsNew, got_after, bookings_in, answers_in};
-ghost use Rattle.pg_core.specs.Lists.{IsApart, IsReached, SparesAll, came_of, events_of, got_of, state_behind};
+ghost use Rattle.pg_core.specs.Lists.{AddNoParts, IsApart, IsReached, SparesAll, came_of, events_of, got_of, state_behind};
 ghost use Rattle.pg_core.specs.Outcomes.{LivesSo, asked};
 ghost use Rattle.pg_core.specs.Runs.{At, Holds, IsTidy, ReadsNothing, Comes, of_request, run};
 ghost use Rattle.pg_core.specs.Times.{HangsUpNone, IsCommand, IsOff, IsUpright, LacksMemory, TurnedWell};
@@ -101,10 +101,11 @@ pub fn what_came_is_counted()
         delivered_before course.trace place ≡ length (received s.deliveries) → CameBy course place (came_of s) }
 {}
 
-/// The requests of a turn, in a legal list, have the next numbers and bear its stamp, and the book grows by them.
+/// The requests of a turn, in a legal list, have the next numbers and bear its stamp. Where it adds no part to a copy, the book grows
+/// by them.
 pub fn requests_of_a_turn<T>()
     ensures { (who : Who) (turn : ℕ) (d : Dialogue T) (id : ℕ) (ds : List Deed) (q : Dialogue T) (end : ℕ) (s : State) → AllUnder (stamp_of who turn) ds →
-        Leads d id ds q end → IsLegal s (kept (events_of ds)) → BooksSo who turn s ds }
+        Leads d id ds q end → AddNoParts ds → IsLegal s (kept (events_of ds)) → BooksSo who turn s ds }
 {}
 
 /// What is asked in a turn, in a legal list, is told by what was asked before.

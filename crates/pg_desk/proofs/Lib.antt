@@ -1,4 +1,6 @@
 pub mod Owners
+pub mod Outs
+pub mod Parts
 pub mod Pieces
 pub mod Soundness
 pub mod ReadyTags

@@ -1,11 +1,11 @@
 -- To whom batches belong: by the oldest open request, by counting, and by cutting at the ends of replies.
-use Rattle.std.proofs.Common.{◌≡◌, ◌≢◌, ◌<◌, ◌≤◌, ℕ, zero, suc, ◌+◌, ◌-◌, ◌==◌, List, [], ◌∷◌, ◌++◌, length, Bool, true, false, not, ◌&&◌, ◌||◌, if◌then◌else◌, Option, Some, None, is_some, refl, sym, ◌∙◌, ap, arith, nat_lt, inl, inr}
+use Rattle.std.proofs.Common.{◌≡◌, ◌≢◌, ◌<◌, ◌≤◌, ℕ, zero, suc, ◌+◌, ◌==◌, List, [], ◌∷◌, ◌++◌, length, Bool, true, false, not, ◌&&◌, ◌||◌, if◌then◌else◌, Option, Some, None, is_some, refl, sym, ◌∙◌, ap, arith, nat_lt, inl, inr}
 use Rattle.std.specs.Prelude.{unwrap_or}
 use Rattle.std.proofs.lemmas.Bool.Decides.{nat_tests, eqb_tells}
 use Rattle.pg_spec.specs.RawMessages.{RawMessage}
-use Rattle.pg_desk.specs.declared.event.Booking.{Booking}
-use Rattle.pg_desk.specs.History.{State, Delivery, started, finished, given, between_ends, has_ended, is_open, first_from, oldest_open, has_open, next_owner}
-use Rattle.pg_desk.specs.Order.{OneAfterAnother, AllOnePart, InOrder}
+use Rattle.pg_desk.specs.History.{State, Delivery, started_of, finished, given, between_ends, has_ended, is_open, first_from, oldest_open, has_open, next_owner}
+use Rattle.pg_desk.specs.Order.{OneAfterAnother, InOrder}
+use Rattle.pg_desk.proofs.Parts.{started-low}
 
 -- ---- one batch more
 
@@ -137,18 +137,6 @@ ended-from k (suc i) (d ∷ ds) h =
 pub ended-counted : (ds : List Delivery) → OneAfterAnother 0 ds → (k : ℕ) → has_ended k ds ≡ nat_lt k (finished ds)
 ended-counted ds h k = ap (λ (n : ℕ). has_ended n ds) (let e : k ≡ 0 + k = omega arith in e) ∙ ended-from 0 k ds h
 
--- requests of one part begin as their parts go out
-pub started-counted : (n : ℕ) (bs : List Booking) → AllOnePart bs → n ≤ length bs → started n bs ≡ n
-started-counted n [] h low = omega arith
-started-counted zero (b ∷ bs) h low = refl
-started-counted (suc n) (b ∷ bs) h low =
-    let rest : suc n - length b.parts ≡ n = let e : length b.parts ≡ 1 = h.0 in omega arith in
-    ap (λ (m : ℕ). suc (started m bs)) rest ∙ ap suc (started-counted n bs h.1 (omega arith))
-
-pub one-part-more : (bs : List Booking) (b : Booking) → AllOnePart bs → length b.parts ≡ 1 → AllOnePart (bs ++ b ∷ [])
-one-part-more [] b h e = (e, tt)
-one-part-more (x ∷ bs) b h e = (h.0, one-part-more bs b h.1 e)
-
 -- ---- the oldest open request
 
 first-same : (p q : ℕ → Bool) (k n : ℕ) → ((j : ℕ) → p j ≡ q j) → first_from p k n ≡ first_from q k n
@@ -197,18 +185,17 @@ first-between low high k (suc n) a b = elim (eqb_tells k low) [
     here e false is = first-past low high k (suc n) (let f : high ≤ low = grind (arith, nat_tests) in omega arith)
 
 -- where requests and replies are in order, it is the one that as many stand before as replies have ended
-pub oldest-counted : (s : State) → InOrder s → oldest_open s ≡ (if nat_lt (finished s.deliveries) (length s.gone_out) then Some (finished s.deliveries) else None)
+pub oldest-counted : (s : State) → InOrder s → oldest_open s ≡ (if nat_lt (finished s.deliveries) (started_of s) then Some (finished s.deliveries) else None)
 oldest-counted s h =
-    first-same (is_open s) (between (finished s.deliveries) (length s.gone_out)) 0 (length s.book) same
-    ∙ first-between (finished s.deliveries) (length s.gone_out) 0 (length s.book) (omega arith) (let a = h.out in omega arith)
+    first-same (is_open s) (between (finished s.deliveries) (started_of s)) 0 (length s.book) same
+    ∙ first-between (finished s.deliveries) (started_of s) 0 (length s.book) (omega arith) (let a = started-low (length s.gone_out) s.book in omega (arith, a))
   where
-    same : (k : ℕ) → is_open s k ≡ between (finished s.deliveries) (length s.gone_out) k
-    same k = ap (λ (n : ℕ). nat_lt k n && not (has_ended k s.deliveries)) (started-counted (length s.gone_out) s.book h.one_part h.out)
-        ∙ ap (λ (b : Bool). nat_lt k (length s.gone_out) && not b) (ended-counted s.deliveries h.owners k)
+    same : (k : ℕ) → is_open s k ≡ between (finished s.deliveries) (started_of s) k
+    same k = ap (λ (b : Bool). nat_lt k (started_of s) && not b) (ended-counted s.deliveries h.owners k)
 
--- some request is open exactly where more parts went out than replies have ended
-pub open-counted : (s : State) → InOrder s → has_open s ≡ nat_lt (finished s.deliveries) (length s.gone_out)
-open-counted s h = ap (λ (o : Option ℕ). is_some o) (oldest-counted s h) ∙ by_test (nat_lt (finished s.deliveries) (length s.gone_out))
+-- some request is open exactly where more requests began than replies have ended
+pub open-counted : (s : State) → InOrder s → has_open s ≡ nat_lt (finished s.deliveries) (started_of s)
+open-counted s h = ap (λ (o : Option ℕ). is_some o) (oldest-counted s h) ∙ by_test (nat_lt (finished s.deliveries) (started_of s))
   where
     by_test : (b : Bool) → is_some (if b then Some (finished s.deliveries) else None) ≡ b
     by_test true = refl
@@ -220,16 +207,16 @@ less-is a b e = grind (arith, nat_tests)
 not-less-is : (a b : ℕ) → nat_lt a b ≡ false → b ≤ a
 not-less-is a b e = grind (arith, nat_tests)
 
-pub open-less : (s : State) → InOrder s → has_open s ≡ true → finished s.deliveries < length s.gone_out
-open-less s h e = less-is (finished s.deliveries) (length s.gone_out) (sym (open-counted s h) ∙ e)
+pub open-less : (s : State) → InOrder s → has_open s ≡ true → finished s.deliveries < started_of s
+open-less s h e = less-is (finished s.deliveries) (started_of s) (sym (open-counted s h) ∙ e)
 
-pub less-open : (s : State) → InOrder s → finished s.deliveries < length s.gone_out → has_open s ≡ true
+pub less-open : (s : State) → InOrder s → finished s.deliveries < started_of s → has_open s ≡ true
 less-open s h low = open-counted s h ∙ grind (arith, nat_tests)
 
-pub none-open : (s : State) → InOrder s → has_open s ≡ false → length s.gone_out ≤ finished s.deliveries
-none-open s h e = not-less-is (finished s.deliveries) (length s.gone_out) (sym (open-counted s h) ∙ e)
+pub none-open : (s : State) → InOrder s → has_open s ≡ false → started_of s ≤ finished s.deliveries
+none-open s h e = not-less-is (finished s.deliveries) (started_of s) (sym (open-counted s h) ∙ e)
 
-pub open-none : (s : State) → InOrder s → length s.gone_out ≤ finished s.deliveries → has_open s ≡ false
+pub open-none : (s : State) → InOrder s → started_of s ≤ finished s.deliveries → has_open s ≡ false
 open-none s h low = open-counted s h ∙ grind (arith, nat_tests)
 
 -- a batch that comes belongs to it

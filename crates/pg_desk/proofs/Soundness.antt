@@ -1,5 +1,5 @@
 -- Every legal list of events leads to a sound state.
-use Rattle.std.proofs.Common.{◌≡◌, ◌≢◌, ◌<◌, ◌≤◌, ℕ, zero, suc, ◌+◌, ◌-◌, ◌==◌, List, [], ◌∷◌, ◌++◌, length, drop, Bool, true, false, if◌then◌else◌, Option, Some, None, is_some, refl, sym, ◌∙◌, ap, subst, arith, append_assoc, length-append, length-drop, nat_lt, ◌||◌, inl, inr, Ok, Err}
+use Rattle.std.proofs.Common.{◌≡◌, ◌≢◌, ◌<◌, ◌≤◌, ℕ, zero, suc, ◌+◌, ◌-◌, ◌==◌, List, [], ◌∷◌, ◌++◌, length, drop, Bool, true, false, if◌then◌else◌, Option, Some, None, is_some, refl, sym, ◌∙◌, ap, subst, arith, append_assoc, length-append, length-drop, nat_lt, ◌||◌, ◌&&◌, not, take, inl, inr, Ok, Err}
 use Rattle.std.proofs.lemmas.Grind.{common_steps}
 use Rattle.std.proofs.lemmas.Bool.Decides.{nat_tests, eqb_tells}
 use Rattle.std.proofs.Math.Seq.{drop-append_seam}
@@ -9,17 +9,19 @@ use Rattle.pg_spec.specs.Batches.{is_batch}
 use Rattle.pg_spec.specs.declared.stamps.Stamp.{Stamp}
 use Rattle.pg_desk.specs.declared.event.Booking.{Booking}
 use Rattle.pg_desk.specs.declared.event.Take.TheVariants as taking
+use Rattle.pg_desk.specs.declared.event.Put.TheVariants as putting
 use Rattle.pg_desk.specs.declared.event.Out.TheVariants as out
 use Rattle.pg_desk.specs.declared.event.Deliver.TheVariants as delivering
 use Rattle.pg_desk.specs.declared.event.Event.{Event}
-use Rattle.pg_desk.specs.declared.event.Event.TheVariants.{Book, Take as TakeEvent, HangUp, NextStatement, NextPortal, NextOut, Deliver as DeliverEvent, CloseRequests, Fail}
+use Rattle.pg_desk.specs.declared.event.Event.TheVariants.{Book, Put as PutEvent, EndCopy, Take as TakeEvent, HangUp, NextStatement, NextPortal, NextOut, Deliver as DeliverEvent, CloseRequests, Fail}
 use Rattle.pg_desk.proofs.Pieces.{open-first, open-later, last-first, last-later, reply-none}
-use Rattle.pg_desk.proofs.Owners.{given-own, given-other, finished-more, owners-more, one-part-more, given-between, ended-counted, open-less, owner-counted}
+use Rattle.pg_desk.proofs.Owners.{given-own, given-other, finished-more, owners-more, given-between, ended-counted, open-less, owner-counted}
 use Rattle.pg_desk.specs.Kept.{after-joined, legal-later}
-use Rattle.pg_desk.specs.Order.{OneAfterAnother, AllOnePart, InOrder}
+use Rattle.pg_desk.specs.Order.{OneAfterAnother, AllParts, FewWait, GoesInOrder, InOrder}
+use Rattle.pg_desk.proofs.Parts.{extended-length, wire-more, all-more, all-extended, order-more, order-extended, order-cleared, few-more, few-extended, few-ended, few-waits, few-up, take-extended, started-more, started-extended, started-up, GoesOut, goes-out}
 use Rattle.std.specs.Prelude.{unwrap_or}
-use Rattle.std.proofs.lemmas.List.{length_push}
-use Rattle.pg_desk.specs.History.{Change, Booked, Took, LetGo, DrewStatement, DrewPortal, WentOut, Came, ClosedAll, FailedAll, Nothing, change_of, changed, Admits, State, Delivery, Taken, start, wire, finished, given, between_ends, has_ended, may_let_go, is_open, first_from, oldest_open, has_open, next_owner, IsOldestOpen, BelongsToOldest, taken, waiting, is_in, is_hung_up, after, after_all, take_of_waiting, take_answer, out_of_rest, out_answer, Allows, IsLegal, received, reply, joined, IsFrontOf, IsSound}
+use Rattle.std.proofs.lemmas.List.{length_push, length-set, take-append-drop}
+use Rattle.pg_desk.specs.History.{Change, Booked, Added, Ended, Took, LetGo, DrewStatement, DrewPortal, WentOut, Came, ClosedAll, FailedAll, Nothing, change_of, changed, Admits, State, Delivery, Taken, start, wire, is_copying, is_running, extended, parts_waiting, started_of, finished, given, between_ends, has_ended, may_let_go, is_open, first_from, oldest_open, has_open, next_owner, IsOldestOpen, BelongsToOldest, taken, waiting, is_in, is_hung_up, after, after_all, take_of_waiting, take_answer, last_out, out_answer, Allows, IsLegal, received, reply, joined, IsFrontOf, IsSound}
 
 pub taken-own : (k : ℕ) (ts : List Taken) (t : Taken) → t.id ≡ k → taken k (ts ++ t ∷ []) ≡ taken k ts ++ t.messages ∷ []
 taken-own k [] t e = grind (arith, nat_tests)
@@ -57,6 +59,7 @@ pub record Kept (s : State) : Type 0 where
   pub order : InOrder s
   pub at_most_two : (k : ℕ) → is_hung_up s k ≡ false → length (given k s.deliveries) ≤ length (taken k s.takes) + 2
   pub out_is_front : IsFrontOf s.gone_out (wire s.book)
+  pub few : FewWait (length s.gone_out) s.book s.copying
 
 -- a list that goes on where another is its front
 pub front-next : {A : Type 0} (xs ys : List A) (y : A) (more : List A) → IsFrontOf xs ys → drop (length xs) ys ≡ y ∷ more → IsFrontOf (xs ++ y ∷ []) ys
@@ -69,10 +72,6 @@ front-more {A} xs ys more f = (f.0 ++ more, sym (append_assoc xs f.0 more) ∙ a
 
 pub front-equal : {A : Type 0} (xs ys xs' ys' : List A) → xs ≡ xs' → ys ≡ ys' → IsFrontOf xs' ys' → IsFrontOf xs ys
 front-equal xs ys xs' ys' e f h = (h.0, cc (h.1))
-
-pub wire-more : (bs : List Booking) (b : Booking) → wire (bs ++ b ∷ []) ≡ wire bs ++ b.parts
-wire-more [] b = grind (arith, common_steps)
-wire-more (x ∷ bs) b = ap (λ (l : List (List ℕ)). x.parts ++ l) (wire-more bs b) ∙ sym (append_assoc x.parts (wire bs) b.parts)
 
 pub cut-more : (ds : List Delivery) (d : Delivery) → AllCut ds → is_batch d.complete d.messages ≡ true → AllCut (ds ++ d ∷ [])
 cut-more [] d h c = (c, tt)
@@ -97,12 +96,13 @@ take-first s id messages e = by_known (nat_lt id (length s.book)) (is_hung_up s 
     by_known false b e = absurd cc
 
 -- a call that changes neither the book, nor what went out and came
-pub order-same : (s t : State) → s.book ≡ t.book → s.gone_out ≡ t.gone_out → s.deliveries ≡ t.deliveries → InOrder s → InOrder t
-order-same s t a b c h = record {
-  owners = subst (OneAfterAnother 0) c h.owners;
-  one_part = subst AllOnePart a h.one_part;
-  out = rw (← a, ← b) h.out;
-  ended = rw (← b, ← c) h.ended;
+pub order-same : (s t : State) → s.book ≡ t.book → s.copying ≡ t.copying → s.gone_out ≡ t.gone_out → s.deliveries ≡ t.deliveries → InOrder s → InOrder t
+order-same s t a b c d h = record {
+  owners = subst (OneAfterAnother 0) d h.owners;
+  flags = rw (← a, ← b) h.flags;
+  all = subst AllParts a h.all;
+  out = rw (← a, ← b, ← c) h.out;
+  ended = rw (← a, ← c, ← d) h.ended;
 }
 
 kept-take : (s : State) (id : ℕ) (messages : List RawMessage) → Kept s → taking.Batch messages ≡ take_answer s id → Kept (after s (TakeEvent id (Ok (taking.Batch messages))))
@@ -116,12 +116,13 @@ kept-take s id messages h e =
         | inr apart ↦ front-equal _ _ _ _ (taken-other k s.takes t apart.1) refl (h.taken_is_front k)
       ];
       all_cut = h.all_cut;
-      order = order-same s (after s (TakeEvent id (Ok (taking.Batch messages)))) refl refl refl h.order;
+      order = order-same s (after s (TakeEvent id (Ok (taking.Batch messages)))) refl refl refl refl h.order;
       at_most_two = λ k open_. elim (eqb_tells id k) [
         | inl same ↦ let a = taken-own k s.takes t same.1 in let b = h.at_most_two k open_ in simp (a, length-append) (omega arith)
         | inr apart ↦ simp (taken-other k s.takes t apart.1) (h.at_most_two k open_)
       ];
       out_is_front = h.out_is_front;
+      few = h.few;
     }
 
 -- a batch that is taken belongs to the oldest open request
@@ -130,12 +131,13 @@ order-deliver s batch complete h open_ =
     let d : Delivery = record { owner = next_owner s; messages = batch; complete = complete } in
     record {
       owners = owners-more 0 s.deliveries d h.owners (let e = owner-counted s h open_ in omega arith);
-      one_part = h.one_part;
+      flags = h.flags;
+      all = h.all;
       out = h.out;
       ended = few complete (finished-more s.deliveries d) (open-less s h open_);
     }
   where
-    few : (b : Bool) {n : ℕ} → n ≡ (if b then 1 else 0) + finished s.deliveries → finished s.deliveries < length s.gone_out → n ≤ length s.gone_out
+    few : (b : Bool) {n : ℕ} → n ≡ (if b then 1 else 0) + finished s.deliveries → finished s.deliveries < started_of s → n ≤ started_of s
     few true e low = omega arith
     few false e low = omega arith
 
@@ -161,38 +163,43 @@ kept-deliver s batch complete h a =
         | inr apart ↦ simp (given-other k s.deliveries d apart.1) (h.at_most_two k open_)
       ];
       out_is_front = h.out_is_front;
+      few = h.few;
     }
 
-first-part : (s : State) (part : List ℕ) (l : List (List ℕ)) → out.Part part ≡ out_of_rest s l → (more : List (List ℕ)) × (l ≡ part ∷ more)
-first-part s part (x ∷ l) e = (l, cc)
-first-part s part [] e = by_open (has_open s) s.closed e
+pub last-is-no-part : (s : State) (p : List ℕ) → last_out s ≡ out.Part p → ⊥
+last-is-no-part s p e = by_tests (has_open s) s.closed e
   where
-    by_open : (a b : Bool) → out.Part part ≡ (if a then out.Nothing else (if b then out.NoMore else out.Nothing)) → (more : List (List ℕ)) × ([] ≡ part ∷ more)
-    by_open true b e = absurd cc
-    by_open false true e = absurd cc
-    by_open false false e = absurd cc
+    by_tests : (a b : Bool) → (if a then out.Nothing else (if b then out.NoMore else out.Nothing)) ≡ out.Part p → ⊥
+    by_tests true b e = cc
+    by_tests false true e = cc
+    by_tests false false e = cc
 
-pub wire-counted : (bs : List Booking) → AllOnePart bs → length (wire bs) ≡ length bs
-wire-counted [] h = refl
-wire-counted (b ∷ bs) h = length-append b.parts (wire bs) ∙ let e : length b.parts ≡ 1 = h.0 in let f : length (wire bs) ≡ length bs = wire-counted bs h.1 in omega arith
+-- the part that goes out is the next of the wire
+pub part-goes-out : (s : State) (part : List ℕ) → out.Part part ≡ out_answer s → GoesOut (length s.gone_out) s.book s.copying part
+part-goes-out s part e = goes-out (last_out s) (last-is-no-part s) (length s.gone_out) s.book s.copying part (sym e)
 
 -- a part that goes out is of the next request
-pub order-out : (s : State) (part : List ℕ) → InOrder s → (more : List (List ℕ)) → drop (length s.gone_out) (wire s.book) ≡ part ∷ more → InOrder (after s (NextOut (Ok (out.Part part))))
-order-out s part h more e =
-    let left : length (wire s.book) - length s.gone_out ≡ suc (length more) = sym (length-drop (length s.gone_out) (wire s.book)) ∙ ap length e in
-    let all : length (wire s.book) ≡ length s.book = wire-counted s.book h.one_part in
-    let one : length (s.gone_out ++ part ∷ []) ≡ length s.gone_out + 1 = length_push s.gone_out part in
-    record { owners = h.owners; one_part = h.one_part; out = omega arith; ended = let k = h.ended in omega arith }
+pub order-out : (s : State) (part : List ℕ) → InOrder s → out.Part part ≡ out_answer s → InOrder (after s (NextOut (Ok (out.Part part))))
+order-out s part h e =
+    let one : length s.gone_out + 1 ≡ length (s.gone_out ++ part ∷ []) = sym (length_push s.gone_out part) in
+    record {
+      owners = h.owners;
+      flags = h.flags;
+      all = h.all;
+      out = subst (λ (n : ℕ). GoesInOrder n s.book s.copying) one ((part-goes-out s part e).order h.out);
+      ended = let a = h.ended in let b = started-up (length s.gone_out) (length (s.gone_out ++ part ∷ [])) s.book (omega arith) in omega (arith, a, b);
+    }
 
 kept-out : (s : State) (part : List ℕ) → Kept s → out.Part part ≡ out_answer s → Kept (after s (NextOut (Ok (out.Part part))))
 kept-out s part h e =
-    let first : (more : List (List ℕ)) × (drop (length s.gone_out) (wire s.book) ≡ part ∷ more) = first-part s part (drop (length s.gone_out) (wire s.book)) e in
+    let g = part-goes-out s part e in
     record {
       taken_is_front = h.taken_is_front;
       all_cut = h.all_cut;
-      order = order-out s part h.order first.0 first.1;
+      order = order-out s part h.order e;
       at_most_two = h.at_most_two;
-      out_is_front = front-next s.gone_out (wire s.book) part first.0 h.out_is_front first.1;
+      out_is_front = front-next s.gone_out (wire s.book) part g.more h.out_is_front g.next;
+      few = few-up (length s.gone_out) (length (s.gone_out ++ part ∷ [])) s.book s.copying (let one = length_push s.gone_out part in omega arith) h.few;
     }
 
 pub in-more : (k x : ℕ) (xs : List ℕ) → is_in k (xs ++ x ∷ []) ≡ false → is_in k xs ≡ false
@@ -215,41 +222,120 @@ kept-hang-up : (s : State) (id : ℕ) → Kept s → Kept (after s (HangUp id (O
 kept-hang-up s id h = record {
   taken_is_front = h.taken_is_front;
   all_cut = h.all_cut;
-  order = order-same s (after s (HangUp id (Ok tt))) refl refl refl h.order;
+  order = order-same s (after s (HangUp id (Ok tt))) refl refl refl refl h.order;
   at_most_two = λ k open_. h.at_most_two k (in-more-if (may_let_go s id) k id s.hung_up open_);
   out_is_front = h.out_is_front;
+  few = h.few;
 }
 
 pub order-book : (s : State) (stamp : Stamp) (part : List ℕ) (copying : Bool) (id : ℕ) → InOrder s → InOrder (after s (Book stamp part copying (Ok id)))
-order-book s stamp part copying id h = record {
-  owners = h.owners;
-  one_part = one-part-more s.book (record { stamp = stamp; parts = part ∷ [] }) h.one_part refl;
-  out = let e : length (s.book ++ record { stamp = stamp; parts = part ∷ [] } ∷ []) ≡ length s.book + 1 = length_push s.book (record { stamp = stamp; parts = part ∷ [] }) in let k = h.out in omega arith;
-  ended = h.ended;
-}
+order-book s stamp part copying id h =
+    let b : Booking = record { stamp = stamp; parts = part ∷ [] } in
+    record {
+      owners = h.owners;
+      flags = length_push s.copying copying ∙ ap (λ (n : ℕ). n + 1) h.flags ∙ sym (length_push s.book b);
+      all = all-more s.book b (omega arith) h.all;
+      out = order-more (length s.gone_out) s.book s.copying b copying h.flags h.out;
+      ended = subst (λ (n : ℕ). finished s.deliveries ≤ n) (sym (started-more (length s.gone_out) s.book s.copying b h.out)) h.ended;
+    }
 
 kept-book : (s : State) (stamp : Stamp) (part : List ℕ) (copying : Bool) (id : ℕ) → Kept s → Kept (after s (Book stamp part copying (Ok id)))
-kept-book s stamp part copying id h = record {
-  taken_is_front = h.taken_is_front;
-  all_cut = h.all_cut;
-  order = order-book s stamp part copying id h.order;
-  at_most_two = h.at_most_two;
-  out_is_front = front-equal _ _ _ _ refl (wire-more s.book (record { stamp = stamp; parts = part ∷ [] })) (front-more s.gone_out (wire s.book) (part ∷ []) h.out_is_front);
-}
+kept-book s stamp part copying id h =
+    let b : Booking = record { stamp = stamp; parts = part ∷ [] } in
+    record {
+      taken_is_front = h.taken_is_front;
+      all_cut = h.all_cut;
+      order = order-book s stamp part copying id h.order;
+      at_most_two = h.at_most_two;
+      out_is_front = front-equal _ _ _ _ refl (wire-more s.book b) (front-more s.gone_out (wire s.book) (part ∷ []) h.out_is_front);
+      few = few-more (length s.gone_out) s.book s.copying b copying h.order.flags (omega arith) h.few;
+    }
 
-same-kept : (s t : State) → s.book ≡ t.book → s.gone_out ≡ t.gone_out → s.deliveries ≡ t.deliveries → s.takes ≡ t.takes → s.hung_up ≡ t.hung_up → Kept s → Kept t
-same-kept s t a b c d e h = record {
-  taken_is_front = λ k. front-equal _ _ _ _ (ap (λ (l : List Taken). taken k l) (sym d)) (ap (λ (l : List Delivery). given k l) (sym c)) (h.taken_is_front k);
-  all_cut = subst AllCut c h.all_cut;
-  order = order-same s t a b c h.order;
-  at_most_two = λ k open_. rw (← c, ← d) (h.at_most_two k (ap (λ (l : List ℕ). is_in k l) e ∙ open_));
-  out_is_front = front-equal _ _ _ _ (sym b) (ap wire (sym a)) h.out_is_front;
+pub running-copies : (s : State) (k : ℕ) → is_running s k ≡ true → is_copying k s.copying ≡ true
+running-copies s k e = by_both (is_copying k s.copying) (is_hung_up s k) e
+  where
+    by_both : (a b : Bool) → a && not b ≡ true → a ≡ true
+    by_both true b e = refl
+    by_both false b e = e
+
+-- what went out is a front still where as much of the new list is as of the old
+same-front : {A : Type 0} (xs ys zs : List A) → take (length xs) zs ≡ take (length xs) ys → IsFrontOf xs ys → IsFrontOf xs zs
+same-front {A} xs ys zs e f = (drop (length xs) zs, ap (λ (l : List A). l ++ drop (length xs) zs) (sym (e ∙ ap (λ (l : List A). take (length xs) l) (sym f.1) ∙ take-front xs f.0)) ∙ take-append-drop (length xs) zs)
+  where
+    take-front : (xs rest : List A) → take (length xs) (xs ++ rest) ≡ xs
+    take-front [] rest = refl
+    take-front (x ∷ xs) rest = ap (λ (l : List A). x ∷ l) (take-front xs rest)
+
+-- a part more of a copy
+pub order-put : (s : State) (id : ℕ) (part : List ℕ) → InOrder s → is_running s id ≡ true → InOrder (changed s (Added id part))
+order-put s id part h runs =
+    let copies = running-copies s id runs in
+    record {
+      owners = h.owners;
+      flags = h.flags ∙ sym (extended-length id part s.book);
+      all = all-extended id part s.book h.all;
+      out = order-extended (length s.gone_out) id part s.book s.copying h.out copies;
+      ended = subst (λ (n : ℕ). finished s.deliveries ≤ n) (sym (started-extended (length s.gone_out) id part s.book s.copying h.out copies)) h.ended;
+    }
+
+kept-put : (s : State) (id : ℕ) (part : List ℕ) → Kept s → is_running s id ≡ true → parts_waiting s id < 2 → Kept (changed s (Added id part))
+kept-put s id part h runs room =
+    let copies = running-copies s id runs in
+    record {
+      taken_is_front = h.taken_is_front;
+      all_cut = h.all_cut;
+      order = order-put s id part h.order runs;
+      at_most_two = h.at_most_two;
+      out_is_front = same-front s.gone_out (wire s.book) (wire (extended id part s.book)) (take-extended (length s.gone_out) id part s.book s.copying h.order.out copies) h.out_is_front;
+      few = few-extended (length s.gone_out) id part s.book s.copying h.order.out copies room h.few;
+    }
+
+-- and its last one
+pub order-end : (s : State) (id : ℕ) (part : List ℕ) → InOrder s → is_running s id ≡ true → InOrder (changed s (Ended id part))
+order-end s id part h runs =
+    let put = order-put s id part h runs in
+    record {
+      owners = h.owners;
+      flags = length-set s.copying id false ∙ put.flags;
+      all = put.all;
+      out = order-cleared (length s.gone_out) id (extended id part s.book) s.copying put.out;
+      ended = put.ended;
+    }
+
+kept-end : (s : State) (id : ℕ) (part : List ℕ) → Kept s → is_running s id ≡ true → Kept (changed s (Ended id part))
+kept-end s id part h runs =
+    let copies = running-copies s id runs in
+    record {
+      taken_is_front = h.taken_is_front;
+      all_cut = h.all_cut;
+      order = order-end s id part h.order runs;
+      at_most_two = h.at_most_two;
+      out_is_front = same-front s.gone_out (wire s.book) (wire (extended id part s.book)) (take-extended (length s.gone_out) id part s.book s.copying h.order.out copies) h.out_is_front;
+      few = few-ended (length s.gone_out) id part s.book s.copying h.order.out copies h.few;
+    }
+
+same-kept : (s t : State) → s.book ≡ t.book → s.copying ≡ t.copying → s.gone_out ≡ t.gone_out → s.deliveries ≡ t.deliveries → s.takes ≡ t.takes → s.hung_up ≡ t.hung_up → Kept s → Kept t
+same-kept s t a b c d e f h = record {
+  taken_is_front = λ k. front-equal _ _ _ _ (ap (λ (l : List Taken). taken k l) (sym e)) (ap (λ (l : List Delivery). given k l) (sym d)) (h.taken_is_front k);
+  all_cut = subst AllCut d h.all_cut;
+  order = order-same s t a b c d h.order;
+  at_most_two = λ k open_. rw (← d, ← e) (h.at_most_two k (ap (λ (l : List ℕ). is_in k l) f ∙ open_));
+  out_is_front = front-equal _ _ _ _ (sym c) (ap wire (sym a)) h.out_is_front;
+  few = rw (← a, ← b, ← c) h.few;
 }
 
 -- what legality says of what an event changes
 pub admitted : (s : State) (e : Event) → Allows s e → Admits s (change_of e)
 admitted s (Book stamp part copying (Ok id)) a = a.0
 admitted s (Book stamp part copying (Err e)) a = tt
+admitted s (PutEvent id part putting.Took) a = a
+admitted s (PutEvent id part (putting.Full back)) a = tt
+admitted s (PutEvent id part (putting.Gone back)) a = tt
+admitted s (PutEvent id part (putting.OutOfMemory back)) a = tt
+admitted s (EndCopy id part putting.Took) a = a
+admitted s (EndCopy id part (putting.Full back)) a = tt
+admitted s (EndCopy id part (putting.Gone back)) a = tt
+admitted s (EndCopy id part (putting.OutOfMemory back)) a = tt
 admitted s (TakeEvent id (Ok (taking.Batch messages))) a = a
 admitted s (TakeEvent id (Ok taking.Empty)) a = tt
 admitted s (TakeEvent id (Ok taking.Over)) a = tt
@@ -276,15 +362,17 @@ admitted s (Fail (Ok x)) a = tt
 admitted s (Fail (Err e)) a = tt
 
 kept-by : (s : State) (c : Change) → Kept s → Admits s c → Kept (changed s c)
-kept-by s (Booked stamp part) h a = kept-book s stamp part false 0 h
+kept-by s (Booked stamp part copying) h a = kept-book s stamp part copying 0 h
+kept-by s (Added id part) h a = kept-put s id part h a.1 a.2
+kept-by s (Ended id part) h a = kept-end s id part h a.1
 kept-by s (Took id messages) h a = kept-take s id messages h a
 kept-by s (LetGo id) h a = kept-hang-up s id h
 kept-by s (WentOut part) h a = kept-out s part h a.1
 kept-by s (Came batch complete) h a = kept-deliver s batch complete h a
-kept-by s DrewStatement h a = same-kept s (changed s DrewStatement) refl refl refl refl refl h
-kept-by s DrewPortal h a = same-kept s (changed s DrewPortal) refl refl refl refl refl h
-kept-by s ClosedAll h a = same-kept s (changed s ClosedAll) refl refl refl refl refl h
-kept-by s FailedAll h a = same-kept s (changed s FailedAll) refl refl refl refl refl h
+kept-by s DrewStatement h a = same-kept s (changed s DrewStatement) refl refl refl refl refl refl h
+kept-by s DrewPortal h a = same-kept s (changed s DrewPortal) refl refl refl refl refl refl h
+kept-by s ClosedAll h a = same-kept s (changed s ClosedAll) refl refl refl refl refl refl h
+kept-by s FailedAll h a = same-kept s (changed s FailedAll) refl refl refl refl refl refl h
 kept-by s Nothing h a = h
 
 kept : (s : State) (e : Event) → Kept s → Allows s e → Kept (after s e)
@@ -298,9 +386,10 @@ kept-start : (n m : ℕ) → Kept (start n m)
 kept-start n m = record {
   taken_is_front = λ k. ([], refl);
   all_cut = tt;
-  order = record { owners = tt; one_part = tt; out = omega arith; ended = omega arith };
+  order = record { owners = tt; flags = refl; all = tt; out = refl; ended = omega arith };
   at_most_two = λ k open_. omega arith;
   out_is_front = ([], refl);
+  few = tt;
 }
 
 -- what is kept up to the end of a legal list
@@ -319,6 +408,7 @@ legal-sound n m es l =
       at_most_two = λ k open_. let b = h.at_most_two k open_ in
           rw (length-drop (length (taken k (after_all (start n m) es).takes)) (given k ds)) (omega arith);
       out_is_front = h.out_is_front;
+      few_parts_wait = λ k. let s = after_all (start n m) es in few-waits (length s.gone_out) k s.book s.copying h.few;
     }
 
 -- a batch that is taken belongs to the oldest open request, and to no other

@@ -1,16 +1,17 @@
 -- What a list of events stands for, with no queue and no mailbox in it.
-use Rattle.std.specs.Prelude.{◌≡◌, ◌⊎◌, ◌<◌, ◌≤◌, ℕ, zero, suc, ◌+◌, ◌-◌, ◌^◌, ◌==◌, List, [], ◌∷◌, ◌++◌, length, drop, Bool, true, false, not, ◌&&◌, ◌||◌, if◌then◌else◌, Option, Some, None, is_some, Ok, Err, nat_lt, unwrap_or, slice_get}
+use Rattle.std.specs.Prelude.{◌≡◌, ◌⊎◌, ◌<◌, ◌≤◌, ℕ, zero, suc, ◌+◌, ◌-◌, ◌^◌, ◌==◌, List, [], ◌∷◌, ◌++◌, length, drop, Bool, true, false, not, ◌&&◌, ◌||◌, if◌then◌else◌, Option, Some, None, is_some, Ok, Err, nat_lt, unwrap_or, slice_get, slice_set}
 use Rattle.pg_spec.specs.RawMessages.{RawMessage, groups}
 use Rattle.pg_spec.specs.declared.stamps.Stamp.{Stamp}
 use Rattle.pg_desk.specs.declared.event.Booking.{Booking}
 use Rattle.pg_desk.specs.declared.event.DeskFault.TheVariants as fault
 use Rattle.pg_desk.specs.declared.event.Take.{Take}
 use Rattle.pg_desk.specs.declared.event.Take.TheVariants as taking
+use Rattle.pg_desk.specs.declared.event.Put.TheVariants as putting
 use Rattle.pg_desk.specs.declared.event.Out.{Out}
 use Rattle.pg_desk.specs.declared.event.Out.TheVariants as out
 use Rattle.pg_desk.specs.declared.event.Deliver.TheVariants as delivering
 use Rattle.pg_desk.specs.declared.event.Event.{Event}
-use Rattle.pg_desk.specs.declared.event.Event.TheVariants.{Book, Take as TakeEvent, HangUp, NextStatement, NextPortal, NextOut, Deliver as DeliverEvent, CloseRequests, Fail}
+use Rattle.pg_desk.specs.declared.event.Event.TheVariants.{Book, Put as PutEvent, EndCopy, Take as TakeEvent, HangUp, NextStatement, NextPortal, NextOut, Deliver as DeliverEvent, CloseRequests, Fail}
 use Rattle.pg_spec.specs.Batches.{is_batch}
 
 -- a batch that was delivered, and the request that it belongs to
@@ -28,6 +29,8 @@ pub record Taken : Type 0 where
 pub record State : Type 0 where
   -- the requests, request k at place k
   pub book : List Booking
+  -- for each of them, whether it is a copy that isn't ended
+  pub copying : List Bool
   -- the parts that went out
   pub gone_out : List (List ℕ)
   -- the batches that came
@@ -48,6 +51,7 @@ pub record State : Type 0 where
 abbrev pub start : (statements portals : ℕ) → State
 start statements portals = record {
   book = [];
+  copying = [];
   gone_out = [];
   deliveries = [];
   takes = [];
@@ -62,6 +66,33 @@ start statements portals = record {
 abbrev pub wire : List Booking → List (List ℕ)
 wire [] = []
 wire (b ∷ bs) = b.parts ++ wire bs
+
+-- the flag of the first request, and those of the others; a request without one is no copy
+abbrev pub first_flag : List Bool → Bool
+first_flag [] = false
+first_flag (c ∷ cs) = c
+
+abbrev pub rest_flags : List Bool → List Bool
+rest_flags [] = []
+rest_flags (c ∷ cs) = cs
+
+-- the flag of request k
+abbrev pub is_copying : ℕ → List Bool → Bool
+is_copying k [] = false
+is_copying zero (c ∷ cs) = c
+is_copying (suc k) (c ∷ cs) = is_copying k cs
+
+-- a part more of request k
+abbrev pub extended : ℕ → List ℕ → List Booking → List Booking
+extended k part [] = []
+extended zero part (b ∷ bs) = record { stamp = b.stamp; parts = b.parts ++ part ∷ [] } ∷ bs
+extended (suc k) part (b ∷ bs) = b ∷ extended k part bs
+
+-- how many parts of request k wait, where n parts went out
+abbrev pub waits_of : ℕ → ℕ → List Booking → ℕ
+waits_of n k [] = 0
+waits_of n zero (b ∷ bs) = length b.parts - n
+waits_of n (suc k) (b ∷ bs) = waits_of (n - length b.parts) k bs
 
 -- how many requests have begun to go out, where n parts went out
 abbrev pub started : ℕ → List Booking → ℕ
@@ -112,9 +143,21 @@ is_hung_up s k = is_in k s.hung_up
 abbrev pub may_let_go : State → ℕ → Bool
 may_let_go s k = nat_lt k (length s.book) && not (is_hung_up s k)
 
+-- request k is a copy that takes parts: it isn't ended, and its reader didn't hang up
+abbrev pub is_running : State → ℕ → Bool
+is_running s k = is_copying k s.copying && not (is_hung_up s k)
+
+-- how many parts of request k wait
+abbrev pub parts_waiting : State → ℕ → ℕ
+parts_waiting s k = waits_of (length s.gone_out) k s.book
+
+-- how many requests have begun to go out
+abbrev pub started_of : State → ℕ
+started_of s = started (length s.gone_out) s.book
+
 -- the first part of request k went out
 abbrev pub has_begun : State → ℕ → Bool
-has_begun s k = nat_lt k (started (length s.gone_out) s.book)
+has_begun s k = nat_lt k (started_of s)
 
 -- request k is open: its first part went out, and no batch that ends a reply belongs to it
 abbrev pub is_open : State → ℕ → Bool
@@ -143,7 +186,9 @@ ended s = s.closed || s.failed
 
 -- what a call changes: an answer that refuses it, or tells that there is nothing, changes nothing
 pub data Change : Type 0 where
-  Booked : Stamp → (part : List ℕ) → Change
+  Booked : Stamp → (part : List ℕ) → (copying : Bool) → Change
+  Added : (id : ℕ) → (part : List ℕ) → Change
+  Ended : (id : ℕ) → (part : List ℕ) → Change
   Took : (id : ℕ) → List RawMessage → Change
   LetGo : (id : ℕ) → Change
   DrewStatement : Change
@@ -156,7 +201,9 @@ pub data Change : Type 0 where
 
 -- by an event
 abbrev pub change_of : Event → Change
-change_of (Book stamp part copying (Ok id)) = Booked stamp part
+change_of (Book stamp part copying (Ok id)) = Booked stamp part copying
+change_of (PutEvent id part putting.Took) = Added id part
+change_of (EndCopy id part putting.Took) = Ended id part
 change_of (TakeEvent id (Ok (taking.Batch messages))) = Took id messages
 change_of (HangUp id (Ok x)) = LetGo id
 change_of (NextStatement (Ok n)) = DrewStatement
@@ -169,7 +216,9 @@ change_of e = Nothing
 
 -- a state with it
 abbrev pub changed : State → Change → State
-changed s (Booked stamp part) = record s { book = s.book ++ record { stamp = stamp; parts = part ∷ [] } ∷ [] }
+changed s (Booked stamp part copying) = record s { book = s.book ++ record { stamp = stamp; parts = part ∷ [] } ∷ []; copying = s.copying ++ copying ∷ [] }
+changed s (Added id part) = record s { book = extended id part s.book }
+changed s (Ended id part) = record s { book = extended id part s.book; copying = slice_set s.copying id false }
 changed s (Took id messages) = record s { takes = s.takes ++ record { id = id; messages = messages } ∷ [] }
 changed s (LetGo id) = record s { hung_up = if may_let_go s id then s.hung_up ++ id ∷ [] else s.hung_up }
 changed s DrewStatement = record s { statements = s.statements + 1 }
@@ -182,7 +231,9 @@ changed s Nothing = s
 
 -- requests, batches and parts move by it. Letting go what nobody may let go any more moves nothing
 abbrev pub is_move : State → Change → Bool
-is_move s (Booked stamp part) = true
+is_move s (Booked stamp part copying) = true
+is_move s (Added id part) = true
+is_move s (Ended id part) = true
 is_move s (Took id messages) = true
 is_move s (LetGo id) = may_let_go s id
 is_move s (WentOut part) = true
@@ -210,23 +261,41 @@ take_answer s id =
     then (if is_hung_up s id then taking.Gone else take_of_waiting s id (waiting s id))
     else taking.Gone
 
+-- what next_out answers where all has gone out
+abbrev pub last_out : State → Out
+last_out s = if has_open s then out.Nothing else (if s.closed then out.NoMore else out.Nothing)
+
+-- the first of these parts, else another answer
+abbrev pub first_part : List (List ℕ) → Out → Out
+first_part (part ∷ parts) other = out.Part part
+first_part [] other = other
+
+-- The next part of the oldest request that hasn't gone out whole, where n parts went out. Nothing goes out behind a copy that isn't
+-- ended.
+abbrev pub next_part : (last : Out) → ℕ → List Booking → List Bool → Out
+next_part last n [] cs = last
+next_part last n (b ∷ bs) cs =
+    first_part (drop n b.parts) (if first_flag cs then out.CopyWaits else next_part last (n - length b.parts) bs (rest_flags cs))
+
 -- what next_out answers, where the hub hasn't failed
-abbrev pub out_of_rest : State → List (List ℕ) → Out
-out_of_rest s (part ∷ parts) = out.Part part
-out_of_rest s [] = if has_open s then out.Nothing else (if s.closed then out.NoMore else out.Nothing)
-
--- the next part is the first of the wire that hasn't gone out
 abbrev pub out_answer : State → Out
-out_answer s = out_of_rest s (drop (length s.gone_out) (wire s.book))
+out_answer s = next_part (last_out s) (length s.gone_out) s.book s.copying
 
--- Whether an answer follows from the state before its call, where requests aren't copies: one that is booked as a copy goes out as
--- any other. Want of memory may be answered in any state: a desk that
--- stores its events may lack the room for any of them. What it hands back is what was passed.
+-- Whether an answer follows from the state before its call. Want of memory may be answered in any state: a desk that stores its
+-- events may lack the room for any of them. What it hands back is what was passed.
 abbrev pub Allows : State → Event → Type 0
 Allows s (Book stamp part copying (Ok id)) = (ended s ≡ false) × (id ≡ length s.book)
 Allows s (Book stamp part copying (Err fault.Closed)) = ended s ≡ true
 Allows s (Book stamp part copying (Err fault.Encode)) = ⊥
 Allows s (Book stamp part copying (Err fault.OutOfMemory)) = Unit {0}
+Allows s (PutEvent id part putting.Took) = (s.failed ≡ false) × (is_running s id ≡ true) × (parts_waiting s id < 2)
+Allows s (PutEvent id part (putting.Full back)) = (back ≡ part) × (s.failed ≡ false) × (is_running s id ≡ true) × (2 ≤ parts_waiting s id)
+Allows s (PutEvent id part (putting.Gone back)) = (back ≡ part) × ((s.failed ≡ true) ⊎ (is_running s id ≡ false))
+Allows s (PutEvent id part (putting.OutOfMemory back)) = back ≡ part
+Allows s (EndCopy id part putting.Took) = (s.failed ≡ false) × (is_running s id ≡ true)
+Allows s (EndCopy id part (putting.Full back)) = ⊥
+Allows s (EndCopy id part (putting.Gone back)) = (back ≡ part) × ((s.failed ≡ true) ⊎ (is_running s id ≡ false))
+Allows s (EndCopy id part (putting.OutOfMemory back)) = back ≡ part
 Allows s (TakeEvent id (Ok answer)) = answer ≡ take_answer s id
 Allows s (TakeEvent id (Err e)) = e ≡ fault.OutOfMemory
 Allows s (HangUp id (Ok x)) = Unit {0}
@@ -257,7 +326,9 @@ Allows s (Fail (Err e)) = e ≡ fault.OutOfMemory
 
 -- what legality says of a change: all that proofs on states need of an answer
 abbrev pub Admits : State → Change → Type 0
-Admits s (Booked stamp part) = ended s ≡ false
+Admits s (Booked stamp part copying) = ended s ≡ false
+Admits s (Added id part) = (s.failed ≡ false) × (is_running s id ≡ true) × (parts_waiting s id < 2)
+Admits s (Ended id part) = (s.failed ≡ false) × (is_running s id ≡ true)
 Admits s (Took id messages) = taking.Batch messages ≡ take_answer s id
 Admits s DrewStatement = s.failed ≡ false
 Admits s DrewPortal = s.failed ≡ false
@@ -275,6 +346,8 @@ IsLegal s (e ∷ es) = Allows s e × IsLegal (after s e) es
 -- Over a desk that stores nothing, want of memory comes only where the call would take some.
 abbrev pub Needs : State → Event → Type 0
 Needs s (Book stamp part copying (Err fault.OutOfMemory)) = ended s ≡ false
+Needs s (PutEvent id part (putting.OutOfMemory back)) = (s.failed ≡ false) × (is_running s id ≡ true) × (parts_waiting s id < 2)
+Needs s (EndCopy id part (putting.OutOfMemory back)) = (s.failed ≡ false) × (is_running s id ≡ true)
 Needs s (TakeEvent id (Err e)) = ⊥
 Needs s (HangUp id (Err e)) = ⊥
 Needs s (NextStatement (Err fault.OutOfMemory)) = ⊥
@@ -328,12 +401,17 @@ pub record IsSound (s : State) : Type 0 where
   pub given_is_between : (k : ℕ) → given k s.deliveries ≡ between_ends k s.deliveries
   pub ended_in_order : (k : ℕ) → has_ended k s.deliveries ≡ nat_lt k (finished s.deliveries)
   pub at_most_two : (k : ℕ) → is_hung_up s k ≡ false → length (waiting s k) ≤ 2
+  -- so the parts of a request go out together
   pub out_is_front : IsFrontOf s.gone_out (wire s.book)
+  -- two parts of a copy, and the closing one behind them where it is ended
+  pub few_parts_wait : (k : ℕ) → parts_waiting s k ≤ (if is_copying k s.copying then 2 else 3)
 
 -- A call that wants memory, and no other, leaves no event in a list that is stored. In a list that isn't, it may stand, and changes
 -- nothing.
 abbrev pub leaves_event : Event → Bool
 leaves_event (Book stamp part copying (Err fault.OutOfMemory)) = false
+leaves_event (PutEvent id part (putting.OutOfMemory back)) = false
+leaves_event (EndCopy id part (putting.OutOfMemory back)) = false
 leaves_event (TakeEvent id (Err fault.OutOfMemory)) = false
 leaves_event (HangUp id (Err fault.OutOfMemory)) = false
 leaves_event (NextStatement (Err fault.OutOfMemory)) = false

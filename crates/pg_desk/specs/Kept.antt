@@ -1,8 +1,9 @@
 -- Want of memory in lists of events.
 use Rattle.std.proofs.Common.{◌≡◌, List, [], ◌∷◌, ◌++◌, Bool, true, false, if◌then◌else◌, Ok, Err, refl, ap, subst}
+use Rattle.pg_desk.specs.declared.event.Put.TheVariants as putting
 use Rattle.pg_desk.specs.declared.event.Deliver.TheVariants as delivering
 use Rattle.pg_desk.specs.declared.event.Event.{Event}
-use Rattle.pg_desk.specs.declared.event.Event.TheVariants.{Book, Take as TakeEvent, HangUp, NextStatement, NextPortal, NextOut, Deliver as DeliverEvent, CloseRequests, Fail}
+use Rattle.pg_desk.specs.declared.event.Event.TheVariants.{Book, Put as PutEvent, EndCopy, Take as TakeEvent, HangUp, NextStatement, NextPortal, NextOut, Deliver as DeliverEvent, CloseRequests, Fail}
 use Rattle.pg_desk.specs.History.{State, after, after_all, IsLegal, IsExact, leaves_event, kept}
 
 -- one event more in front
@@ -19,6 +20,14 @@ kept-joined (e ∷ es) fs = kept-step (leaves_event e) e (kept (es ++ fs)) (kept
 pub unchanged : (s : State) (e : Event) → leaves_event e ≡ false → after s e ≡ s
 unchanged s (Book stamp part copying (Ok id)) h = absurd cc
 unchanged s (Book stamp part copying (Err e)) h = refl
+unchanged s (PutEvent id part putting.Took) h = absurd cc
+unchanged s (PutEvent id part (putting.Full back)) h = refl
+unchanged s (PutEvent id part (putting.Gone back)) h = refl
+unchanged s (PutEvent id part (putting.OutOfMemory back)) h = refl
+unchanged s (EndCopy id part putting.Took) h = absurd cc
+unchanged s (EndCopy id part (putting.Full back)) h = refl
+unchanged s (EndCopy id part (putting.Gone back)) h = refl
+unchanged s (EndCopy id part (putting.OutOfMemory back)) h = refl
 unchanged s (TakeEvent id (Ok t)) h = absurd cc
 unchanged s (TakeEvent id (Err e)) h = refl
 unchanged s (HangUp id (Ok x)) h = absurd cc

@@ -1,21 +1,32 @@
 -- In which order requests go out and batches come.
-use Rattle.std.specs.Prelude.{◌≡◌, ◌≤◌, ℕ, suc, List, [], ◌∷◌, length, if◌then◌else◌}
+use Rattle.std.specs.Prelude.{◌≡◌, ◌≤◌, ◌<◌, ℕ, suc, ◌+◌, ◌-◌, List, [], ◌∷◌, length, Bool, true, if◌then◌else◌}
 use Rattle.pg_desk.specs.declared.event.Booking.{Booking}
-use Rattle.pg_desk.specs.History.{State, Delivery, finished}
+use Rattle.pg_desk.specs.History.{State, Delivery, finished, first_flag, rest_flags, started_of}
 
 -- the batches belong to requests one after another: to request k until one ends its reply, then to the next
 abbrev pub OneAfterAnother : ℕ → List Delivery → Type 0
 OneAfterAnother k [] = Unit {0}
 OneAfterAnother k (d ∷ ds) = (d.owner ≡ k) × OneAfterAnother (if d.complete then suc k else k) ds
 
--- each request has one part
-abbrev pub AllOnePart : List Booking → Type 0
-AllOnePart [] = Unit {0}
-AllOnePart (b ∷ bs) = (length b.parts ≡ 1) × AllOnePart bs
+-- nothing behind a copy that isn't ended went out, where n parts went out
+abbrev pub GoesInOrder : ℕ → List Booking → List Bool → Type 0
+GoesInOrder n [] cs = n ≡ 0
+GoesInOrder n (b ∷ bs) cs = (first_flag cs ≡ true → n ≤ length b.parts) × GoesInOrder (n - length b.parts) bs (rest_flags cs)
 
--- Replies come one after another, each behind its request's parts.
+-- at most two parts of a copy wait, and of one that was ended a closing part behind them
+abbrev pub FewWait : ℕ → List Booking → List Bool → Type 0
+FewWait n [] cs = Unit {0}
+FewWait n (b ∷ bs) cs = (length b.parts ≤ n + (if first_flag cs then 2 else 3)) × FewWait (n - length b.parts) bs (rest_flags cs)
+
+-- each request has a part
+abbrev pub AllParts : List Booking → Type 0
+AllParts [] = Unit {0}
+AllParts (b ∷ bs) = (0 < length b.parts) × AllParts bs
+
+-- Replies come one after another, each behind its request's first part, and requests go out one after another.
 pub record InOrder (s : State) : Type 0 where
   pub owners : OneAfterAnother 0 s.deliveries
-  pub one_part : AllOnePart s.book
-  pub out : length s.gone_out ≤ length s.book
-  pub ended : finished s.deliveries ≤ length s.gone_out
+  pub flags : length s.copying ≡ length s.book
+  pub all : AllParts s.book
+  pub out : GoesInOrder (length s.gone_out) s.book s.copying
+  pub ended : finished s.deliveries ≤ started_of s

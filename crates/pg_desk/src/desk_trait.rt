@@ -3,9 +3,9 @@
 ghost use Rattle.std.specs.Prelude.{◌≡◌, ◌++◌, [], ◌∷◌, List, ℕ, ◌≤◌, ◌<◌, Bool, true};
 ghost use Rattle.pg_desk.specs.declared.event.Event.{Event};
 ghost use Rattle.pg_spec.specs.RawMessages.{ends_in, is_ready};
-ghost use Rattle.pg_desk.specs.Answers.{HasBatch, HasPart, OnlyMemory, NotEncode, HasMemory, HasRoom, HandsBack};
+ghost use Rattle.pg_desk.specs.Answers.{HasBatch, HasPart, OnlyMemory, NotEncode, HasMemory, HasRoom, HandsBack, HandsPartBack, NeverFull};
 
-use crate::{Deliver, DeskFault, Out, Stamp, Take};
+use crate::{Deliver, DeskFault, Out, Put, Stamp, Take};
 use bytes::Bytes;
 use pg_wire::BackendMessages;
 use std::alloc::Global;
@@ -18,7 +18,7 @@ pub trait Desk {
     /// Falls in each take that answers a batch. No call of a desk raises it.
     ghost undelivered: { Self → ℕ };
 
-    /// Falls in each call of an engine that hands a part out. No call but book raises it.
+    /// Falls in each call of an engine that hands a part out. No call but book, put and end_copy raises it.
     ghost waiting_parts: { Self → ℕ };
 
     /// The calls that need no memory never want it.
@@ -38,6 +38,20 @@ pub trait Desk {
     ) -> Result<u64, DeskFault>
         ensures event { becomes self.old (Event.Book stamp part copying result ∷ []) self.new }
         ensures fault { NotEncode result }
+        ensures count { undelivered self.new ≤ undelivered self.old };
+
+    /// Adds a part to a copy that isn't ended. Full comes exactly where two parts of it wait, Gone exactly
+    /// after `fail` or where the request is no copy that takes parts.
+    fn put(&mut self, alloc: Global, id: u64, part: Bytes) -> Put
+        ensures event { becomes self.old (Event.Put id part result ∷ []) self.new }
+        ensures back { HandsPartBack part result }
+        ensures count { undelivered self.new ≤ undelivered self.old };
+
+    /// Ends a copy by its last part. Full never comes.
+    fn end_copy(&mut self, alloc: Global, id: u64, part: Bytes) -> Put
+        ensures event { becomes self.old (Event.EndCopy id part result ∷ []) self.new }
+        ensures back { HandsPartBack part result }
+        ensures full { NeverFull result }
         ensures count { undelivered self.new ≤ undelivered self.old };
 
     /// Gives the oldest batch that waits for the reader of a request.

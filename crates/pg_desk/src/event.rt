@@ -22,6 +22,17 @@ pub enum DeskFault {
     OutOfMemory,
 }
 
+/// What a copy answers to a part of it. Every refusal hands the part back.
+#[derive(Drop)]
+pub enum Put {
+    Took,
+    /// Two parts wait.
+    Full(Bytes),
+    /// The request isn't booked, is no copy, is ended or hung up, or its hub has failed.
+    Gone(Bytes),
+    OutOfMemory(Bytes),
+}
+
 /// What the reader of a request is given.
 #[derive(Drop)]
 pub enum Take {
@@ -60,6 +71,8 @@ pub enum Deliver {
 #[derive(Drop)]
 pub enum Event {
     Book(Stamp, Bytes, bool, Result<u64, DeskFault>),
+    Put(u64, Bytes, Put),
+    EndCopy(u64, Bytes, Put),
     Take(u64, Result<Take, DeskFault>),
     HangUp(u64, Result<(), DeskFault>),
     NextStatement(Result<u32, DeskFault>),

@@ -7,6 +7,6 @@ mod event;
 mod laws;
 
 pub use desk_trait::{Desk, Engine};
-pub use event::{Booking, Deliver, DeskFault, Event, Out, Take};
+pub use event::{Booking, Deliver, DeskFault, Event, Out, Put, Take};
 pub use laws::every_interleaving;
 pub use pg_spec::Stamp;

@@ -46,8 +46,7 @@ fits-touched s h t f = record {
   standing = record { mail = f.standing.mail; out = f.standing.out; finished = f.standing.finished };
   book = f.book;
   mail = f.mail;
-  outgoing = f.outgoing;
-  gone_out = f.gone_out;
+  parts = f.parts;
   finished = f.finished;
   statements = f.statements;
   portals = f.portals;

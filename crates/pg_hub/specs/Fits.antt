@@ -1,31 +1,38 @@
 -- What lists of events a hub stands for, and what its calls do to it.
-use Rattle.std.specs.Prelude.{◌≡◌, ◌≤◌, ◌<◌, ℕ, List, [], ◌∷◌, length, drop, Bool, false, ◌||◌}
+use Rattle.std.specs.Prelude.{◌≡◌, ◌≤◌, ◌<◌, ℕ, List, [], ◌∷◌, length, Bool, false, ◌||◌}
 use Rattle.pg_hub.specs.declared.mailbox.Mailbox.{Mailbox}
 use Rattle.pg_desk.specs.declared.event.Event.{Event}
 use Rattle.pg_hub.specs.Standing.{Standing, IsStanding}
 use Rattle.pg_hub.specs.Mail.{waits, is_gone, at}
+use Rattle.pg_hub.specs.Rests.{Rest, rests, whole_of}
+use Rattle.pg_desk.specs.declared.event.Booking.{Booking}
 use Rattle.pg_desk.specs.Order.{InOrder}
-use Rattle.pg_desk.specs.History.{State, wire, finished, given, taken, waiting, is_hung_up, change_of, is_move, after, after_all, IsExact}
+use Rattle.pg_desk.specs.History.{State, started, started_of, finished, given, taken, waiting, is_hung_up, change_of, is_move, after, after_all, IsExact}
 
 -- a mailbox has what waits, and knows whether its reader hung up
 pub record MailFits (s : State) (k : ℕ) (mailbox : Mailbox) : Type 0 where
   pub gone : is_gone mailbox ≡ is_hung_up s k
   pub waits : is_hung_up s k ≡ false → waits mailbox ≡ waiting s k
 
+-- what of each request hasn't gone out, by the book and what went out
+pub record PartsFit (gone_out : List (List ℕ)) (book : List Booking) (copying : List Bool) (outgoing : List Rest) (whole begun : ℕ) : Type 0 where
+  pub rest : outgoing ≡ rests (length gone_out) book copying
+  pub wholes : whole ≡ whole_of (length gone_out) book copying
+  pub started : begun ≡ started (length gone_out) book
+
 -- the hub stands for a state of a list of events
 pub record Fits (s : State) (h : Standing) : Type 0 where
   pub standing : IsStanding h
   pub book : h.book ≡ s.book
   pub mail : (k : ℕ) → k < length s.book → MailFits s k (at h.mail k)
-  pub outgoing : h.outgoing ≡ drop (length s.gone_out) (wire s.book)
-  pub gone_out : h.gone_out ≡ length s.gone_out
+  pub parts : PartsFit s.gone_out s.book s.copying h.outgoing h.whole h.started
   pub finished : h.finished ≡ finished s.deliveries
   pub statements : h.statements ≡ s.statements
   pub portals : h.portals ≡ s.portals
   pub closed : h.closed ≡ s.closed
   pub failed : h.failed ≡ s.failed
   -- nothing was given before it was asked for, and nobody hung up on what isn't booked
-  pub none_given : (k : ℕ) → length s.gone_out ≤ k → given k s.deliveries ≡ []
+  pub none_given : (k : ℕ) → started_of s ≤ k → given k s.deliveries ≡ []
   pub none_hung_up : (k : ℕ) → length s.book ≤ k → is_hung_up s k ≡ false
   -- nobody took more than came
   pub none_invented : (k : ℕ) → length (taken k s.takes) ≤ length (given k s.deliveries)

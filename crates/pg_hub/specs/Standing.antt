@@ -2,6 +2,7 @@
 use Rattle.std.specs.Prelude.{◌≡◌, ◌≤◌, ◌+◌, ℕ, List, length, Bool}
 use Rattle.pg_desk.specs.declared.event.Booking.{Booking}
 use Rattle.pg_hub.specs.declared.mailbox.Mailbox.{Mailbox}
+use Rattle.pg_hub.specs.Rests.{Rest, weight_in}
 use Rattle.pg_hub.specs.declared.hub.Hub.TheInside.{Inside}
 
 -- what the hub holds, as contracts see it
@@ -10,10 +11,12 @@ pub record Standing : Type 0 where
   pub book : List Booking
   -- the mailbox of each booking
   pub mail : List Mailbox
-  -- the parts that haven't gone out, in order
-  pub outgoing : List (List ℕ)
-  -- how many parts have gone out, and how many groups have ended
-  pub gone_out : ℕ
+  -- what of each booking hasn't gone out, and what it all weighs
+  pub outgoing : List Rest
+  pub unsent : ℕ
+  -- how many bookings went out whole, how many began to, and how many groups have ended
+  pub whole : ℕ
+  pub started : ℕ
   pub finished : ℕ
   -- the next numbers
   pub statements : ℕ
@@ -29,7 +32,9 @@ standing h = record {
   book = h.book;
   mail = h.mail.items;
   outgoing = h.outgoing.items;
-  gone_out = h.gone_out;
+  unsent = h.unsent;
+  whole = h.whole;
+  started = h.started;
   finished = h.finished;
   statements = h.statements;
   portals = h.portals;
@@ -38,8 +43,16 @@ standing h = record {
   touched = h.touched;
 }
 
--- Each booking has a mailbox, and its one part has gone out or waits; groups end after their part went out.
+-- Each booking has what of it hasn't gone out. The first ones went out whole, and at most one more began to.
+pub record StandsOut (booked : ℕ) (outgoing : List Rest) (weight ended begun : ℕ) : Type 0 where
+  pub all : length outgoing ≡ booked
+  pub unsent : weight ≡ weight_in outgoing
+  pub whole : ended ≤ booked
+  pub started : begun ≤ booked
+  pub near : begun ≤ ended + 1
+
+-- Each booking has a mailbox, and groups end after their request's first part went out.
 pub record IsStanding (h : Standing) : Type 0 where
   pub mail : length h.mail ≡ length h.book
-  pub out : h.gone_out + length h.outgoing ≡ length h.book
-  pub finished : h.finished ≤ h.gone_out
+  pub out : StandsOut (length h.book) h.outgoing h.unsent h.whole h.started
+  pub finished : h.finished ≤ h.started

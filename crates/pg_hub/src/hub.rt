@@ -1,26 +1,34 @@
 //! The plain hub. `Fits` says which states of a list of events it stands for.
 
-ghost use Rattle.std.specs.Prelude.{◌≡◌, ◌∷◌, [], true, false, IfOk};
+ghost use Rattle.std.specs.Prelude.{◌≡◌, ◌<◌, ◌≤◌, ◌+◌, ◌∷◌, [], length, true, false, IfOk, IfSome, MatchBool};
+ghost use Rattle.pg_desk.specs.History.{extended};
 
 use crate::mailbox::{Mailbox, hang_up_at, is_hung_up_at, put_at, take_at};
+use crate::outgoing::{
+    Outgoing, close_at, is_copying_at, is_full_at, is_whole_at, pop_at, push_part_at, put_part_at,
+};
 use bytes::Bytes;
-use pg_desk::{Booking, Deliver, Desk, DeskFault, Engine, Out, Stamp, Take};
+use pg_desk::{Booking, Deliver, Desk, DeskFault, Engine, Out, Put, Stamp, Take};
 use pg_types::{Blob, List, OutOfMemory};
 use pg_wire::BackendMessages;
 use std::alloc::Global;
-use std::collections::VecDeque;
 use std::marker::Model;
+use std::mem;
 
-/// The requests of all handles, and what came for them. Requests have one part: that a request is booked
-/// as a copy stands in its event and means nothing more yet.
+/// The requests of all handles, and what came for them.
 #[derive(Drop)]
 pub struct Hub {
     book: List<Booking>,
     /// A mailbox for each booking.
     mail: Vec<Mailbox>,
-    /// The parts that haven't gone out.
-    outgoing: VecDeque<Bytes>,
-    gone_out: u64,
+    /// What of each booking hasn't gone out.
+    outgoing: Vec<Outgoing>,
+    /// The bytes that wait in it, and one more for each part.
+    unsent: u64,
+    /// The number of bookings that have gone out whole: the first ones.
+    whole: u64,
+    /// The number of bookings whose first part is out.
+    started: u64,
     finished: u64,
     statements: u32,
     portals: u32,
@@ -52,8 +60,10 @@ impl Hub {
         Hub {
             book: List::empty(alloc),
             mail: Vec::new(alloc),
-            outgoing: VecDeque::new(alloc),
-            gone_out: 0,
+            outgoing: Vec::new(alloc),
+            unsent: 0,
+            whole: 0,
+            started: 0,
             finished: 0,
             statements,
             portals,
@@ -78,7 +88,9 @@ impl Hub {
             book,
             mail: _,
             outgoing: _,
-            gone_out: _,
+            unsent: _,
+            whole: _,
+            started: _,
             finished: _,
             statements: _,
             portals: _,
@@ -89,7 +101,22 @@ impl Hub {
         book
     }
 
-    /// Whether, since its last call, something was booked, taken as a batch, taken out as a part,
+    /// A part more in the book of one of the bookings. Where it isn't shown for want of memory, nothing
+    /// changes.
+    fn shows(&mut self, alloc: Global, place: usize, part: &Bytes) -> bool
+        requires { place < length self.old.book }
+        ensures { MatchBool result (self.new ≡ record self.old { book = extended place part.now self.old.book }) (self.new ≡ self.old) }
+    {
+        let Ok(shown) = Blob::from_slice(alloc, part.as_slice()) else {
+            return false;
+        };
+        let mut bookings = mem::replace(&mut self.book, List::empty(alloc)).into_vec();
+        let pushed = push_part_at(&mut bookings, place, shown);
+        self.book = List::new(bookings);
+        pushed.is_ok()
+    }
+
+    /// Whether, since its last call, something was booked, put, taken as a batch, taken out as a part,
     /// delivered, discarded or hung up. A call of `hang_up` that changes nothing doesn't count. It changes
     /// nothing else.
     pub fn touched(&mut self) -> bool
@@ -110,6 +137,22 @@ fn booking_of(alloc: Global, stamp: Stamp, part: &Bytes) -> Result<Booking, OutO
     let mut parts = List::with_room(alloc, 1)?;
     parts.push(part)?;
     Ok(Booking { stamp, parts })
+}
+
+/// What waits with one part more, where it can still be counted.
+fn with_part(unsent: u64, part: &Bytes) -> Option<u64>
+    ensures { IfSome result (λ n. n ≡ unsent + (length part.now + 1)) }
+{
+    let more = (part.len() as u64).checked_add(1)?;
+    unsent.checked_add(more)
+}
+
+/// What waits with one part less.
+fn without_part(unsent: u64, part: &Bytes) -> u64
+    requires { length part.now + 1 ≤ unsent }
+    ensures { result + (length part.now + 1) ≡ unsent }
+{
+    unsent - part.len() as u64 - 1
 }
 
 impl Desk for Hub {
@@ -138,6 +181,9 @@ impl Desk for Hub {
             return Err(DeskFault::Closed);
         }
         let id = self.mail.len() as u64;
+        let Some(unsent) = with_part(self.unsent, &part) else {
+            return Err(DeskFault::OutOfMemory);
+        };
         let Ok(booking) = booking_of(alloc, stamp, &part) else {
             return Err(DeskFault::OutOfMemory);
         };
@@ -152,11 +198,65 @@ impl Desk for Hub {
             return Err(DeskFault::OutOfMemory);
         }
         self.mail.push_reserved(Mailbox::Empty);
-        if self.outgoing.push_back(part).is_err() {
-            unreachable!();
-        }
+        self.outgoing.push_reserved(Outgoing::new(part, copying));
+        self.unsent = unsent;
         self.touched = true;
         Ok(id)
+    }
+
+    fn put(&mut self, alloc: Global, id: u64, part: Bytes) -> Put {
+        let place = id as usize;
+        if self.failed {
+            return Put::Gone(part);
+        }
+        if place >= self.outgoing.len() {
+            return Put::Gone(part);
+        }
+        if !is_copying_at(&self.outgoing, place) {
+            return Put::Gone(part);
+        }
+        if is_hung_up_at(&self.mail, place) {
+            return Put::Gone(part);
+        }
+        if is_full_at(&self.outgoing, place) {
+            return Put::Full(part);
+        }
+        let Some(unsent) = with_part(self.unsent, &part) else {
+            return Put::OutOfMemory(part);
+        };
+        if !self.shows(alloc, place, &part) {
+            return Put::OutOfMemory(part);
+        }
+        put_part_at(&mut self.outgoing, place, part);
+        self.unsent = unsent;
+        self.touched = true;
+        Put::Took
+    }
+
+    fn end_copy(&mut self, alloc: Global, id: u64, part: Bytes) -> Put {
+        let place = id as usize;
+        if self.failed {
+            return Put::Gone(part);
+        }
+        if place >= self.outgoing.len() {
+            return Put::Gone(part);
+        }
+        if !is_copying_at(&self.outgoing, place) {
+            return Put::Gone(part);
+        }
+        if is_hung_up_at(&self.mail, place) {
+            return Put::Gone(part);
+        }
+        let Some(unsent) = with_part(self.unsent, &part) else {
+            return Put::OutOfMemory(part);
+        };
+        if !self.shows(alloc, place, &part) {
+            return Put::OutOfMemory(part);
+        }
+        close_at(&mut self.outgoing, place, part);
+        self.unsent = unsent;
+        self.touched = true;
+        Put::Took
     }
 
     fn take(&mut self, id: u64) -> Result<Take, DeskFault> {
@@ -231,27 +331,32 @@ impl Engine for Hub {
         if self.failed {
             return Err(DeskFault::Closed);
         }
-        match self.outgoing.pop_front() {
-            Some(part) => {
-                self.gone_out += 1;
-                self.touched = true;
-                Ok(Out::Part(part))
+        let place = self.whole as usize;
+        if place >= self.outgoing.len() {
+            if self.finished < self.started {
+                return Ok(Out::Nothing);
             }
-            None => {
-                if self.finished < self.gone_out {
-                    Ok(Out::Nothing)
-                } else if self.closed {
-                    Ok(Out::NoMore)
-                } else {
-                    Ok(Out::Nothing)
-                }
+            if self.closed {
+                return Ok(Out::NoMore);
             }
+            return Ok(Out::Nothing);
         }
+        let Some(part) = pop_at(&mut self.outgoing, place) else {
+            return Ok(Out::CopyWaits);
+        };
+        self.started = self.whole + 1;
+        self.unsent = without_part(self.unsent, &part);
+        self.touched = true;
+        if is_whole_at(&self.outgoing, place) {
+            self.whole += 1;
+            return Ok(Out::Part(part));
+        }
+        Ok(Out::Part(part))
     }
 
     fn deliver(&mut self, batch: BackendMessages, complete: bool) -> Deliver {
         batch.batch_law();
-        if self.finished >= self.gone_out {
+        if self.finished >= self.started {
             return Deliver::NoRequest(batch);
         }
         let place = self.finished as usize;

@@ -5,10 +5,12 @@
 mod hub;
 mod laws;
 mod mailbox;
+mod outgoing;
 mod responses;
 
 pub use hub::Hub;
 pub use laws::every_hub;
 pub use mailbox::Mailbox;
-pub use pg_desk::{Booking, Deliver, Desk, DeskFault, Engine, Event, Out, Stamp, Take};
+pub use outgoing::Outgoing;
+pub use pg_desk::{Booking, Deliver, Desk, DeskFault, Engine, Event, Out, Put, Stamp, Take};
 pub use responses::Responses;

@@ -31,7 +31,7 @@ use Rattle.pg_lives.specs.Kept.{Does, HandleKept, HasDone, Now, Past, Rests, boo
 use Rattle.pg_lives.proofs.HandleTurn.{IsTurnAt, Started, StateBecomes, TurnSo, answered-many, done-before, none-behind, polled-so, starts}
 use Rattle.pg_lives.proofs.Others.{done-on}
 use Rattle.pg_lives.proofs.OwnCalls.{own-keep}
-use Rattle.pg_lives.proofs.OwnTurn.{Grows, IsPolled, answers-so, behind_turn, grows, moment_in, waits-on}
+use Rattle.pg_lives.proofs.OwnTurn.{Grows, IsPolled, answers-so, behind_turn, grew, moment_in, waits-on}
 use Rattle.pg_lives.proofs.Rows.{free-before, free-last, get-within, places-below, states-before, states-last}
 use Rattle.pg_lives.proofs.Told as told
 
@@ -132,7 +132,7 @@ module _ {C T A E : Type 0} (speech : Speech C T A E) (course : Course DeskCall 
           let who : Who = record { handle = handle; command = length past } in
           let p = polled-so speech course script handle now later old past h.from stamp (under_stamp stamp h.pauses.goes.events) h.to at st as_stamped poll.under poll.leads legal
           (pause-ends StateBecomes stamp now.state h.from b h.to h.pauses) in
-          let g = grows who now h.from.dialogue h.from.reads stamp (under_stamp stamp h.pauses.goes.events) h.to.dialogue h.to.reads as_stamped poll.under poll.leads legal at.counts in
+          let g = grew course who (speech.says old.own st.command) st.trail (free_of past (length past)) now h.from stamp (under_stamp stamp h.pauses.goes.events) h.to p in
           subst (λ (x : HandleState T A E). TurnSo speech course script handle now old x b (under_stamp stamp h.pauses.goes.events) 0) (sym h.handle) (record {
             legal = legal;
             state = h.pauses.goes.became.1 ∙ ap (after_all now.state) (sym poll.events);
@@ -227,7 +227,7 @@ module _ {C T A E : Type 0} (speech : Speech C T A E) (course : Course DeskCall 
           let who : Who = record { handle = handle; command = length past } in
           let ds = under_stamp stamp h.goes.goes.events in
           let p = polled-so speech course script handle now later old past h.from stamp ds h.goes.last at st as_stamped poll.under poll.leads legal ends in
-          let g = grows who now h.from.dialogue h.from.reads stamp ds h.goes.last.dialogue h.goes.last.reads as_stamped poll.under poll.leads legal at.counts in
+          let g = grew course who (speech.says old.own st.command) st.trail (free_of past (length past)) now h.from stamp ds h.goes.last p in
           let same_command : h.command ≡ st.command = same_Some h.command st.command (sym h.stands ∙ ap (slice_get script) many ∙ st.stands) in
           let y : Past A E = record {
             ending = speech.ends old.own st.command h.answer;

@@ -5,7 +5,7 @@ use Rattle.pg_connect.specs.Passed.{AllEngineCalls, IsEngineCall}
 use Rattle.pg_desk.specs.declared.event.Deliver.TheVariants as delivering
 use Rattle.pg_desk.specs.declared.event.Out.TheVariants as out
 use Rattle.pg_desk.specs.declared.event.Event.{Event}
-use Rattle.pg_desk.specs.declared.event.Event.TheVariants.{Book, Take as TakeEvent, HangUp, NextStatement, NextPortal, NextOut, Deliver as DeliverEvent, CloseRequests, Fail}
+use Rattle.pg_desk.specs.declared.event.Event.TheVariants.{Book, Put as PutEvent, EndCopy, Take as TakeEvent, HangUp, NextStatement, NextPortal, NextOut, Deliver as DeliverEvent, CloseRequests, Fail}
 use Rattle.pg_desk.specs.History.{State, after, after_all, given, IsLegal}
 use Rattle.pg_desk.specs.Kept.{legal-if-exact}
 use Rattle.pg_hub.specs.Fits.{Fits, HubBecomes}
@@ -68,7 +68,7 @@ answers-state speech script stamp s a old b new f h = record {
 -- nothing came for a request that isn't booked
 pub none-given : (s : State) (h : Standing) → Fits s h → (k : ℕ) → length s.book ≤ k → given k s.deliveries ≡ []
 none-given s h f k le =
-    f.none_given k (let a = f.standing.out in let b = f.gone_out in let c = ap length f.book in omega (arith, a, b, c, le))
+    f.none_given k (let a = f.standing.out.started in let b = f.parts.started in let c = ap length f.book in omega (arith, a, b, c, le))
 
 -- ---- a connection's calls are nobody's
 
@@ -89,6 +89,8 @@ engine-quiet s (DeliverEvent batch complete (delivering.Full back)) h = record {
 engine-quiet s (DeliverEvent batch complete (delivering.NoRequest back)) h = record { spares = λ n. ((tt, tt), (tt, tt)); book = refl; statements = refl; portals = refl }
 engine-quiet s (DeliverEvent batch complete (delivering.OutOfMemory back)) h = record { spares = λ n. ((tt, tt), (tt, tt)); book = refl; statements = refl; portals = refl }
 engine-quiet s (Book stamp part copying r) h = absurd h
+engine-quiet s (PutEvent id part r) h = absurd h
+engine-quiet s (EndCopy id part r) h = absurd h
 engine-quiet s (TakeEvent id r) h = absurd h
 engine-quiet s (HangUp id r) h = absurd h
 engine-quiet s (NextStatement r) h = absurd h

@@ -1,8 +1,9 @@
 -- A command's calls neither bring nor close anything.
 use Rattle.std.proofs.Common.{◌≡◌, ℕ, List, [], ◌∷◌, Ok, Err, refl, ◌∙◌}
+use Rattle.pg_desk.specs.declared.event.Put.TheVariants as putting
 use Rattle.pg_desk.specs.declared.event.Take.TheVariants as taking
 use Rattle.pg_desk.specs.declared.event.Event.{Event}
-use Rattle.pg_desk.specs.declared.event.Event.TheVariants.{Book, Take, HangUp as HangUpEvent, NextStatement, NextPortal, NextOut, Deliver, CloseRequests, Fail}
+use Rattle.pg_desk.specs.declared.event.Event.TheVariants.{Book, Put as PutEvent, EndCopy, Take, HangUp as HangUpEvent, NextStatement, NextPortal, NextOut, Deliver, CloseRequests, Fail}
 use Rattle.pg_spec.specs.declared.stamps.Stamp.{Stamp}
 use Rattle.pg_desk.specs.History.{State, after, after_all}
 use Rattle.pg_query.specs.Dialogue.{Dialogue, Answer, Ask, Send, Leave, Read, Put, Finish, Close, HangUp, Call, Hear, Steps}
@@ -30,6 +31,14 @@ same-here s = record { deliveries = refl; closed = refl; failed = refl }
 call-keeps : (s : State) (e : Event) → IsCall e → SameEngine s (after s e)
 call-keeps s (Book stamp part copying (Ok id)) h = record { deliveries = refl; closed = refl; failed = refl }
 call-keeps s (Book stamp part copying (Err f)) h = same-here s
+call-keeps s (PutEvent id part putting.Took) h = record { deliveries = refl; closed = refl; failed = refl }
+call-keeps s (PutEvent id part (putting.Full back)) h = same-here s
+call-keeps s (PutEvent id part (putting.Gone back)) h = same-here s
+call-keeps s (PutEvent id part (putting.OutOfMemory back)) h = same-here s
+call-keeps s (EndCopy id part putting.Took) h = record { deliveries = refl; closed = refl; failed = refl }
+call-keeps s (EndCopy id part (putting.Full back)) h = same-here s
+call-keeps s (EndCopy id part (putting.Gone back)) h = same-here s
+call-keeps s (EndCopy id part (putting.OutOfMemory back)) h = same-here s
 call-keeps s (Take id (Ok (taking.Batch ms))) h = record { deliveries = refl; closed = refl; failed = refl }
 call-keeps s (Take id (Ok taking.Empty)) h = same-here s
 call-keeps s (Take id (Ok taking.Over)) h = same-here s
@@ -48,6 +57,8 @@ call-keeps s (Fail r) h = absurd h
 
 step-calls : {T : Type 0} (stamp : Stamp) (d : Dialogue T) (id : ℕ) (e : Event) (d' : Dialogue T) (id' : ℕ) → Steps stamp d id e d' id' → IsCall e
 step-calls stamp d id (Book given part copying r) d' id' st = tt
+step-calls stamp d id (PutEvent which part r) d' id' st = tt
+step-calls stamp d id (EndCopy which part r) d' id' st = tt
 step-calls stamp d id (Take which r) d' id' st = tt
 step-calls stamp d id (HangUpEvent which r) d' id' st = tt
 step-calls stamp d id (NextStatement r) d' id' st = tt

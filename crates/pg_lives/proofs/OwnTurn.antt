@@ -18,13 +18,15 @@ use Rattle.pg_query.specs.declared.desk_call.Reply.{Reply}
 use Rattle.pg_course.specs.Courses.{Asked, Course, Request, Unfolds, Who, begun_in, nowhere, questions_of, requests_of, stamp_of}
 use Rattle.pg_core.specs.Counters.{Counts, tells}
 use Rattle.pg_core.specs.Deeds.{asked_in, requests_in}
-use Rattle.pg_core.specs.Lists.{came_of, events_of, state_behind}
+use Rattle.pg_core.specs.Lists.{AddNoParts, came_of, events_of, state_behind}
 use Rattle.pg_core.specs.Outcomes.{asked}
 use Rattle.pg_core.specs.Times.{AnsweredWell, IsUpright, LackedMemory, StaysUpright, TurnedWell}
 use Rattle.pg_core.specs.Trails.{AllUnder, AreNumbered, AreToldIn, AreTurnsOf, CameBy, IsNext, IsTurnOf, Moment, OwnTurn, PollEnds, begun_at, moment_of, point_of, ran_by, said_booking}
 use Rattle.pg_core.proofs.Booked.{books-so}
 use Rattle.pg_core.proofs.Counted.{told-so}
+use Rattle.pg_core.proofs.Faithful.{was-whole}
 use Rattle.pg_core.proofs.Glued.{glued}
+use Rattle.pg_core.proofs.Gone.{none-gone, none-hung}
 use Rattle.pg_core.proofs.Owned.{own-questions, own-requests}
 use Rattle.pg_core.proofs.Trail.{trail-unfolds}
 use Rattle.pg_core.proofs.Upright.{upright-turn}
@@ -61,12 +63,12 @@ pub record Grows (who : Who) (now : Now) (ds : List Deed) : Type 0 where
   pub told : AreToldIn tells who now.turns (map (λ a. a.question) now.asked) (asked_in ds)
   pub counts : Counts (map (λ a. a.question) now.asked ++ map (λ a. a.question) (asked_in ds)) (after_all now.state (events_of ds))
 
-pub grows : {T : Type 0} (who : Who) (now : Now) (d : Dialogue T) (id : ℕ) (stamp : Stamp) (ds : List Deed) (q : Dialogue T) (end : ℕ) → stamp ≡ stamp_of who now.turns → AllUnder stamp ds → Leads d id ds q end →
+grows : {T : Type 0} (who : Who) (now : Now) (d : Dialogue T) (id : ℕ) (stamp : Stamp) (ds : List Deed) (q : Dialogue T) (end : ℕ) → stamp ≡ stamp_of who now.turns → AllUnder stamp ds → Leads d id ds q end → AddNoParts ds →
     IsLegal now.state (events_of ds) → Counts (map (λ a. a.question) now.asked) now.state → Grows who now ds
-grows who now d id stamp ds q end same under l legal counts =
+grows who now d id stamp ds q end same under l none legal counts =
     let part = stored-part now.state (events_of ds) in
     let stored = part.legal legal in
-    let b = books-so who now.turns stamp same d id ds q end now.state under l stored in
+    let b = books-so who now.turns stamp same d id ds q end now.state under l none stored in
     let t = told-so who now.turns stamp same ds (map (λ a. a.question) now.asked) now.state under stored counts in
     record {
       numbered = subst (λ (n : ℕ). AreNumbered who now.turns n (requests_in ds)) (sym (length-map now.state.book said_booking)) b.numbered;
@@ -77,8 +79,11 @@ grows who now d id stamp ds q end same under l legal counts =
 
 module _ {T : Type 0} (course : Course DeskCall Reply) (who : Who) (d : Dialogue T) (trail : List Moment) (free : ℕ) (now : Now) (p : Place T) (stamp : Stamp) (ds : List Deed) (q : Place T)
     (h : IsPolled course who d trail free now p stamp ds q) where
-  grew : Grows who now ds
-  grew = grows who now p.dialogue p.reads stamp ds q.dialogue q.reads h.stamped h.under h.leads h.legal h.counts
+  no-parts : AddNoParts ds
+  no-parts = (none-gone now.state p.dialogue p.reads ds q.dialogue q.reads h.ready.upright.fits (none-hung now.state h.ready.upright.reached) (was-whole now.state (events_of ds) h.open_) h.legal h.leads).no_parts
+
+  pub grew : Grows who now ds
+  grew = grows who now p.dialogue p.reads stamp ds q.dialogue q.reads h.stamped h.under h.leads no-parts h.legal h.counts
 
   turn : OwnTurn d now.turns trail now.state ds q × TurnedWell d (moment_in now ds ∷ trail) (state_behind now.state ds) q
   turn = upright-turn d now.turns trail now.state p ds q h.ready.upright h.leads h.legal h.open_ h.ends

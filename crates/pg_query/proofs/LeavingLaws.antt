@@ -6,6 +6,7 @@ use Rattle.pg_spec.specs.RawMessages.{RawMessage, is_ready}
 use Rattle.pg_desk.specs.declared.event.DeskFault.{DeskFault}
 use Rattle.pg_desk.specs.declared.event.DeskFault.TheVariants as fault
 use Rattle.pg_spec.specs.declared.stamps.Stamp.{Stamp}
+use Rattle.pg_desk.specs.declared.event.Put.TheVariants as putting
 use Rattle.pg_desk.specs.declared.event.Take.TheVariants as taking
 use Rattle.pg_desk.specs.declared.event.Event.{Event}
 use Rattle.pg_desk.specs.declared.event.Event.TheVariants as call
@@ -168,6 +169,33 @@ step h (Read cleanup decides next) id stamp (call.Take which (Ok taking.Gone)) d
     record { own = λ held. inr (f.own tt); sent = tt; all = (tt, f.all) }
 step h (Read cleanup decides next) id stamp (call.Take which (Err fault)) ds q end r is none owed later k (mid, n, s, l) =
     absurd (memory-not fault id ds q end r owed is none (moved _ mid id n ds q end s.1 s.2 l))
+step h (Put cleanup part d) id stamp (call.Put which part' putting.Took) ds q end r is none owed later k (mid, n, s, l) =
+    let f = later h d id k (moved _ mid id n ds q end s.2 s.3 l) in
+    record { own = λ held. inr (f.own held); sent = tt; all = (tt, f.all) }
+step h (Put cleanup part d) id stamp (call.Put which part' (putting.Full back)) ds q end r is none owed later k (mid, n, s, l) =
+    let f = later h (Put cleanup part d) id k (moved _ mid id n ds q end s.2 s.3 l) in
+    record { own = λ held. inr (f.own held); sent = tt; all = (tt, f.all) }
+step h (Put cleanup part d) id stamp (call.Put which part' (putting.Gone back)) ds q end r is none owed later k (mid, n, s, l) =
+    let f = later Request (HangUp (Answer (Err Closed))) id tt (moved _ mid id n ds q end s.2 s.3 l) in
+    record { own = λ held. inr (f.own tt); sent = tt; all = (tt, f.all) }
+step h (Put cleanup part d) id stamp (call.Put which part' (putting.OutOfMemory back)) ds q end r is none owed later k (mid, n, s, l) =
+    absurd (memory-not fault.OutOfMemory id ds q end r refl is none (moved _ mid id n ds q end s.2 s.3 l))
+step h (Finish part d) id stamp (call.EndCopy which part' putting.Took) ds q end r is none owed later k (mid, n, s, l) =
+    let f = later h d id k (moved _ mid id n ds q end s.2 s.3 l) in
+    record { own = λ held. inr (f.own held); sent = tt; all = (tt, f.all) }
+step h (Finish part d) id stamp (call.EndCopy which part' (putting.Gone back)) ds q end r is none owed later k (mid, n, s, l) =
+    let f = later Request (HangUp (Answer (Err Closed))) id tt (moved _ mid id n ds q end s.2 s.3 l) in
+    record { own = λ held. inr (f.own tt); sent = tt; all = (tt, f.all) }
+step h (Finish part d) id stamp (call.EndCopy which part' (putting.OutOfMemory back)) ds q end r is none owed later k (mid, n, s, l) =
+    absurd (memory-not fault.OutOfMemory id ds q end r refl is none (moved _ mid id n ds q end s.2 s.3 l))
+step h (Close part d) id stamp (call.EndCopy which part' putting.Took) ds q end r is none owed later k (mid, n, s, l) =
+    let f = later h d id k (moved _ mid id n ds q end s.2 s.3 l) in
+    record { own = λ held. inr (f.own held); sent = tt; all = (tt, f.all) }
+step h (Close part d) id stamp (call.EndCopy which part' (putting.Gone back)) ds q end r is none owed later k (mid, n, s, l) =
+    let f = later h d id k (moved _ mid id n ds q end s.2 s.3 l) in
+    record { own = λ held. inr (f.own held); sent = tt; all = (tt, f.all) }
+step h (Close part d) id stamp (call.EndCopy which part' (putting.OutOfMemory back)) ds q end r is none owed later k (mid, n, s, l) =
+    absurd (memory-not fault.OutOfMemory id ds q end r refl is none (moved _ mid id n ds q end s.2 s.3 l))
 step h (HangUp d) id stamp (call.HangUp which (Ok x)) ds q end r is none owed later k (mid, n, s, l) =
     let f = later Nothing d id k (moved _ mid id n ds q end s.1 s.2 l) in
     record { own = λ held. inl (same-id which id s.0); sent = tt; all = (tt, f.all) }

@@ -9,8 +9,9 @@ use Rattle.pg_query.specs.Messages.{IsMalformed, Means}
 use Rattle.pg_spec.specs.declared.stamps.Stamp.{Stamp}
 use Rattle.pg_desk.specs.declared.event.Event.{Event}
 use Rattle.pg_desk.specs.declared.event.Event.TheVariants as call
+use Rattle.pg_desk.specs.declared.event.Put.TheVariants as putting
 use Rattle.pg_faults.specs.declared.error.Error.{Error}
-use Rattle.pg_faults.specs.declared.error.Error.TheVariants.{OutOfMemory}
+use Rattle.pg_faults.specs.declared.error.Error.TheVariants.{Closed, OutOfMemory}
 use Rattle.pg_query.specs.declared.script.Want.TheVariants as want
 use Rattle.pg_query.specs.declared.script.Action.TheVariants as act
 use Rattle.pg_query.specs.declared.script.Want.{Want}
@@ -18,10 +19,10 @@ use Rattle.pg_query.specs.Faults.{of_fault}
 use Rattle.pg_desk.specs.declared.event.DeskFault.{DeskFault}
 use Rattle.pg_query.specs.declared.desk_call.DeskCall.{DeskCall}
 use Rattle.pg_query.specs.declared.desk_call.Reply.{Reply}
-use Rattle.pg_query.specs.Dialogue.{Dialogue, Answer, Ask, Send, Leave, HangUp, Call, feed, feed_one, after_reply, Told, Steps, Walks}
-use Rattle.pg_query.specs.Scripts.{IsLast, Waiting, wanting, GoesOn}
+use Rattle.pg_query.specs.Dialogue.{Dialogue, Answer, Ask, Send, Leave, Read, Put, Finish, Close, HangUp, Call, Hear, feed, feed_one, after_reply, Told, Steps, Walks}
+use Rattle.pg_query.specs.Scripts.{IsDeaf, IsLast, Waiting, wanting, GoesOn}
 use Rattle.pg_query.specs.declared.running.Running.{Running}
-use Rattle.pg_query.specs.Meaning.{Place, meaning_at, PullsOne, Goes, GoesToAnswer}
+use Rattle.pg_query.specs.Meaning.{Place, left_by, meaning_at, PullsOne, Goes, GoesToAnswer, Leaves}
 
 pub feed-answer : {T : Type 0} (ms : List RawMessage) (r : Result T Error) → feed ms (Answer r) ≡ Answer r
 feed-answer [] r = refl
@@ -38,6 +39,14 @@ feed-send (m ∷ ms) part refused d = feed-send ms part (λ e. feed_one m (refus
 feed-leave : {T : Type 0} (ms : List RawMessage) (id : ℕ) (d : Dialogue T) → feed ms (Leave id d) ≡ Leave id (feed ms d)
 feed-leave [] id d = refl
 feed-leave (m ∷ ms) id d = feed-leave ms id (feed_one m d)
+
+feed-finish : {T : Type 0} (ms : List RawMessage) (part : List ℕ) (d : Dialogue T) → feed ms (Finish part d) ≡ Finish part (feed ms d)
+feed-finish [] part d = refl
+feed-finish (m ∷ ms) part d = feed-finish ms part (feed_one m d)
+
+feed-close : {T : Type 0} (ms : List RawMessage) (part : List ℕ) (d : Dialogue T) → feed ms (Close part d) ≡ Close part (feed ms d)
+feed-close [] part d = refl
+feed-close (m ∷ ms) part d = feed-close ms part (feed_one m d)
 
 pub feed-hang-up : {T : Type 0} (ms : List RawMessage) (d : Dialogue T) → feed ms (HangUp d) ≡ HangUp d
 feed-hang-up [] d = refl
@@ -75,6 +84,32 @@ pub send-kept : {T : Type 0} (stamp : Stamp) (ms : List RawMessage) (id : ℕ) (
     Walks stamp (feed ms (Send part refused d)) id (call.Book stamp part false (Ok new) ∷ call.HangUp new (Err e) ∷ []) (Answer (Err (of_fault e))) id
 send-kept stamp ms id part refused d new e = (Leave new (feed ms d), id, sends stamp ms id part refused d new, (Answer (Err (of_fault e)), id, (refl, refl, refl), (refl, refl)))
 
+pub finished : {T : Type 0} (stamp : Stamp) (ms : List RawMessage) (id : ℕ) (part : List ℕ) (d : Dialogue T) → Walks stamp (feed ms (Finish part d)) id (call.EndCopy id part putting.Took ∷ []) (feed ms d) id
+finished stamp ms id part d = step stamp (feed ms (Finish part d)) (Finish part (feed ms d)) id _ _ id (feed-finish ms part d) (refl, refl, refl, refl)
+
+finish-gone : {T : Type 0} (stamp : Stamp) (ms : List RawMessage) (id : ℕ) (part back : List ℕ) (d : Dialogue T) →
+    Walks stamp (feed ms (Finish part d)) id (call.EndCopy id part (putting.Gone back) ∷ []) (HangUp (Answer (Err Closed))) id
+finish-gone stamp ms id part back d = step stamp (feed ms (Finish part d)) (Finish part (feed ms d)) id _ _ id (feed-finish ms part d) (refl, refl, refl, refl)
+
+-- a copy that is gone is hung up
+left : {T : Type 0} (stamp : Stamp) (id : ℕ) (answer : Result (Unit {0}) DeskFault) → Walks {T = T} stamp (HangUp (Answer (Err Closed))) id (call.HangUp id answer ∷ []) (Answer (Err (left_by answer))) id
+left stamp id (Ok x) = (Answer (Err Closed), id, (refl, refl, refl), (refl, refl))
+left stamp id (Err e) = (Answer (Err (of_fault e)), id, (refl, refl, refl), (refl, refl))
+
+pub finish-refused : {T : Type 0} (stamp : Stamp) (ms : List RawMessage) (id : ℕ) (part back : List ℕ) (d : Dialogue T) →
+    Walks stamp (feed ms (Finish part d)) id (call.EndCopy id part (putting.OutOfMemory back) ∷ []) (Answer (Err OutOfMemory)) id
+finish-refused stamp ms id part back d = step stamp (feed ms (Finish part d)) (Finish part (feed ms d)) id _ _ id (feed-finish ms part d) (refl, refl, refl, refl)
+
+pub closed : {T : Type 0} (stamp : Stamp) (ms : List RawMessage) (id : ℕ) (part : List ℕ) (d : Dialogue T) → Walks stamp (feed ms (Close part d)) id (call.EndCopy id part putting.Took ∷ []) (feed ms d) id
+closed stamp ms id part d = step stamp (feed ms (Close part d)) (Close part (feed ms d)) id _ _ id (feed-close ms part d) (refl, refl, refl, refl)
+
+pub closed-before : {T : Type 0} (stamp : Stamp) (ms : List RawMessage) (id : ℕ) (part back : List ℕ) (d : Dialogue T) → Walks stamp (feed ms (Close part d)) id (call.EndCopy id part (putting.Gone back) ∷ []) (feed ms d) id
+closed-before stamp ms id part back d = step stamp (feed ms (Close part d)) (Close part (feed ms d)) id _ _ id (feed-close ms part d) (refl, refl, refl, refl)
+
+pub close-refused : {T : Type 0} (stamp : Stamp) (ms : List RawMessage) (id : ℕ) (part back : List ℕ) (d : Dialogue T) →
+    Walks stamp (feed ms (Close part d)) id (call.EndCopy id part (putting.OutOfMemory back) ∷ []) (Answer (Err OutOfMemory)) id
+close-refused stamp ms id part back d = step stamp (feed ms (Close part d)) (Close part (feed ms d)) id _ _ id (feed-close ms part d) (refl, refl, refl, refl)
+
 pub hung-up : {T : Type 0} (stamp : Stamp) (ms : List RawMessage) (id : ℕ) (d : Dialogue T) → Walks stamp (feed ms (HangUp d)) id (call.HangUp id (Ok tt) ∷ []) d id
 hung-up stamp ms id d = step stamp (feed ms (HangUp d)) (HangUp d) id _ d id (feed-hang-up ms d) (refl, refl, refl)
 
@@ -103,11 +138,36 @@ pub refused : {D T : Type 0} (becomes : D → List Event → D → Type 0) (stam
 refused becomes stamp a p b es ev f id w e same =
     record { last = record { dialogue = Answer (Err (of_fault f)); reads = id }; goes = record { events = es; became = ev; walked = w }; answers = inl (ap (λ (x : Error). Answer (Err x)) (sym same)) }
 
+-- where it wants memory
+pub lacking : {D T : Type 0} (becomes : D → List Event → D → Type 0) (stamp : Stamp) (a : D) (p : Place T) (b : D) (es : List Event) → becomes a es b →
+    (id : ℕ) → Walks stamp p.dialogue p.reads es (Answer (Err OutOfMemory)) id → GoesToAnswer becomes stamp a p b (Err OutOfMemory)
+lacking becomes stamp a p b es ev id w =
+    record { last = record { dialogue = Answer (Err OutOfMemory); reads = id }; goes = record { events = es; became = ev; walked = w }; answers = inl refl }
+
 pub walk-joined : {T : Type 0} (stamp : Stamp) (d : Dialogue T) (id : ℕ) (es fs : List Event) (d' d'' : Dialogue T) (id' id'' : ℕ) →
     Walks stamp d id es d' id' → Walks stamp d' id' fs d'' id'' → Walks stamp d id (es ++ fs) d'' id''
 walk-joined {T} stamp d id [] fs d' d'' id' id'' w v =
     subst (λ (x : Dialogue T). Walks stamp x id fs d'' id'') w.0 (subst (λ (n : ℕ). Walks stamp d' n fs d'' id'') w.1 v)
 walk-joined stamp d id (e ∷ es) fs d' d'' id' id'' (c, n, s, w) v = (c, n, s, walk-joined stamp c n es fs d' d'' id' id'' w v)
+
+-- where its copy is gone, and was hung up
+pub copy-gone : {D T : Type 0} (becomes : D → List Event → D → Type 0) → ((a b c : D) (es fs : List Event) → becomes a es b → becomes b fs c → becomes a (es ++ fs) c) →
+    (stamp : Stamp) (a : D) (p : Place T) (b c : D) (ms : List RawMessage) (id : ℕ) (part back : List ℕ) (d : Dialogue T) → p.dialogue ≡ feed ms (Finish part d) → p.reads ≡ id →
+    becomes a (call.EndCopy id part (putting.Gone back) ∷ []) b → (e : Error) → Leaves becomes b id c e → GoesToAnswer becomes stamp a p c (Err e)
+copy-gone {D} {T} becomes joins stamp a p b c ms id part back d at reads ev e l =
+    let gone : List Event = call.EndCopy id part (putting.Gone back) ∷ [] in
+    let hung : List Event = call.HangUp id l.answer ∷ [] in
+    let walked : Walks stamp (feed ms (Finish part d)) id (gone ++ hung) (Answer (Err (left_by l.answer))) id =
+    walk-joined stamp (feed ms (Finish part d)) id gone hung (HangUp (Answer (Err Closed))) (Answer (Err (left_by l.answer))) id id (finish-gone stamp ms id part back d) (left stamp id l.answer) in
+    record {
+      last = record { dialogue = Answer (Err (left_by l.answer)); reads = id };
+      goes = record {
+        events = gone ++ hung;
+        became = joins a b c gone hung ev l.became;
+        walked = subst (λ (x : Dialogue T). Walks stamp x p.reads (gone ++ hung) (Answer (Err (left_by l.answer))) id) (sym at) (subst (λ (n : ℕ). Walks stamp (feed ms (Finish part d)) n (gone ++ hung) (Answer (Err (left_by l.answer))) id) (sym reads) walked);
+      };
+      answers = inl (ap (λ (x : Error). Answer (Err x)) (sym l.says));
+    }
 
 -- events of one call and of the next
 abbrev pub goes-joined : {D T : Type 0} (becomes : D → List Event → D → Type 0) → ((a b c : D) (es fs : List Event) → becomes a es b → becomes b fs c → becomes a (es ++ fs) c) →
@@ -145,11 +205,26 @@ pub goes-same : {D T : Type 0} (becomes : D → List Event → D → Type 0) (st
 goes-same {D} {T} becomes stamp a p b q r e h = subst (λ (x : Place T). Goes becomes stamp a p b x) (sym e) h
 
 -- behind the last message that is read, the others count for nothing
-last-drops : {T : Type 0} (ms : List RawMessage) (w : Want T) (d : Dialogue T) (refused : Error → Dialogue T) → IsLast w → feed ms (wanting w d refused) ≡ wanting w d refused
+deaf : {T : Type 0} (ms : List RawMessage) (d : Dialogue T) → IsDeaf d → feed ms d ≡ d
+deaf ms (Answer r) h = feed-answer ms r
+deaf ms (Ask copying part d) h = feed-ask ms copying part d
+deaf ms (Close part d) h = feed-close ms part d ∙ ap (λ (x : Dialogue _). Close part x) (deaf ms d h)
+deaf ms (HangUp d) h = feed-hang-up ms d
+deaf ms (Send part refused d) h = absurd h
+deaf ms (Leave id d) h = absurd h
+deaf ms (Read cleanup decides next) h = absurd h
+deaf ms (Put cleanup part d) h = absurd h
+deaf ms (Finish part d) h = absurd h
+deaf ms (Call q refused next) h = absurd h
+deaf ms (Hear next) h = absurd h
+
+last-drops : {T : Type 0} (ms : List RawMessage) (w : Want T) (d : Dialogue T) (refused : Error → Dialogue T) → IsLast w d → feed ms (wanting w d refused) ≡ wanting w d refused
 last-drops ms (want.Answer r) d refused h = feed-answer ms r
 last-drops ms want.Read d refused h = absurd h
 last-drops ms (want.Act (act.Ask copying part)) d refused h = absurd h
 last-drops ms (want.Act (act.Send part)) d refused h = absurd h
+last-drops ms (want.Act (act.Finish part)) d refused h = absurd h
+last-drops ms (want.Act (act.Close part)) d refused h = feed-close ms part d ∙ ap (λ (x : Dialogue _). Close part x) (deaf ms d h)
 last-drops ms (want.Act act.HangUp) d refused h = feed-hang-up ms d
 last-drops ms (want.Act (act.Call q)) d refused h = absurd h
 
@@ -170,7 +245,7 @@ refused-first old new fault h r = let f = refused-by old new (wire_fault fault) 
 
 -- a malformed message is given to the script, and those behind it are dropped
 pub pulled-last : {S T : Type 0} (dialogue : S → Dialogue T) (refuses : S → Error → Dialogue T) (waits : (s : S) → Waiting (dialogue s)) (old new : Running S T) (raw : RawMessage) (rest : List RawMessage) →
-    old.batch ≡ raw ∷ rest → new.batch ≡ [] → new.id ≡ old.id → (w : Want T) → GoesOn dialogue refuses waits (feed_one raw (dialogue old.script)) w new.script → IsLast w →
+    old.batch ≡ raw ∷ rest → new.batch ≡ [] → new.id ≡ old.id → (w : Want T) → GoesOn dialogue refuses waits (feed_one raw (dialogue old.script)) w new.script → IsLast w (dialogue new.script) →
     PullsOne dialogue refuses waits old new w
 pulled-last {S} {T} dialogue refuses waits old new raw rest front none id w h last = record {
   same =

@@ -4,17 +4,18 @@ use Rattle.pg_spec.specs.RawMessages.{RawMessage}
 use Rattle.pg_spec.specs.declared.stamps.Stamp.{Stamp}
 use Rattle.pg_desk.specs.declared.event.DeskFault.{DeskFault}
 use Rattle.pg_desk.specs.declared.event.DeskFault.TheVariants as fault
+use Rattle.pg_desk.specs.declared.event.Put.TheVariants as putting
 use Rattle.pg_desk.specs.declared.event.Take.TheVariants as taking
 use Rattle.pg_desk.specs.declared.event.Event.{Event}
 use Rattle.pg_desk.specs.declared.event.Event.TheVariants as call
 use Rattle.pg_faults.specs.declared.error.Error.{Error}
-use Rattle.pg_faults.specs.declared.error.Error.TheVariants.{Closed}
+use Rattle.pg_faults.specs.declared.error.Error.TheVariants.{Closed, OutOfMemory}
 use Rattle.pg_query.specs.declared.desk_call.DeskCall.{DeskCall}
 use Rattle.pg_query.specs.declared.desk_call.DeskCall.TheVariants as desk_call
 use Rattle.pg_query.specs.declared.desk_call.Reply.{Reply}
 use Rattle.pg_query.specs.declared.desk_call.Reply.TheVariants as reply
 use Rattle.pg_query.specs.declared.desk_call.Cleanup.{Cleanup}
-use Rattle.pg_query.specs.declared.desk_call.Cleanup.TheVariants.{Release, Post}
+use Rattle.pg_query.specs.declared.desk_call.Cleanup.TheVariants.{Release, Close as CloseFirst, Post}
 use Rattle.pg_query.specs.Faults.{of_fault}
 
 -- A command from one moment on. It ends in its answer.
@@ -84,7 +85,7 @@ after_reply (Ok r) refused next = next r
 after_reply (Err e) refused next = refused (of_fault e)
 
 -- By this event a dialogue that reads request `id` goes on as another, which reads `id'`. A reply that is over was read to its
--- end; a request that is gone wasn't, and is hung up. No event leads on from a part of a copy: desks take none yet.
+-- end; a request that is gone wasn't, and is hung up. Where a desk has no room for a part, it is put again.
 abbrev pub Steps : {T : Type 0} → Stamp → Dialogue T → ℕ → Event → Dialogue T → ℕ → Type 0
 Steps stamp (Ask copying part d) id (call.Book stamp' part' copying' (Ok new)) d' id' =
     (stamp' ≡ stamp) × (part' ≡ part) × (copying' ≡ copying) × (d' ≡ d) × (id' ≡ new)
@@ -102,6 +103,16 @@ Steps stamp (Read cleanup decides next) id (call.Take which (Ok taking.Empty)) d
 Steps stamp (Read cleanup decides next) id (call.Take which (Ok taking.Over)) d' id' = (which ≡ id) × (d' ≡ Answer (Err Closed)) × (id' ≡ id)
 Steps stamp (Read cleanup decides next) id (call.Take which (Ok taking.Gone)) d' id' = (which ≡ id) × (d' ≡ HangUp (Answer (Err Closed))) × (id' ≡ id)
 Steps stamp (Read cleanup decides next) id (call.Take which (Err e)) d' id' = (which ≡ id) × (d' ≡ Answer (Err (of_fault e))) × (id' ≡ id)
+Steps stamp (Put cleanup part d) id (call.Put which part' putting.Took) d' id' = (which ≡ id) × (part' ≡ part) × (d' ≡ d) × (id' ≡ id)
+Steps stamp (Put cleanup part d) id (call.Put which part' (putting.Full back)) d' id' = (which ≡ id) × (part' ≡ part) × (d' ≡ Put cleanup part d) × (id' ≡ id)
+Steps stamp (Put cleanup part d) id (call.Put which part' (putting.Gone back)) d' id' = (which ≡ id) × (part' ≡ part) × (d' ≡ HangUp (Answer (Err Closed))) × (id' ≡ id)
+Steps stamp (Put cleanup part d) id (call.Put which part' (putting.OutOfMemory back)) d' id' = (which ≡ id) × (part' ≡ part) × (d' ≡ Answer (Err OutOfMemory)) × (id' ≡ id)
+Steps stamp (Finish part d) id (call.EndCopy which part' putting.Took) d' id' = (which ≡ id) × (part' ≡ part) × (d' ≡ d) × (id' ≡ id)
+Steps stamp (Finish part d) id (call.EndCopy which part' (putting.Gone back)) d' id' = (which ≡ id) × (part' ≡ part) × (d' ≡ HangUp (Answer (Err Closed))) × (id' ≡ id)
+Steps stamp (Finish part d) id (call.EndCopy which part' (putting.OutOfMemory back)) d' id' = (which ≡ id) × (part' ≡ part) × (d' ≡ Answer (Err OutOfMemory)) × (id' ≡ id)
+Steps stamp (Close part d) id (call.EndCopy which part' putting.Took) d' id' = (which ≡ id) × (part' ≡ part) × (d' ≡ d) × (id' ≡ id)
+Steps stamp (Close part d) id (call.EndCopy which part' (putting.Gone back)) d' id' = (which ≡ id) × (part' ≡ part) × (d' ≡ d) × (id' ≡ id)
+Steps stamp (Close part d) id (call.EndCopy which part' (putting.OutOfMemory back)) d' id' = (which ≡ id) × (part' ≡ part) × (d' ≡ Answer (Err OutOfMemory)) × (id' ≡ id)
 Steps stamp (HangUp d) id (call.HangUp which (Ok x)) d' id' = (which ≡ id) × (d' ≡ d) × (id' ≡ id)
 Steps stamp (HangUp d) id (call.HangUp which (Err e)) d' id' = (which ≡ id) × (d' ≡ Answer (Err (of_fault e))) × (id' ≡ id)
 Steps stamp (Call q refused next) id e d' id' = (r : Result Reply DeskFault) × Told q e r × (d' ≡ after_reply r refused next) × (id' ≡ id)
@@ -115,5 +126,6 @@ Walks {T} stamp d id (e ∷ es) d' id' = (mid : Dialogue T) × (n : ℕ) × Step
 -- what a command does where it is given up, as a dialogue of its own
 abbrev pub cleaning : List Cleanup → Dialogue (Unit {0})
 cleaning [] = Answer (Ok tt)
+cleaning (CloseFirst part ∷ cs) = Close part (cleaning cs)
 cleaning (Release ∷ cs) = HangUp (cleaning cs)
 cleaning (Post part ∷ cs) = Send part (λ e. Answer (Err e)) (cleaning cs)

@@ -78,6 +78,8 @@ abbrev pub wanting : {T : Type 0} → Want T → Dialogue T → (Error → Dialo
 wanting (want.Answer r) d refused = Answer r
 wanting (want.Act (act.Ask copying part)) d refused = Ask copying part d
 wanting (want.Act (act.Send part)) d refused = Send part refused d
+wanting (want.Act (act.Finish part)) d refused = Finish part d
+wanting (want.Act (act.Close part)) d refused = Close part d
 wanting (want.Act act.HangUp) d refused = HangUp d
 wanting (want.Act (act.Call q)) d refused = Call q refused (λ r. heard r d)
 wanting want.Read d refused = d
@@ -93,16 +95,25 @@ pub record GoesOn {S T : Type 0} (dialogue : S → Dialogue T) (refuses : S → 
   pub is : wanting w (dialogue new) (refuses new) ≡ from
   pub wanted : IsWanted dialogue waits w new
 
--- the reply is read no further
-abbrev pub IsLast : {T : Type 0} → Want T → Type 0
-IsLast (want.Answer r) = Unit {0}
-IsLast (want.Act act.HangUp) = Unit {0}
-IsLast _ = ⊥
+-- messages that came and aren't read count for nothing here
+abbrev pub IsDeaf : {T : Type 0} → Dialogue T → Type 0
+IsDeaf (Answer r) = Unit {0}
+IsDeaf (Ask copying part d) = Unit {0}
+IsDeaf (Close part d) = IsDeaf d
+IsDeaf (HangUp d) = Unit {0}
+IsDeaf _ = ⊥
+
+-- where this is wanted, and that comes behind it, the reply is read no further
+abbrev pub IsLast : {T : Type 0} → Want T → Dialogue T → Type 0
+IsLast (want.Answer r) d = Unit {0}
+IsLast (want.Act (act.Close part)) d = IsDeaf d
+IsLast (want.Act act.HangUp) d = Unit {0}
+IsLast _ d = ⊥
 
 -- behind a malformed message nothing is read
-abbrev pub Stops : {T : Type 0} → Result Message WireFault → Want T → Type 0
-Stops (Ok message) want = Unit {0}
-Stops (Err fault) want = IsLast want
+abbrev pub Stops : {T : Type 0} → Result Message WireFault → Want T → Dialogue T → Type 0
+Stops (Ok message) want d = Unit {0}
+Stops (Err fault) want d = IsLast want d
 
 -- each step that wants another but a message is one of few
 abbrev pub Falls : {T : Type 0} → Want T → ℕ → ℕ → Type 0

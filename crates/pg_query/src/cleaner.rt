@@ -28,6 +28,7 @@ impl Script for Cleaner {
     fn next(&mut self, alloc: Global) -> Result<Want<()>, AllocError> {
         match self.left.pop_front() {
             None => Ok(Want::Answer(Ok(()))),
+            Some(Cleanup::Close(part)) => Ok(Want::Act(Action::Close(part))),
             Some(Cleanup::Release) => Ok(Want::Act(Action::HangUp)),
             Some(Cleanup::Post(part)) => Ok(Want::Act(Action::Send(part))),
         }

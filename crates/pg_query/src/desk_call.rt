@@ -21,6 +21,8 @@ pub enum Reply {
 /// What is left to do where a command is given up.
 #[derive(Drop)]
 pub enum Cleanup {
+    /// The copy that is read is ended by this part, if it hasn't ended.
+    Close(Bytes),
     /// The request that is read is hung up.
     Release,
     /// A request is booked and hung up.

@@ -5,7 +5,7 @@ ghost use Rattle.pg_query.specs.Faults.{of_fault};
 ghost use Rattle.pg_query.specs.Meaning.{meaning, meaning_at, Goes, GoesToAnswer, Reads, Waits, MatchPoll, Pulls, Leaves};
 ghost use Rattle.pg_query.specs.Scripts.{ReadsAt, HearsAt, IsWanted, heard, GoesOn, Falls};
 ghost use Rattle.pg_query.specs.declared.script.Want.TheVariants.{Act};
-ghost use Rattle.pg_query.specs.declared.script.Action.TheVariants.{Ask, Send, HangUp, Call};
+ghost use Rattle.pg_query.specs.declared.script.Action.TheVariants.{Ask, Send, Finish, Close, HangUp, Call};
 
 use crate::asking::ask_desk;
 use crate::desk_call::{DeskCall, Reply};
@@ -13,7 +13,7 @@ use crate::fault::{error_of, is_want_of_memory};
 use crate::script::{Action, Script, Want};
 use bytes::Bytes;
 use futures::task::Poll;
-use pg_desk::{Desk, DeskFault, Stamp, Take};
+use pg_desk::{Desk, DeskFault, Put, Stamp, Take};
 use pg_errors::Error;
 use pg_wire::BackendMessages;
 use std::alloc::Global;
@@ -146,6 +146,52 @@ impl<S: Script> Running<S> {
         }
     }
 
+    fn finish<D: Desk>(
+        &mut self,
+        alloc: Global,
+        desk: &mut D,
+        stamp: Stamp,
+        part: Bytes,
+    ) -> Result<Want<S::Output>, Error>
+        ensures goes { MatchResult result
+            (λ want. Goes D.becomes stamp desk.old (meaning_at S.dialogue S.refuses self.old (Act (Finish part))) desk.new (meaning_at S.dialogue S.refuses self.new want))
+            (λ e. GoesToAnswer D.becomes stamp desk.old (meaning_at S.dialogue S.refuses self.old (Act (Finish part))) desk.new (Err e)) }
+        ensures wanted { IfOk result (λ want. IsWanted S.dialogue S.waits want self.new.script) }
+        ensures falls { IfOk result (λ want. Falls want (S.steps self.old.script) (S.steps self.new.script)) }
+        ensures count { D.undelivered desk.new ≤ D.undelivered desk.old }
+        ensures batch { length self.new.batch ≤ length self.old.batch }
+    {
+        match desk.end_copy(alloc, self.id, part) {
+            Put::Took => self.next(alloc),
+            Put::Gone(_) => Err(self.leave(desk)),
+            Put::OutOfMemory(_) => Err(Error::OutOfMemory),
+            Put::Full(_) => unreachable!(),
+        }
+    }
+
+    fn close<D: Desk>(
+        &mut self,
+        alloc: Global,
+        desk: &mut D,
+        stamp: Stamp,
+        part: Bytes,
+    ) -> Result<Want<S::Output>, Error>
+        ensures goes { MatchResult result
+            (λ want. Goes D.becomes stamp desk.old (meaning_at S.dialogue S.refuses self.old (Act (Close part))) desk.new (meaning_at S.dialogue S.refuses self.new want))
+            (λ e. GoesToAnswer D.becomes stamp desk.old (meaning_at S.dialogue S.refuses self.old (Act (Close part))) desk.new (Err e)) }
+        ensures wanted { IfOk result (λ want. IsWanted S.dialogue S.waits want self.new.script) }
+        ensures falls { IfOk result (λ want. Falls want (S.steps self.old.script) (S.steps self.new.script)) }
+        ensures count { D.undelivered desk.new ≤ D.undelivered desk.old }
+        ensures batch { length self.new.batch ≤ length self.old.batch }
+    {
+        match desk.end_copy(alloc, self.id, part) {
+            Put::Took => self.next(alloc),
+            Put::Gone(_) => self.next(alloc),
+            Put::OutOfMemory(_) => Err(Error::OutOfMemory),
+            Put::Full(_) => unreachable!(),
+        }
+    }
+
     fn hang_up_own<D: Desk>(
         &mut self,
         alloc: Global,
@@ -211,6 +257,8 @@ impl<S: Script> Running<S> {
         match action {
             Action::Ask(copying, part) => self.ask(alloc, desk, stamp, copying, part),
             Action::Send(part) => self.send(alloc, desk, stamp, part),
+            Action::Finish(part) => self.finish(alloc, desk, stamp, part),
+            Action::Close(part) => self.close(alloc, desk, stamp, part),
             Action::HangUp => self.hang_up_own(alloc, desk, stamp),
             Action::Call(desk_call) => self.call(alloc, desk, stamp, desk_call),
         }
@@ -282,7 +330,8 @@ impl<S: Script> Running<S> {
 
     /// Hangs up a request of which nothing comes any more, and gives the error that is answered then.
     fn leave<D: Desk>(&self, desk: &mut D) -> Error
-        ensures { Leaves D.becomes desk.old self.now.id desk.new result }
+        ensures leaves { Leaves D.becomes desk.old self.now.id desk.new result }
+        ensures count { D.undelivered desk.new ≤ D.undelivered desk.old }
     {
         if let Err(fault) = desk.hang_up(self.id) {
             return error_of(fault);

@@ -21,6 +21,10 @@ pub enum Action {
     Ask(bool, Bytes),
     /// Books a request and hangs it up.
     Send(Bytes),
+    /// Ends the copy that is read by its last part, and goes on with its reply.
+    Finish(Bytes),
+    /// Ends the copy that is read by this part, if it hasn't ended.
+    Close(Bytes),
     /// Hangs up the request that is read.
     HangUp,
     /// Asks the desk something. The reply comes by `reply`.
@@ -65,7 +69,7 @@ pub trait Script: Drop {
         message: &Result<Message, WireFault>,
     ) -> Result<Want<Self::Output>, AllocError>
         ensures goes_on { (raw : RawMessage) → Means raw message.now → IsMessage (waits self.old) → IfOk result (λ want. GoesOn dialogue refuses waits (feed_one raw (dialogue self.old)) want self.new) }
-        ensures stops { (raw : RawMessage) → Means raw message.now → IsMessage (waits self.old) → IfOk result (λ want. Stops message.now want) };
+        ensures stops { (raw : RawMessage) → Means raw message.now → IsMessage (waits self.old) → IfOk result (λ want. Stops message.now want (dialogue self.new)) };
 
     /// The reply to what it asked of the desk.
     fn reply(&mut self, alloc: Global, reply: Reply) -> Result<Want<Self::Output>, AllocError>

@@ -9,7 +9,8 @@ use Rattle.pg_spec.specs.Report.{simple_answer}
 use Rattle.pg_spec.specs.SimpleQuery.{Item}
 use Rattle.pg_client.specs.Simple as client
 use Rattle.pg_client.specs.Simple.{answer_view, simple_query}
-use Rattle.pg_desk.specs.History.{State, taken, is_hung_up, after, after_all, IsExact, IsFrontOf, joined, received, reply}
+use Rattle.pg_desk.specs.History.{State, started_of, taken, is_hung_up, after, after_all, IsExact, IsFrontOf, joined, received, reply}
+use Rattle.pg_desk.proofs.Parts.{started-low}
 use Rattle.pg_desk.specs.declared.event.Event.{Event}
 use Rattle.pg_desk.specs.declared.event.Event.TheVariants as call
 use Rattle.pg_spec.specs.declared.stamps.Stamp.{Stamp}
@@ -142,7 +143,8 @@ run-answers text take frame stamp a b p q es r written was whole became w answer
 -- a request that isn't booked yet has no reader
 none-read : (s : State) (a : Standing) (id : ℕ) → Fits s a → id ≡ length s.book → (taken id s.takes ≡ []) × (is_hung_up s id ≡ false)
 none-read s a id f at =
-    let out : length s.gone_out ≤ id = omega (arith, f.gone_out, f.standing.out, ap length f.book, at) in
+    let low = started-low (length s.gone_out) s.book in
+    let out : started_of s ≤ id = omega (arith, low, at) in
     let none = f.none_given id out in
     (nil_from_length (taken id s.takes) (omega (arith, f.none_invented id, ap length none)), f.none_hung_up id (omega (arith, at)))
 
@@ -150,7 +152,8 @@ none-read s a id f at =
 pub none-came : (a : Standing) (was : Reached a) (id : ℕ) → id ≡ length (state_of was).book → reply id (received (state_of was).deliveries) ≡ []
 none-came a was id at =
     let f = was.fits in
-    let out : length (state_of was).gone_out ≤ id = omega (arith, f.gone_out, f.standing.out, ap length f.book, at) in
+    let low = started-low (length (state_of was).gone_out) (state_of was).book in
+    let out : started_of (state_of was) ≤ id = omega (arith, low, at) in
     sym ((reached-is was.events was.exact).sound.given_is_group id) ∙ ap (λ (l : List (List RawMessage)). joined l) (f.none_given id out)
 
 -- behind its booking

@@ -173,6 +173,8 @@ refuses-not take s k done (call.HangUp id (Err why)) r reached whole h undecided
 refuses-not take s k done (call.Book a b c x) r reached whole h undecided own allows needs refuses = refuses
 refuses-not take s k done (call.NextStatement x) r reached whole h undecided own allows needs refuses = refuses
 refuses-not take s k done (call.NextPortal x) r reached whole h undecided own allows needs refuses = refuses
+refuses-not take s k done (call.Put id part x) r reached whole h undecided own allows needs refuses = absurd own
+refuses-not take s k done (call.EndCopy id part x) r reached whole h undecided own allows needs refuses = absurd own
 refuses-not take s k done (call.NextOut x) r reached whole h undecided own allows needs refuses = refuses
 refuses-not take s k done (call.Deliver b c x) r reached whole h undecided own allows needs refuses = refuses
 refuses-not take s k done (call.CloseRequests x) r reached whole h undecided own allows needs refuses = refuses
@@ -188,6 +190,8 @@ refused-there stamp d id (call.HangUp which (Err why)) d' id' r s t step needs r
 refused-there stamp d id (call.Book a b c x) d' id' r s t step needs refuses = absurd refuses
 refused-there stamp d id (call.NextStatement x) d' id' r s t step needs refuses = absurd refuses
 refused-there stamp d id (call.NextPortal x) d' id' r s t step needs refuses = absurd refuses
+refused-there stamp d id (call.Put which part x) d' id' r s t step needs refuses = absurd refuses
+refused-there stamp d id (call.EndCopy which part x) d' id' r s t step needs refuses = absurd refuses
 refused-there stamp d id (call.NextOut x) d' id' r s t step needs refuses = absurd refuses
 refused-there stamp d id (call.Deliver b c x) d' id' r s t step needs refuses = absurd refuses
 refused-there stamp d id (call.CloseRequests x) d' id' r s t step needs refuses = absurd refuses

@@ -1,12 +1,13 @@
 -- What the calls of a command's polls and of a connection's do to a hub's state.
-use Rattle.std.proofs.Common.{◌≡◌, ℕ, List, [], ◌∷◌, length, map, drop, Bool, true, false, Ok, Err, refl, sym, ◌∙◌, if◌then◌else◌}
+use Rattle.std.proofs.Common.{◌≡◌, ℕ, List, [], ◌∷◌, length, map, Bool, true, false, Ok, Err, refl, sym, ◌∙◌, if◌then◌else◌}
 use Rattle.pg_desk.specs.declared.event.Deliver.TheVariants as delivering
 use Rattle.pg_desk.specs.declared.event.Out.TheVariants as out
 use Rattle.pg_desk.specs.declared.event.Take.TheVariants as taking
 use Rattle.pg_desk.specs.declared.event.Event.{Event}
-use Rattle.pg_desk.specs.declared.event.Event.TheVariants.{Book, Take as TakeEvent, HangUp, NextStatement, NextPortal, NextOut, Deliver as DeliverEvent, CloseRequests, Fail}
+use Rattle.pg_desk.specs.declared.event.Event.TheVariants.{Book, Put as PutEvent, EndCopy, Take as TakeEvent, HangUp, NextStatement, NextPortal, NextOut, Deliver as DeliverEvent, CloseRequests, Fail}
 use Rattle.pg_spec.specs.declared.stamps.Stamp.{Stamp}
-use Rattle.pg_desk.specs.History.{State, has_open, after, after_all, out_of_rest, wire, Allows, IsExact}
+use Rattle.pg_desk.specs.History.{State, has_open, last_out, out_answer, after, after_all, Allows, IsExact}
+use Rattle.pg_desk.proofs.Outs.{Stands, Whole, Waits, Part, stands}
 use Rattle.pg_query.specs.Lives.{Deed, IsOf, AllOf}
 use Rattle.pg_connect.specs.Ends.{last_is, has_no_more}
 use Rattle.pg_connect.specs.Passed.{IsEngineCall, AllEngineCalls}
@@ -40,6 +41,8 @@ engine-keeps s (TakeEvent id r) h = absurd h
 engine-keeps s (HangUp id r) h = absurd h
 engine-keeps s (NextStatement r) h = absurd h
 engine-keeps s (NextPortal r) h = absurd h
+engine-keeps s (PutEvent which part r) h = absurd h
+engine-keeps s (EndCopy which part r) h = absurd h
 engine-keeps s (CloseRequests r) h = absurd h
 engine-keeps s (Fail r) h = absurd h
 
@@ -48,17 +51,21 @@ engine-all s [] h = same-here s
 engine-all s (e ∷ es) h = same-then s (after s e) (after_all s (e ∷ es)) (engine-keeps s e h.0) (engine-all (after s e) es h.1)
 
 -- nothing more comes only where requests are closed
-rest-closed : (s : State) (parts : List (List ℕ)) → out.NoMore ≡ out_of_rest s parts → s.closed ≡ true
-rest-closed s (part ∷ parts) h = absurd cc
-rest-closed s [] h = by (has_open s) s.closed h
+rest-closed : (s : State) → out.NoMore ≡ out_answer s → s.closed ≡ true
+rest-closed s h = by_stands (stands (last_out s) out.NoMore (length s.gone_out) s.book s.copying h)
   where
     by : (b c : Bool) → out.NoMore ≡ (if b then out.Nothing else (if c then out.NoMore else out.Nothing)) → c ≡ true
     by true c h = absurd cc
     by false true h = refl
     by false false h = absurd cc
 
+    by_stands : Stands (last_out s) (length s.gone_out) s.book s.copying out.NoMore → s.closed ≡ true
+    by_stands (Whole w) = by (has_open s) s.closed w.is
+    by_stands (Waits is w) = absurd cc
+    by_stands (Part part is) = absurd cc
+
 last-closed : (s : State) (e : Event) → Allows s e → has_no_more e ≡ true → s.closed ≡ true
-last-closed s (NextOut (Ok out.NoMore)) h k = rest-closed s (drop (length s.gone_out) (wire s.book)) h.1
+last-closed s (NextOut (Ok out.NoMore)) h k = rest-closed s h.1
 last-closed s (NextOut (Ok (out.Part part))) h k = absurd cc
 last-closed s (NextOut (Ok out.CopyWaits)) h k = absurd cc
 last-closed s (NextOut (Ok out.Nothing)) h k = absurd cc
@@ -69,6 +76,8 @@ last-closed s (TakeEvent id r) h k = absurd cc
 last-closed s (HangUp id r) h k = absurd cc
 last-closed s (NextStatement r) h k = absurd cc
 last-closed s (NextPortal r) h k = absurd cc
+last-closed s (PutEvent which part r) h k = absurd cc
+last-closed s (EndCopy which part r) h k = absurd cc
 last-closed s (CloseRequests r) h k = absurd cc
 last-closed s (Fail r) h k = absurd cc
 
@@ -90,6 +99,8 @@ own-keeps s id (HangUp k (Err e)) h = same-here s
 own-keeps s id (Book stamp part copying r) h = absurd h
 own-keeps s id (NextStatement r) h = absurd h
 own-keeps s id (NextPortal r) h = absurd h
+own-keeps s id (PutEvent which part r) h = absurd h
+own-keeps s id (EndCopy which part r) h = absurd h
 own-keeps s id (NextOut r) h = absurd h
 own-keeps s id (DeliverEvent batch complete r) h = absurd h
 own-keeps s id (CloseRequests r) h = absurd h

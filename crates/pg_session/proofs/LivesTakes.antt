@@ -9,8 +9,9 @@ use Rattle.pg_spec.specs.Readings.{Answers, Decision, GoesOn, decision, decided_
 use Rattle.pg_spec.specs.SimpleQuery.{SimpleAnswer, SimpleNext, SimpleState, has_enough, simple_next, simple_reading}
 use Rattle.pg_connect.specs.Passed.{delivered_by}
 use Rattle.pg_desk.specs.declared.event.Deliver.TheVariants as delivering
+use Rattle.pg_desk.specs.declared.event.Put.TheVariants as putting
 use Rattle.pg_desk.specs.declared.event.Event.{Event}
-use Rattle.pg_desk.specs.declared.event.Event.TheVariants.{Book, Take as TakeEvent, HangUp, NextStatement, NextPortal, NextOut, Deliver as DeliverEvent, CloseRequests, Fail}
+use Rattle.pg_desk.specs.declared.event.Event.TheVariants.{Book, Put as PutEvent, EndCopy, Take as TakeEvent, HangUp, NextStatement, NextPortal, NextOut, Deliver as DeliverEvent, CloseRequests, Fail}
 use Rattle.pg_desk.specs.declared.event.Out.TheVariants as out
 use Rattle.pg_spec.specs.declared.stamps.Stamp.{Stamp}
 use Rattle.pg_desk.specs.declared.event.Take.TheVariants as taking
@@ -54,6 +55,8 @@ other-reader s j k (HangUp which (Err e)) apart h = reader-here j s
 other-reader s j k (Book stamp part copying r) apart h = absurd h
 other-reader s j k (NextStatement r) apart h = absurd h
 other-reader s j k (NextPortal r) apart h = absurd h
+other-reader s j k (PutEvent which part r) apart h = absurd h
+other-reader s j k (EndCopy which part r) apart h = absurd h
 other-reader s j k (NextOut r) apart h = absurd h
 other-reader s j k (DeliverEvent batch complete r) apart h = absurd h
 other-reader s j k (CloseRequests r) apart h = absurd h
@@ -74,6 +77,8 @@ own-delivery s k (HangUp which (Err e)) h = refl
 own-delivery s k (Book stamp part copying r) h = absurd h
 own-delivery s k (NextStatement r) h = absurd h
 own-delivery s k (NextPortal r) h = absurd h
+own-delivery s k (PutEvent which part r) h = absurd h
+own-delivery s k (EndCopy which part r) h = absurd h
 own-delivery s k (NextOut r) h = absurd h
 own-delivery s k (DeliverEvent batch complete r) h = absurd h
 own-delivery s k (CloseRequests r) h = absurd h
@@ -99,6 +104,8 @@ own-take s k (HangUp which (Err e)) h = sym (append-nil (joined (taken k s.takes
 own-take s k (Book stamp part copying r) h = absurd h
 own-take s k (NextStatement r) h = absurd h
 own-take s k (NextPortal r) h = absurd h
+own-take s k (PutEvent which part r) h = absurd h
+own-take s k (EndCopy which part r) h = absurd h
 own-take s k (NextOut r) h = absurd h
 own-take s k (DeliverEvent batch complete r) h = absurd h
 own-take s k (CloseRequests r) h = absurd h
@@ -122,6 +129,8 @@ own-stay s j k (HangUp which r) none h = absurd (none tt)
 own-stay s j k (Book stamp part copying r) none h = absurd h
 own-stay s j k (NextStatement r) none h = absurd h
 own-stay s j k (NextPortal r) none h = absurd h
+own-stay s j k (PutEvent which part r) none h = absurd h
+own-stay s j k (EndCopy which part r) none h = absurd h
 own-stay s j k (NextOut r) none h = absurd h
 own-stay s j k (DeliverEvent batch complete r) none h = absurd h
 own-stay s j k (CloseRequests r) none h = absurd h
@@ -164,6 +173,8 @@ engine-one s (TakeEvent id r) h = absurd h
 engine-one s (HangUp id r) h = absurd h
 engine-one s (NextStatement r) h = absurd h
 engine-one s (NextPortal r) h = absurd h
+engine-one s (PutEvent which part r) h = absurd h
+engine-one s (EndCopy which part r) h = absurd h
 engine-one s (CloseRequests r) h = absurd h
 engine-one s (Fail r) h = absurd h
 
@@ -280,6 +291,14 @@ cut-one s (HangUp id (Ok x)) a h = h
 cut-one s (HangUp id (Err e)) a h = h
 cut-one s (NextStatement (Ok n)) a h = h
 cut-one s (NextStatement (Err e)) a h = h
+cut-one s (PutEvent id part putting.Took) a h = h
+cut-one s (PutEvent id part (putting.Full back)) a h = h
+cut-one s (PutEvent id part (putting.Gone back)) a h = h
+cut-one s (PutEvent id part (putting.OutOfMemory back)) a h = h
+cut-one s (EndCopy id part putting.Took) a h = h
+cut-one s (EndCopy id part (putting.Full back)) a h = h
+cut-one s (EndCopy id part (putting.Gone back)) a h = h
+cut-one s (EndCopy id part (putting.OutOfMemory back)) a h = h
 cut-one s (NextPortal (Ok n)) a h = h
 cut-one s (NextPortal (Err e)) a h = h
 cut-one s (CloseRequests (Ok x)) a h = h

@@ -17,8 +17,9 @@ use Rattle.pg_desk.specs.declared.event.Event.TheVariants.{NextOut}
 use Rattle.pg_desk.specs.declared.event.Out.{Out}
 use Rattle.pg_desk.specs.declared.event.Out.TheVariants as out
 use Rattle.pg_desk.proofs.Owners.{ended-counted, open-less}
-use Rattle.pg_desk.proofs.Soundness.{wire-counted}
-use Rattle.pg_desk.specs.History.{State, start, after, after_all, finished, has_open, joined, out_of_rest, received, wire, Allows, IsExact, IsFrontOf}
+use Rattle.pg_desk.proofs.Outs.{AllEnded, Stands, Whole, Waits as WaitsHere, Part, ended-not, stands}
+use Rattle.pg_desk.proofs.Parts.{all-began, started-most}
+use Rattle.pg_desk.specs.History.{State, start, after, after_all, finished, has_open, joined, last_out, out_answer, received, wire, Allows, IsExact, IsFrontOf}
 use Rattle.pg_desk.proofs.Soundness.{legal-sound}
 use Rattle.pg_faults.specs.declared.error.Error.TheVariants as error
 use Rattle.pg_connect.specs.Answers.{fresh, left_open}
@@ -111,10 +112,8 @@ pub record AllOut (s : State) : Type 0 where
   pub parts : drop (length s.gone_out) (wire s.book) ≡ []
   pub more : (has_open s ≡ true) ⊎ (s.closed ≡ false)
 
-none-out : (s : State) (parts : List (List ℕ)) (o : Out) → o ≡ out_of_rest s parts → has_none (NextOut (Ok o)) ≡ true → has_no_more (NextOut (Ok o)) ≡ false →
-    (parts ≡ []) × ((has_open s ≡ true) ⊎ (s.closed ≡ false))
-none-out s (part ∷ parts) o e none more = absurd (let no : false ≡ true = ap (λ (x : Out). has_none (NextOut (Ok x))) (sym e) ∙ none in cc)
-none-out s [] o e none more = (refl, by (has_open s) s.closed refl refl e)
+none-out : (s : State) (o : Out) → AllEnded s.book s.copying → o ≡ out_answer s → has_none (NextOut (Ok o)) ≡ true → has_no_more (NextOut (Ok o)) ≡ false → AllOut s
+none-out s o ended e none more = by_stands (stands (last_out s) o (length s.gone_out) s.book s.copying e)
   where
     by : (b c : Bool) → has_open s ≡ b → s.closed ≡ c → o ≡ (if b then out.Nothing else (if c then out.NoMore else out.Nothing)) →
         (has_open s ≡ true) ⊎ (s.closed ≡ false)
@@ -122,18 +121,22 @@ none-out s [] o e none more = (refl, by (has_open s) s.closed refl refl e)
     by false true less is e = absurd (let no : true ≡ false = ap (λ (x : Out). has_no_more (NextOut (Ok x))) (sym e) ∙ more in cc)
     by false false less is e = inr is
 
-one-out : (s : State) (e : Event) → Allows s e → has_none e ≡ true → has_no_more e ≡ false → AllOut s
-one-out s (NextOut (Ok o)) allows none more =
-    let r = none-out s (drop (length s.gone_out) (wire s.book)) o allows.1 none more in record { parts = r.0; more = r.1 }
-one-out s _ allows none more = absurd cc
+    by_stands : Stands (last_out s) (length s.gone_out) s.book s.copying o → AllOut s
+    by_stands (Whole w) = record { parts = w.parts; more = by (has_open s) s.closed refl refl w.is }
+    by_stands (WaitsHere is w) = absurd (ended-not w.k s.book s.copying ended w.booked w.copies)
+    by_stands (Part part is) = absurd (let no : false ≡ true = ap (λ (x : Out). has_none (NextOut (Ok x))) (sym is) ∙ none in cc)
 
-pub quiet-out : (s : State) (es : List Event) → AllEngineCalls es → list_any moves_in es ≡ false → IsExact s es → last_is has_none es ≡ true → last_is has_no_more es ≡ false → AllOut s
-quiet-out s [] calls still exact none more = absurd cc
-quiet-out s (e ∷ []) calls still exact none more = one-out s e exact.0 none more
-quiet-out s (e ∷ f ∷ es) calls still exact none more =
+one-out : (s : State) (e : Event) → AllEnded s.book s.copying → Allows s e → has_none e ≡ true → has_no_more e ≡ false → AllOut s
+one-out s (NextOut (Ok o)) ended allows none more = none-out s o ended allows.1 none more
+one-out s _ ended allows none more = absurd cc
+
+pub quiet-out : (s : State) (es : List Event) → AllEnded s.book s.copying → AllEngineCalls es → list_any moves_in es ≡ false → IsExact s es → last_is has_none es ≡ true → last_is has_no_more es ≡ false → AllOut s
+quiet-out s [] ended calls still exact none more = absurd cc
+quiet-out s (e ∷ []) ended calls still exact none more = one-out s e ended exact.0 none more
+quiet-out s (e ∷ f ∷ es) ended calls still exact none more =
     let n = neither (moves_in e) (list_any moves_in (f ∷ es)) still in
     let same : after s e ≡ s = still-all s (e ∷ []) (calls.0, tt) (ap (λ (b : Bool). b || false) n.0) in
-    subst AllOut same (quiet-out (after s e) (f ∷ es) calls.1 n.1 exact.2 none more)
+    subst AllOut same (quiet-out (after s e) (f ∷ es) (subst (λ (x : State). AllEnded x.book x.copying) (sym same) ended) calls.1 n.1 exact.2 none more)
   where
     neither : (b c : Bool) → (b || c) ≡ false → (b ≡ false) × (c ≡ false)
     neither true c h = absurd cc
@@ -150,19 +153,19 @@ not-less a b e = grind (arith, nat_tests)
 
 -- a request went out whose group hasn't ended
 open-request : (scripts : List (List Command)) (s : SessionState) (l : LinkView) (t : SessionState) (m : LinkView) (q : QuietRound scripts s l t m) →
-    AllOut (state_of q.reached) → t.hub.finished < t.hub.gone_out
+    AllOut (state_of q.reached) → t.hub.finished < t.hub.started
 open-request scripts s l t m q all = by q.awaits all.more
   where
     by : IsAwaited t.handles (state_of q.reached) ⊎ ((t.unanswered ≡ 0) × (t.hub.closed ≡ true)) →
         (has_open (state_of q.reached) ≡ true) ⊎ ((state_of q.reached).closed ≡ false) →
-        t.hub.finished < t.hub.gone_out
+        t.hub.finished < t.hub.started
     by (inl awaited) more =
         let st = state_of q.reached in
         let order = q.before.in_order in
         let unended : finished st.deliveries ≤ awaited.place.reads =
         not-less awaited.place.reads (finished st.deliveries) (sym (ended-counted st.deliveries order.owners awaited.place.reads) ∙ awaited.unended) in
-        omega (arith, awaited.booked, unended, wire-counted st.book order.one_part, dropped (length st.gone_out) (wire st.book) all.parts, q.reached.fits.finished, q.reached.fits.gone_out)
-    by (inr done) (inl less) = omega (arith, open-less (state_of q.reached) q.before.in_order less, q.reached.fits.finished, q.reached.fits.gone_out)
+        omega (arith, awaited.booked, unended, all-began (length st.gone_out) st.book q.reached.fits.in_order.all (dropped (length st.gone_out) (wire st.book) all.parts), q.reached.fits.finished, q.reached.fits.parts.started)
+    by (inr done) (inl less) = omega (arith, open-less (state_of q.reached) q.before.in_order less, q.reached.fits.finished, q.reached.fits.parts.started)
     by (inr done) (inr active) = contradicts t.hub.closed done.1 (q.reached.fits.closed ∙ active)
 
 -- ---- the bytes
@@ -208,11 +211,12 @@ module _ (call : Call) (settings : Settings) (opening : List ℕ) (first : List 
   units-are = ap whole_units taken-is ∙ units-sent settings opening st.gone_out (done-opening settings call.nonce opening first done) queries
 
   -- a request was taken whole whose reply isn't whole
-  pub request-awaited : NeedsNoTls settings → t.hub.finished < t.hub.gone_out → Awaited call settings h.given h.taken
+  pub request-awaited : NeedsNoTls settings → t.hub.finished < t.hub.started → Awaited call settings h.given h.taken
   request-awaited plain less =
       let all : messages h.given ≡ first ++ later = h.came_off ∙ append_assoc first h.read (h.lost ++ messages t.streams.buffer.items) in
       let started = is-started settings call.nonce opening first later (messages h.given) done all in
-      let fewer : whole_groups later < whole_units h.taken = omega (arith, groups-are, units-are, less, h.fits.finished, h.fits.gone_out) in
+      let few = started-most (length st.gone_out) st.book h.fits.in_order.all in
+      let fewer : whole_groups later < whole_units h.taken = omega (arith, groups-are, units-are, less, h.fits.finished, h.fits.parts.started, few) in
       inr (inr (plain, (length first, started.outcome, subst (λ (ms : List RawMessage). whole_groups ms < whole_units h.taken) (sym started.rest) fewer)))
 
 -- ---- the round
@@ -245,7 +249,7 @@ stalled-round call settings opening first scripts s l t m waited before after me
           let st = state_of q.reached in
           let exact = (goes.became.stands st q.before).0 in
           let still = none-moved q.hub t.hub s.streams t.streams l m _ false q.polled q.unmoved in
-          let less = open-request scripts s l t m q (quiet-out st goes.events goes.calls still exact settled.none_left settled.not_over) in
+          let less = open-request scripts s l t m q (quiet-out st goes.events (tame-in st t.hub q.reached.fits asks.hub.tame).ended goes.calls still exact settled.none_left settled.not_over) in
           let awaits = request-awaited call settings opening first t l m goes.events done h asks settled plain less in (
             rests.bytes.due ∙ settled.dry.empty q.unmoved is_steady,
             (

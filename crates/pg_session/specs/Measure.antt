@@ -48,14 +48,9 @@ scripts_left _ _ = 0
 
 -- ---- the hub and the connection
 
--- parts that are to go out
-abbrev pub parts_left : List (List ℕ) → ℕ
-parts_left [] = 0
-parts_left (part ∷ parts) = part_left part + parts_left parts
-
--- the batches that readers haven't taken, and the parts that haven't gone out
+-- the batches that readers haven't taken, and the parts that haven't gone out: their bytes, and one for each
 abbrev pub hub_left : Standing → ℕ
-hub_left hub = undelivered_of hub + parts_left hub.outgoing
+hub_left hub = undelivered_of hub + hub.unsent
 
 -- the bytes that aren't sent, and those of Terminate, where it isn't queued yet
 abbrev pub unsent_left : Streams → ℕ

@@ -1,5 +1,6 @@
 -- A session asks queries alone, and makes its hub fail in no turn.
-use Rattle.std.proofs.Common.{◌≡◌, inl, inr, ℕ, zero, suc, ◌-◌, List, [], ◌∷◌, ◌++◌, Bool, true, false, if◌then◌else◌, Option, Some, None, Result, Ok, Err, refl, sym, subst, ◌∙◌}
+use Rattle.std.proofs.Common.{◌≡◌, inl, inr, ℕ, zero, suc, ◌+◌, ◌-◌, List, [], ◌∷◌, ◌++◌, length, Bool, true, false, if◌then◌else◌, Option, Some, None, Result, Ok, Err, refl, sym, ap, subst, ◌∙◌, ◌≤◌, arith, length-append}
+use Rattle.std.proofs.lemmas.List.{length_push}
 use Rattle.std.specs.Prelude.{slice_get, slice_set, is_some}
 use Rattle.pg_spec.specs.Faults as faults
 use Rattle.pg_spec.specs.Frames.{query_frame}
@@ -18,8 +19,12 @@ use Rattle.pg_desk.specs.declared.event.Take.TheVariants as taking
 use Rattle.pg_desk.specs.declared.event.Out.TheVariants as out
 use Rattle.pg_desk.specs.declared.event.Deliver.TheVariants as delivering
 use Rattle.pg_desk.specs.declared.event.Event.{Event}
-use Rattle.pg_desk.specs.declared.event.Event.TheVariants.{Book, Take as TakeEvent, HangUp as HangUpEvent, NextStatement, NextPortal, NextOut, Deliver as DeliverEvent, CloseRequests, Fail}
-use Rattle.pg_desk.specs.History.{State, start, after, after_all, wire, IsLegal}
+use Rattle.pg_desk.specs.declared.event.Event.TheVariants.{Book, Put as PutEvent, EndCopy, Take as TakeEvent, HangUp as HangUpEvent, NextStatement, NextPortal, NextOut, Deliver as DeliverEvent, CloseRequests, Fail}
+use Rattle.pg_desk.specs.History.{State, rest_flags, start, started, started_of, after, after_all, wire, IsLegal}
+use Rattle.pg_desk.specs.Order.{InOrder}
+use Rattle.pg_desk.proofs.Outs.{AllEnded, ended-more}
+use Rattle.pg_desk.proofs.Parts.{order-low}
+use Rattle.pg_hub.specs.Rests.{Rest, rests}
 use Rattle.pg_hub.specs.Standing.{Standing}
 use Rattle.pg_hub.specs.Fits.{Fits, HubBecomes}
 use Rattle.pg_hub.specs.Becomes.{fits-touched}
@@ -58,19 +63,41 @@ ask-more : (bs : List Booking) (stamp : Stamp) (part : List ℕ) → AllAsk bs �
 ask-more [] stamp part h q = (part, refl, q, tt)
 ask-more (b ∷ bs) stamp part h q = (h.0, h.1, h.2, ask-more bs stamp part h.3 q)
 
+-- each has one part, so as many began as parts went out
+asks-began : (n : ℕ) (bs : List Booking) → AllAsk bs → n ≤ length bs → started n bs ≡ n
+asks-began n [] h low = omega (arith, low)
+asks-began zero (b ∷ bs) h low = refl
+asks-began (suc n) (b ∷ bs) h low =
+    let one : length b.parts ≡ 1 = ap (λ (l : List (List ℕ)). length l) h.1 in
+    ap (λ (m : ℕ). suc (started m bs)) (let e : suc n - length b.parts ≡ n = omega (arith, one) in e) ∙ ap suc (asks-began n bs h.3 (omega (arith, low)))
+
+pub asks-wire : (bs : List Booking) → AllAsk bs → length (wire bs) ≡ length bs
+asks-wire [] h = refl
+asks-wire (b ∷ bs) h =
+    let one : length b.parts ≡ 1 = ap (λ (l : List (List ℕ)). length l) h.1 in
+    let more : length (wire bs) ≡ length bs = asks-wire bs h.3 in
+    length-append b.parts (wire bs) ∙ omega (arith, one, more)
+
+pub asks-out : (s : State) → InOrder s → AllAsk s.book → started_of s ≡ length s.gone_out
+asks-out s order h = asks-began (length s.gone_out) s.book h (let low = order-low (length s.gone_out) s.book s.copying order.out in omega (arith, low, asks-wire s.book h))
+
 -- all parts are queries
 pub wire-asks : (bs : List Booking) → AllAsk bs → AreQueries (wire bs)
 wire-asks [] h = tt
 wire-asks (b ∷ bs) h = subst (λ (x : List (List ℕ)). AreQueries (x ++ wire bs)) (sym h.1) (h.2, wire-asks bs h.3)
 
--- Such a hub hasn't failed, and its requests are queries.
-pub record IsTame (book : List Booking) (failed : Bool) : Type 0 where
+-- Such a hub hasn't failed, and its requests are queries, none of them a copy.
+pub record IsTame (book : List Booking) (copying : List Bool) (failed : Bool) : Type 0 where
   pub works : failed ≡ false
   pub asks : AllAsk book
+  pub flags : length copying ≡ length book
+  pub ended : AllEnded book copying
 
 -- an event books a query alone, and doesn't make the hub fail
 abbrev pub IsMild : Event → Type 0
-IsMild (Book stamp part copying answer) = IsQuery part
+IsMild (Book stamp part copying answer) = IsQuery part × (copying ≡ false)
+IsMild (PutEvent id part answer) = ⊥
+IsMild (EndCopy id part answer) = ⊥
 IsMild (Fail answer) = ⊥
 IsMild _ = Unit {0}
 
@@ -78,9 +105,18 @@ abbrev pub AreMild : List Event → Type 0
 AreMild [] = Unit {0}
 AreMild (e ∷ es) = IsMild e × AreMild es
 
-tame-one : (s : State) (e : Event) → IsMild e → IsTame s.book s.failed → IsTame (after s e).book (after s e).failed
-tame-one s (Book stamp part copying (Ok id)) q h = record { works = h.works; asks = ask-more s.book stamp part h.asks q }
+tame-one : (s : State) (e : Event) → IsMild e → IsTame s.book s.copying s.failed → IsTame (after s e).book (after s e).copying (after s e).failed
+tame-one s (Book stamp part copying (Ok id)) q h =
+    let b : Booking = record { stamp = stamp; parts = part ∷ [] } in
+    record {
+      works = h.works;
+      asks = ask-more s.book stamp part h.asks q.0;
+      flags = length_push s.copying copying ∙ ap (λ (n : ℕ). n + 1) h.flags ∙ sym (length_push s.book b);
+      ended = subst (λ (c : Bool). AllEnded (s.book ++ b ∷ []) (s.copying ++ c ∷ [])) (sym q.1) (ended-more s.book s.copying b h.flags h.ended);
+    }
 tame-one s (Book stamp part copying (Err e)) q h = h
+tame-one s (PutEvent id part answer) q h = absurd q
+tame-one s (EndCopy id part answer) q h = absurd q
 tame-one s (TakeEvent id (Ok (taking.Batch ms))) q h = h
 tame-one s (TakeEvent id (Ok x)) q h = h
 tame-one s (TakeEvent id (Err e)) q h = h
@@ -99,7 +135,7 @@ tame-one s (CloseRequests (Ok x)) q h = h
 tame-one s (CloseRequests (Err e)) q h = h
 tame-one s (Fail answer) q h = absurd q
 
-pub tame-all : (s : State) (es : List Event) → AreMild es → IsTame s.book s.failed → IsTame (after_all s es).book (after_all s es).failed
+pub tame-all : (s : State) (es : List Event) → AreMild es → IsTame s.book s.copying s.failed → IsTame (after_all s es).book (after_all s es).copying (after_all s es).failed
 tame-all s [] q h = h
 tame-all s (e ∷ es) q h = tame-all (after s e) es q.1 (tame-one s e q.0 h)
 
@@ -117,22 +153,50 @@ closed-one : (s : State) (e : Event) → s.failed ≡ false → IsLegal s (e ∷
 closed-one s (NextOut (Err desk.Closed)) works l is = let failed : s.failed ≡ true = l.0 in absurd (let no : false ≡ true = sym works ∙ failed in cc)
 closed-one s _ works l is = absurd cc
 
-pub never-closed : (s : State) (es : List Event) → AreMild es → IsTame s.book s.failed → IsLegal s es → last_is is_closed_out es ≡ true → ⊥
+pub never-closed : (s : State) (es : List Event) → AreMild es → IsTame s.book s.copying s.failed → IsLegal s es → last_is is_closed_out es ≡ true → ⊥
 never-closed s [] q h l is = absurd cc
 never-closed s (e ∷ []) q h l is = closed-one s e h.works l is
 never-closed s (e ∷ f ∷ es) q h l is = never-closed (after s e) (f ∷ es) q.1 (tame-one s e q.0 h) l.1 is
+
+-- none of these is a copy that isn't ended
+abbrev pub NoneCopies : List Rest → Type 0
+NoneCopies [] = Unit {0}
+NoneCopies (r ∷ rs) = (r.copying ≡ false) × NoneCopies rs
+
+none-copies : (n : ℕ) (bs : List Booking) (cs : List Bool) → AllEnded bs cs → NoneCopies (rests n bs cs)
+none-copies n [] cs h = tt
+none-copies n (b ∷ bs) cs h = (h.0, none-copies (n - length b.parts) bs (rest_flags cs) h.1)
+
+all-ended : (n : ℕ) (bs : List Booking) (cs : List Bool) → NoneCopies (rests n bs cs) → AllEnded bs cs
+all-ended n [] cs h = tt
+all-ended n (b ∷ bs) cs h = (h.0, all-ended (n - length b.parts) bs (rest_flags cs) h.1)
+
+-- a hub that is so
+pub record IsTameHub (hub : Standing) : Type 0 where
+  pub works : hub.failed ≡ false
+  pub asks : AllAsk hub.book
+  pub ended : NoneCopies hub.outgoing
 
 -- the hub stands for a state, and is so
 pub record Tame (hub : Standing) : Type 0 where
   pub state : State
   pub fits : Fits state hub
-  pub tame : IsTame hub.book hub.failed
+  pub tame : IsTameHub hub
 
-pub tame-in : (s : State) (hub : Standing) → Fits s hub → IsTame hub.book hub.failed → IsTame s.book s.failed
-tame-in s hub fits h = record { works = sym fits.failed ∙ h.works; asks = subst AllAsk fits.book h.asks }
+pub tame-in : (s : State) (hub : Standing) → Fits s hub → IsTameHub hub → IsTame s.book s.copying s.failed
+tame-in s hub fits h = record {
+  works = sym fits.failed ∙ h.works;
+  asks = subst AllAsk fits.book h.asks;
+  flags = fits.in_order.flags;
+  ended = all-ended (length s.gone_out) s.book s.copying (subst NoneCopies fits.parts.rest h.ended);
+}
 
-tame-out : (s : State) (hub : Standing) → Fits s hub → IsTame s.book s.failed → IsTame hub.book hub.failed
-tame-out s hub fits h = record { works = fits.failed ∙ h.works; asks = subst AllAsk (sym fits.book) h.asks }
+tame-out : (s : State) (hub : Standing) → Fits s hub → IsTame s.book s.copying s.failed → IsTameHub hub
+tame-out s hub fits h = record {
+  works = fits.failed ∙ h.works;
+  asks = subst AllAsk (sym fits.book) h.asks;
+  ended = subst NoneCopies (sym fits.parts.rest) (none-copies (length s.gone_out) s.book s.copying h.ended);
+}
 
 tame-moves : (a b : Standing) (es : List Event) → Tame a → HubBecomes a es b → AreMild es → Tame b
 tame-moves a b es h becomes q =
@@ -144,14 +208,18 @@ tame-moves a b es h becomes q =
     }
 
 tame-untouched : (a : Standing) → Tame a → Tame (untouched a)
-tame-untouched a h = record { state = h.state; fits = fits-touched h.state a false h.fits; tame = h.tame }
+tame-untouched a h = record {
+  state = h.state;
+  fits = fits-touched h.state a false h.fits;
+  tame = record { works = h.tame.works; asks = h.tame.asks; ended = h.tame.ended };
+}
 
 -- ---- dialogues
 
 -- whatever comes, the dialogue books queries alone
 abbrev pub Asks : {T : Type 0} → Dialogue T → Type 0
 Asks (Answer r) = Unit {0}
-Asks (Ask copying part d) = IsQuery part × Asks d
+Asks (Ask copying part d) = IsQuery part × (copying ≡ false) × Asks d
 Asks (Send part refused d) = IsQuery part × ((e : Error) → Asks (refused e)) × Asks d
 Asks (Leave id d) = Asks d
 Asks (Read cleanup decides next) = (ms : List RawMessage) → Asks (next ms)
@@ -203,11 +271,11 @@ on {T} e d d' mild asks same = record { mild = mild; asks = subst (λ (x : Dialo
 
 step : {T : Type 0} (stamp : Stamp) (d : Dialogue T) (id : ℕ) (e : Event) (d' : Dialogue T) (id' : ℕ) → Steps stamp d id e d' id' → Asks d → GoesOn e d'
 step stamp (Answer r) id e d' id' h q = absurd h
-step stamp (Ask copying part d) id (Book stamp' part' copying' (Ok new)) d' id' h q = on _ d d' (subst IsQuery (sym h.1) q.0) q.1 h.3
-step stamp (Ask copying part d) id (Book stamp' part' copying' (Err e)) d' id' h q = on _ _ d' (subst IsQuery (sym h.1) q.0) tt h.3
+step stamp (Ask copying part d) id (Book stamp' part' copying' (Ok new)) d' id' h q = on _ d d' (subst IsQuery (sym h.1) q.0, h.2 ∙ q.1) q.2 h.3
+step stamp (Ask copying part d) id (Book stamp' part' copying' (Err e)) d' id' h q = on _ _ d' (subst IsQuery (sym h.1) q.0, h.2 ∙ q.1) tt h.3
 step stamp (Ask copying part d) id _ d' id' h q = absurd h
-step stamp (Send part refused d) id (Book stamp' part' copying (Ok new)) d' id' h q = on _ (Leave new d) d' (subst IsQuery (sym h.1) q.0) q.2 h.3
-step stamp (Send part refused d) id (Book stamp' part' copying (Err e)) d' id' h q = on _ (refused (of_fault e)) d' (subst IsQuery (sym h.1) q.0) (q.1 (of_fault e)) h.3
+step stamp (Send part refused d) id (Book stamp' part' copying (Ok new)) d' id' h q = on _ (Leave new d) d' (subst IsQuery (sym h.1) q.0, h.2) q.2 h.3
+step stamp (Send part refused d) id (Book stamp' part' copying (Err e)) d' id' h q = on _ (refused (of_fault e)) d' (subst IsQuery (sym h.1) q.0, h.2) (q.1 (of_fault e)) h.3
 step stamp (Send part refused d) id _ d' id' h q = absurd h
 step stamp (Leave sent d) id (HangUpEvent which (Ok x)) d' id' h q = on _ d d' tt q h.1
 step stamp (Leave sent d) id (HangUpEvent which (Err e)) d' id' h q = on _ _ d' tt tt h.1
@@ -222,9 +290,9 @@ step stamp (Read cleanup decides next) id _ d' id' h q = absurd h
 step stamp (HangUp d) id (HangUpEvent which (Ok x)) d' id' h q = on _ d d' tt q h.1
 step stamp (HangUp d) id (HangUpEvent which (Err e)) d' id' h q = on _ _ d' tt tt h.1
 step stamp (HangUp d) id _ d' id' h q = absurd h
-step stamp (Put cleanup part d) id e d' id' h q = absurd h
-step stamp (Finish part d) id e d' id' h q = absurd h
-step stamp (Close part d) id e d' id' h q = absurd h
+step stamp (Put cleanup part d) id e d' id' h q = absurd q
+step stamp (Finish part d) id e d' id' h q = absurd q
+step stamp (Close part d) id e d' id' h q = absurd q
 step stamp (Call ask refused next) id e d' id' h q = on e (after_reply h.0 refused next) d' (mild-told ask e h.0 h.1) (asks-reply h.0 refused next q.0 q.1) h.2
 step stamp (Hear next) id e d' id' h q = absurd h
 
@@ -254,7 +322,7 @@ asks-unless stops reading None = λ ms. asks-ends stops (reading ms)
 
 asks-query : (take : Option ℕ) (text : List ℕ) (r : Result (List ℕ) faults.FrameFault) → query_frame text ≡ r → Asks (asks_by take r)
 asks-query take text (Err fault) e = tt
-asks-query take text (Ok frame) e = (a-query text frame e, asks-unless (is_some take) (told take) (told take []))
+asks-query take text (Ok frame) e = (a-query text frame e, refl, asks-unless (is_some take) (told take) (told take []))
 
 asks-command : (c : Command) (d : Dialogue (List SimpleMessage)) → AsksCommand c d → Asks d
 asks-command (command.Simple text take) d (inl is) = subst (λ (x : Dialogue (List SimpleMessage)). Asks x) (sym is) (asks-query take text (query_frame text) refl)
@@ -364,6 +432,6 @@ asks-all scripts (turn ∷ turns) s l t m h made =
 pub asks-new : (scripts : List (List Command)) (s : SessionState) → IsNewSession scripts s → AsksQueries s
 asks-new scripts s new = record {
   hub = tame-closes (commands_in scripts) new.hub s.hub
-      (record { state = start 0 0; fits = new.new; tame = tame-out (start 0 0) new.hub new.new (record { works = refl; asks = tt }) }) new.closes;
+      (record { state = start 0 0; fits = new.new; tame = tame-out (start 0 0) new.hub new.new (record { works = refl; asks = tt; flags = refl; ended = tt }) }) new.closes;
   handles = subst AllRun (sym new.handles) (run-new scripts);
 }

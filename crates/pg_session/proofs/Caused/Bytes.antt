@@ -23,8 +23,9 @@ use Rattle.pg_wire.specs.declared.message.Message.{Message as WireMessage}
 use Rattle.pg_faults.specs.declared.cause.Cause.{Cause}
 use Rattle.pg_faults.specs.declared.error.Error.{Error}
 use Rattle.pg_desk.specs.declared.event.Event.{Event}
-use Rattle.pg_desk.specs.History.{State, start, after_all, finished, wire, joined, IsFrontOf, has_open}
+use Rattle.pg_desk.specs.History.{State, start, started_of, after_all, finished, wire, joined, IsFrontOf, has_open}
 use Rattle.pg_desk.specs.Kept.{legal-joined}
+use Rattle.pg_desk.specs.Order.{InOrder}
 use Rattle.pg_desk.proofs.Owners.{none-open as none-counted}
 use Rattle.pg_desk.proofs.Soundness.{legal-kept, legal-sound}
 use Rattle.pg_hub.specs.Becomes.{after-joined}
@@ -39,7 +40,7 @@ use Rattle.pg_connect.specs.declared.fault.ConnectionFault.{ConnectionFault}
 use Rattle.pg_connect.specs.declared.fault.ConnectionFault.TheVariants as fault
 use Rattle.pg_connect.specs.declared.streams.Streams.{Streams}
 use Rattle.pg_connect.proofs.Joining.{rose_later}
-use Rattle.pg_session.proofs.Caused.Asks.{IsTame, tame-all, mild-engines, never-closed, wire-asks}
+use Rattle.pg_session.proofs.Caused.Asks.{IsTame, asks-out, tame-all, mild-engines, never-closed, wire-asks}
 use Rattle.pg_session.proofs.Caused.Frames.{AreQueries, front-queries, TakesQueries, front-reads, never-said}
 use Rattle.pg_session.proofs.Crossing.Hub.{out-all}
 use Rattle.pg_session.proofs.Caused.Groups.{none-open, delivered-whole, InFront, in-front}
@@ -62,7 +63,7 @@ pub record Fails (settings : Settings) (call : Call) (former now : List Event) (
   pub limit : t.max_bytes ≡ call.limit
   -- the hub's events in the turn, and what it held before
   pub calls : AllEngineCalls now
-  pub tame : IsTame (after_all (start 0 0) former).book (after_all (start 0 0) former).failed
+  pub tame : IsTame (after_all (start 0 0) former).book (after_all (start 0 0) former).copying (after_all (start 0 0) former).failed
   -- the link took the startup's frames whole
   pub more : List ℕ
   pub took : Grew call.before.taken call.after.taken (opening ++ more)
@@ -267,8 +268,12 @@ module _ (settings : Settings) (call : Call) (former now : List Event) (t : Stre
       let legal = legal-joined (start 0 0) former now f.broke.legal f.broke.legal_now in
       let all = after_all (start 0 0) (former ++ now) in
       let none-there : has_open all ≡ false = subst (λ (s : State). has_open s ≡ false) (sym joins) (none-open (after_all (start 0 0) former) now none f.broke.legal_now) in
-      let all-answered : length all.gone_out ≤ finished all.deliveries = none-counted all (legal-kept 0 0 (former ++ now) legal).order none-there in
-      let answered : length last.gone_out ≤ finished last.deliveries = subst (λ (s : State). length s.gone_out ≤ finished s.deliveries) joins all-answered in
+      let order = (legal-kept 0 0 (former ++ now) legal).order in
+      let all-answered : started_of all ≤ finished all.deliveries = none-counted all order none-there in
+      let tame = tame-all (after_all (start 0 0) former) now (mild-engines now f.calls) f.tame in
+      let began : started_of last ≡ length last.gone_out = asks-out last (subst InOrder joins order) tame.asks in
+      let answered : length last.gone_out ≤ finished last.deliveries =
+      subst (λ (n : ℕ). n ≤ finished last.deliveries) began (subst (λ (s : State). started_of s ≤ finished s.deliveries) joins all-answered) in
       let whole : AreWhole (finished last.deliveries) (cut_after is_ready (delivered_by (former ++ now))) =
       subst (λ (s : State). AreWhole (finished s.deliveries) (cut_after is_ready (delivered_by (former ++ now)))) joins
       (delivered-whole (former ++ now) legal all-answered) in

@@ -1,5 +1,5 @@
 -- A message that came where no request was open stands in front of its group.
-use Rattle.std.proofs.Common.{◌≡◌, ◌<◌, ◌≤◌, ℕ, List, [], ◌∷◌, ◌++◌, length, Bool, true, false, ◌&&◌, not, if◌then◌else◌, Some, refl, sym, ap, subst, ◌∙◌, arith, append_assoc}
+use Rattle.std.proofs.Common.{◌≡◌, ◌<◌, ◌≤◌, ℕ, List, [], ◌∷◌, ◌++◌, Bool, true, false, ◌&&◌, not, if◌then◌else◌, Some, refl, sym, ap, subst, ◌∙◌, arith, append_assoc}
 use Rattle.std.specs.Prelude.{slice_get}
 use Rattle.std.specs.List.{list_all, onto_first}
 use Rattle.std.proofs.lemmas.List.Elements.{filter-append}
@@ -7,7 +7,7 @@ use Rattle.pg_spec.specs.RawMessages.{RawMessage, is_aside, is_ready, sync_of, c
 use Rattle.pg_desk.specs.declared.event.Deliver.TheVariants as delivering
 use Rattle.pg_desk.specs.declared.event.Event.{Event}
 use Rattle.pg_desk.specs.declared.event.Event.TheVariants.{Deliver as DeliverEvent}
-use Rattle.pg_desk.specs.History.{State, start, after, after_all, finished, has_open, IsLegal}
+use Rattle.pg_desk.specs.History.{State, start, started_of, after, after_all, finished, has_open, IsLegal}
 use Rattle.pg_connect.specs.Ends.{last_is}
 use Rattle.pg_connect.specs.Passed.{delivered_by}
 use Rattle.pg_connect.specs.Reads.{has_no_request}
@@ -32,12 +32,12 @@ is-true true f = refl
 is-true false f = absurd (f refl)
 
 -- then each group that was delivered is whole
-pub delivered-whole : (es : List Event) → IsLegal (start 0 0) es → length (after_all (start 0 0) es).gone_out ≤ finished (after_all (start 0 0) es).deliveries →
+pub delivered-whole : (es : List Event) → IsLegal (start 0 0) es → started_of (after_all (start 0 0) es) ≤ finished (after_all (start 0 0) es).deliveries →
     AreWhole (finished (after_all (start 0 0) es).deliveries) (cut_after is_ready (delivered_by es))
 delivered-whole es legal answered =
     let st = after_all (start 0 0) es in
     let ran : Ran st = ran-all (start 0 0) es (ran-start 0 0) legal in
-    let ends : ends_whole st.deliveries ≡ true = is-true (ends_whole st.deliveries) (λ e. let open_ : finished st.deliveries < length st.gone_out = ran.tail e in omega (arith, open_, answered)) in
+    let ends : ends_whole st.deliveries ≡ true = is-true (ends_whole st.deliveries) (λ e. let open_ : finished st.deliveries < started_of st = ran.tail e in omega (arith, open_, answered)) in
     subst (λ (x : List RawMessage). AreWhole (finished st.deliveries) (cut_after is_ready x)) (received-all (start 0 0) es) (all-whole st.deliveries ran.cut ends)
 
 -- ---- behind whole groups

@@ -17,8 +17,8 @@ use Rattle.pg_errors.specs.declared.async_message.AsyncMessage.{AsyncMessage}
 use Rattle.pg_errors.specs.Views.{async_of as aside_of}
 use Rattle.pg_desk.specs.declared.event.Booking.{Booking}
 use Rattle.pg_desk.proofs.Owners.{none-open}
-use Rattle.pg_desk.proofs.Soundness.{wire-counted}
-use Rattle.pg_desk.specs.History.{State, start, after_all, received, finished}
+use Rattle.pg_desk.proofs.Parts.{all-began}
+use Rattle.pg_desk.specs.History.{State, start, started_of, after_all, received, finished}
 use Rattle.pg_hub.specs.Standing.{Standing}
 use Rattle.pg_connect.specs.declared.streams.Streams.{Streams}
 use Rattle.pg_connect.specs.Kept.{keep_all}
@@ -143,11 +143,12 @@ whole-groups opening first base l hub s asides h closing sync =
     let st = after_all (start 0 0) h.events in
     let spent = h.spent closing in
     let ran : Ran st = ran-all (start 0 0) h.events (ran-start 0 0) h.legal in
-    let answered : length st.gone_out ≤ finished st.deliveries = none-open st h.fits.in_order spent.answered in
-    let ends : ends_whole st.deliveries ≡ true = is-true (ends_whole st.deliveries) (λ e. let open_ : finished st.deliveries < length st.gone_out = ran.tail e in omega (arith, open_, answered)) in
-    let out : length st.gone_out ≡ length st.book = ap (λ (x : List (List ℕ)). length x) (all-out opening first base l hub s asides h closing) ∙ wire-counted st.book h.fits.in_order.one_part in
-    let few : finished st.deliveries ≤ length st.gone_out = omega (arith, h.fits.standing.finished, h.fits.finished, h.fits.gone_out) in
-    let count : finished st.deliveries ≡ length hub.book = omega (arith, out, few, answered, ap (λ (x : List Booking). length x) h.fits.book) in
+    let answered : started_of st ≤ finished st.deliveries = none-open st h.fits.in_order spent.answered in
+    let ends : ends_whole st.deliveries ≡ true = is-true (ends_whole st.deliveries) (λ e. let open_ : finished st.deliveries < started_of st = ran.tail e in omega (arith, open_, answered)) in
+    let out = ap (λ (x : List (List ℕ)). length x) (all-out opening first base l hub s asides h closing) in
+    let began : started_of st ≡ length st.book = all-began (length st.gone_out) st.book h.fits.in_order.all (omega (arith, out)) in
+    let few : finished st.deliveries ≤ started_of st = h.fits.in_order.ended in
+    let count : finished st.deliveries ≡ length hub.book = omega (arith, began, few, answered, ap (λ (x : List Booking). length x) h.fits.book) in
     subst (λ (n : ℕ). AreWhole n (groups h.read)) count
     (subst (λ (x : List RawMessage). AreWhole (finished st.deliveries) (cut_after is_ready x)) (sym sync) (all-whole st.deliveries ran.cut ends))
 

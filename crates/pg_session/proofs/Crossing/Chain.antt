@@ -85,6 +85,8 @@ quiet-one stamp d id e d' id' = by_kind (λ e. Steps stamp d id e d' id' → Qui
     (λ part h. absurd (never_out stamp d id part d' id' h))
     (λ batch complete h. absurd (never_in stamp d id batch complete d' id' h))
     (λ h. record { none_in = refl; none_out = refl })
+    (λ which part h. record { none_in = refl; none_out = refl })
+    (λ which part h. record { none_in = refl; none_out = refl })
     (λ e plain h. record { none_in = plain.none_in; none_out = plain.none_out })
     e
 

@@ -1,18 +1,21 @@
 -- What the events of a hub deliver and let out, and what stays once nothing more can come.
-use Rattle.std.proofs.Common.{◌≡◌, ◌<◌, ℕ, suc, List, [], ◌∷◌, ◌++◌, length, drop, Bool, true, false, ◌||◌, if◌then◌else◌, Ok, Err, refl, sym, ap, subst, ◌∙◌, arith, append_assoc, append-nil}
+use Rattle.std.proofs.Common.{◌≡◌, ◌<◌, ℕ, suc, List, [], ◌∷◌, ◌++◌, length, drop, Bool, true, false, ◌||◌, if◌then◌else◌, Ok, Err, refl, sym, ap, subst, ◌∙◌, arith, append_assoc, append-nil, slice_set}
 use Rattle.std.proofs.lemmas.List.{length_push}
 use Rattle.pg_spec.specs.RawMessages.{RawMessage}
 use Rattle.pg_spec.specs.declared.stamps.Stamp.{Stamp}
 use Rattle.pg_desk.specs.declared.event.Booking.{Booking}
+use Rattle.pg_desk.specs.declared.event.Put.TheVariants as putting
 use Rattle.pg_desk.specs.declared.event.Take.TheVariants as taking
 use Rattle.pg_desk.specs.declared.event.Out.TheVariants as out
 use Rattle.pg_desk.specs.declared.event.Deliver.TheVariants as delivering
 use Rattle.pg_desk.specs.declared.event.Event.{Event}
-use Rattle.pg_desk.specs.declared.event.Event.TheVariants.{Book, Take as TakeEvent, HangUp, NextStatement, NextPortal, NextOut, Deliver as DeliverEvent, CloseRequests, Fail}
-use Rattle.pg_desk.specs.History.{State, Delivery, wire, finished, received, joined, has_open, next_owner, start, after, after_all, out_of_rest, Allows, IsLegal}
+use Rattle.pg_desk.specs.declared.event.Event.TheVariants.{Book, Put as PutEvent, EndCopy, Take as TakeEvent, HangUp, NextStatement, NextPortal, NextOut, Deliver as DeliverEvent, CloseRequests, Fail}
+use Rattle.pg_desk.specs.History.{State, Delivery, wire, started, started_of, finished, received, joined, has_open, is_running, next_owner, last_out, start, after, after_all, Allows, IsLegal}
 use Rattle.pg_desk.specs.Order.{InOrder}
 use Rattle.pg_desk.proofs.Owners.{open-less}
-use Rattle.pg_desk.proofs.Soundness.{AllCut, cut-more, order-book, order-deliver, order-out, order-same}
+use Rattle.pg_desk.proofs.Soundness.{AllCut, cut-more, order-book, order-deliver, order-end, order-out, order-put, order-same, part-goes-out, running-copies}
+use Rattle.pg_desk.proofs.Outs.{AllEnded, Stands, Whole, Waits, Part, ended-cleared, ended-extended, stands}
+use Rattle.pg_desk.proofs.Parts.{started-extended, started-more, started-up}
 use Rattle.pg_connect.specs.Ends.{last_is, has_no_more}
 use Rattle.pg_connect.specs.Passed.{delivered_in, delivered_by, bytes_out_in, bytes_out_by}
 
@@ -21,6 +24,7 @@ use Rattle.pg_connect.specs.Passed.{delivered_in, delivered_by, bytes_out_in, by
 -- the bookings, what went out and came, and whether requests are closed, are as before
 pub record Same (s t : State) : Type 0 where
   pub book : t.book ≡ s.book
+  pub copying : t.copying ≡ s.copying
   pub gone_out : t.gone_out ≡ s.gone_out
   pub deliveries : t.deliveries ≡ s.deliveries
   pub closed : t.closed ≡ s.closed
@@ -31,30 +35,39 @@ pub record Plain (e : Event) : Type 0 where
   pub none_in : delivered_in e ≡ []
   pub none_out : bytes_out_in e ≡ []
 
--- an event books, lets a part out, is a batch that was taken, closes requests, or is plain
+-- an event books, adds a part to a copy or ends it, lets a part out, is a batch that was taken, closes requests, or is plain
 pub by_kind : (P : Event → Type 0) → ((stamp : Stamp) (part : List ℕ) (copying : Bool) (id : ℕ) → P (Book stamp part copying (Ok id))) →
     ((part : List ℕ) → P (NextOut (Ok (out.Part part)))) → ((batch : List RawMessage) (complete : Bool) → P (DeliverEvent batch complete delivering.Taken)) →
-    P (CloseRequests (Ok tt)) → ((e : Event) → Plain e → P e) → (e : Event) → P e
-by_kind P books goes comes closes other (Book stamp part copying (Ok id)) = books stamp part copying id
-by_kind P books goes comes closes other (NextOut (Ok (out.Part part))) = goes part
-by_kind P books goes comes closes other (DeliverEvent batch complete delivering.Taken) = comes batch complete
-by_kind P books goes comes closes other (CloseRequests (Ok x)) = closes
-by_kind P books goes comes closes other (Book stamp part copying (Err e)) = other _ (record { same = λ s. record { book = refl; gone_out = refl; deliveries = refl; closed = refl }; none_in = refl; none_out = refl })
-by_kind P books goes comes closes other (TakeEvent id (Ok (taking.Batch ms))) = other _ (record { same = λ s. record { book = refl; gone_out = refl; deliveries = refl; closed = refl }; none_in = refl; none_out = refl })
-by_kind P books goes comes closes other (TakeEvent id (Ok x)) = other _ (record { same = λ s. record { book = refl; gone_out = refl; deliveries = refl; closed = refl }; none_in = refl; none_out = refl })
-by_kind P books goes comes closes other (TakeEvent id (Err e)) = other _ (record { same = λ s. record { book = refl; gone_out = refl; deliveries = refl; closed = refl }; none_in = refl; none_out = refl })
-by_kind P books goes comes closes other (HangUp id (Ok x)) = other _ (record { same = λ s. record { book = refl; gone_out = refl; deliveries = refl; closed = refl }; none_in = refl; none_out = refl })
-by_kind P books goes comes closes other (HangUp id (Err e)) = other _ (record { same = λ s. record { book = refl; gone_out = refl; deliveries = refl; closed = refl }; none_in = refl; none_out = refl })
-by_kind P books goes comes closes other (NextStatement (Ok n)) = other _ (record { same = λ s. record { book = refl; gone_out = refl; deliveries = refl; closed = refl }; none_in = refl; none_out = refl })
-by_kind P books goes comes closes other (NextStatement (Err e)) = other _ (record { same = λ s. record { book = refl; gone_out = refl; deliveries = refl; closed = refl }; none_in = refl; none_out = refl })
-by_kind P books goes comes closes other (NextPortal (Ok n)) = other _ (record { same = λ s. record { book = refl; gone_out = refl; deliveries = refl; closed = refl }; none_in = refl; none_out = refl })
-by_kind P books goes comes closes other (NextPortal (Err e)) = other _ (record { same = λ s. record { book = refl; gone_out = refl; deliveries = refl; closed = refl }; none_in = refl; none_out = refl })
-by_kind P books goes comes closes other (NextOut (Ok x)) = other _ (record { same = λ s. record { book = refl; gone_out = refl; deliveries = refl; closed = refl }; none_in = refl; none_out = refl })
-by_kind P books goes comes closes other (NextOut (Err e)) = other _ (record { same = λ s. record { book = refl; gone_out = refl; deliveries = refl; closed = refl }; none_in = refl; none_out = refl })
-by_kind P books goes comes closes other (DeliverEvent batch complete x) = other _ (record { same = λ s. record { book = refl; gone_out = refl; deliveries = refl; closed = refl }; none_in = refl; none_out = refl })
-by_kind P books goes comes closes other (CloseRequests (Err e)) = other _ (record { same = λ s. record { book = refl; gone_out = refl; deliveries = refl; closed = refl }; none_in = refl; none_out = refl })
-by_kind P books goes comes closes other (Fail (Ok x)) = other _ (record { same = λ s. record { book = refl; gone_out = refl; deliveries = refl; closed = refl }; none_in = refl; none_out = refl })
-by_kind P books goes comes closes other (Fail (Err e)) = other _ (record { same = λ s. record { book = refl; gone_out = refl; deliveries = refl; closed = refl }; none_in = refl; none_out = refl })
+    P (CloseRequests (Ok tt)) → ((id : ℕ) (part : List ℕ) → P (PutEvent id part putting.Took)) → ((id : ℕ) (part : List ℕ) → P (EndCopy id part putting.Took)) →
+    ((e : Event) → Plain e → P e) → (e : Event) → P e
+by_kind P books goes comes closes puts ends other (Book stamp part copying (Ok id)) = books stamp part copying id
+by_kind P books goes comes closes puts ends other (NextOut (Ok (out.Part part))) = goes part
+by_kind P books goes comes closes puts ends other (DeliverEvent batch complete delivering.Taken) = comes batch complete
+by_kind P books goes comes closes puts ends other (CloseRequests (Ok x)) = closes
+by_kind P books goes comes closes puts ends other (Book stamp part copying (Err e)) = other _ (record { same = λ s. record { book = refl; copying = refl; gone_out = refl; deliveries = refl; closed = refl }; none_in = refl; none_out = refl })
+by_kind P books goes comes closes puts ends other (PutEvent id part putting.Took) = puts id part
+by_kind P books goes comes closes puts ends other (PutEvent id part (putting.Full back)) = other _ (record { same = λ s. record { book = refl; copying = refl; gone_out = refl; deliveries = refl; closed = refl }; none_in = refl; none_out = refl })
+by_kind P books goes comes closes puts ends other (PutEvent id part (putting.Gone back)) = other _ (record { same = λ s. record { book = refl; copying = refl; gone_out = refl; deliveries = refl; closed = refl }; none_in = refl; none_out = refl })
+by_kind P books goes comes closes puts ends other (PutEvent id part (putting.OutOfMemory back)) = other _ (record { same = λ s. record { book = refl; copying = refl; gone_out = refl; deliveries = refl; closed = refl }; none_in = refl; none_out = refl })
+by_kind P books goes comes closes puts ends other (EndCopy id part putting.Took) = ends id part
+by_kind P books goes comes closes puts ends other (EndCopy id part (putting.Full back)) = other _ (record { same = λ s. record { book = refl; copying = refl; gone_out = refl; deliveries = refl; closed = refl }; none_in = refl; none_out = refl })
+by_kind P books goes comes closes puts ends other (EndCopy id part (putting.Gone back)) = other _ (record { same = λ s. record { book = refl; copying = refl; gone_out = refl; deliveries = refl; closed = refl }; none_in = refl; none_out = refl })
+by_kind P books goes comes closes puts ends other (EndCopy id part (putting.OutOfMemory back)) = other _ (record { same = λ s. record { book = refl; copying = refl; gone_out = refl; deliveries = refl; closed = refl }; none_in = refl; none_out = refl })
+by_kind P books goes comes closes puts ends other (TakeEvent id (Ok (taking.Batch ms))) = other _ (record { same = λ s. record { book = refl; copying = refl; gone_out = refl; deliveries = refl; closed = refl }; none_in = refl; none_out = refl })
+by_kind P books goes comes closes puts ends other (TakeEvent id (Ok x)) = other _ (record { same = λ s. record { book = refl; copying = refl; gone_out = refl; deliveries = refl; closed = refl }; none_in = refl; none_out = refl })
+by_kind P books goes comes closes puts ends other (TakeEvent id (Err e)) = other _ (record { same = λ s. record { book = refl; copying = refl; gone_out = refl; deliveries = refl; closed = refl }; none_in = refl; none_out = refl })
+by_kind P books goes comes closes puts ends other (HangUp id (Ok x)) = other _ (record { same = λ s. record { book = refl; copying = refl; gone_out = refl; deliveries = refl; closed = refl }; none_in = refl; none_out = refl })
+by_kind P books goes comes closes puts ends other (HangUp id (Err e)) = other _ (record { same = λ s. record { book = refl; copying = refl; gone_out = refl; deliveries = refl; closed = refl }; none_in = refl; none_out = refl })
+by_kind P books goes comes closes puts ends other (NextStatement (Ok n)) = other _ (record { same = λ s. record { book = refl; copying = refl; gone_out = refl; deliveries = refl; closed = refl }; none_in = refl; none_out = refl })
+by_kind P books goes comes closes puts ends other (NextStatement (Err e)) = other _ (record { same = λ s. record { book = refl; copying = refl; gone_out = refl; deliveries = refl; closed = refl }; none_in = refl; none_out = refl })
+by_kind P books goes comes closes puts ends other (NextPortal (Ok n)) = other _ (record { same = λ s. record { book = refl; copying = refl; gone_out = refl; deliveries = refl; closed = refl }; none_in = refl; none_out = refl })
+by_kind P books goes comes closes puts ends other (NextPortal (Err e)) = other _ (record { same = λ s. record { book = refl; copying = refl; gone_out = refl; deliveries = refl; closed = refl }; none_in = refl; none_out = refl })
+by_kind P books goes comes closes puts ends other (NextOut (Ok x)) = other _ (record { same = λ s. record { book = refl; copying = refl; gone_out = refl; deliveries = refl; closed = refl }; none_in = refl; none_out = refl })
+by_kind P books goes comes closes puts ends other (NextOut (Err e)) = other _ (record { same = λ s. record { book = refl; copying = refl; gone_out = refl; deliveries = refl; closed = refl }; none_in = refl; none_out = refl })
+by_kind P books goes comes closes puts ends other (DeliverEvent batch complete x) = other _ (record { same = λ s. record { book = refl; copying = refl; gone_out = refl; deliveries = refl; closed = refl }; none_in = refl; none_out = refl })
+by_kind P books goes comes closes puts ends other (CloseRequests (Err e)) = other _ (record { same = λ s. record { book = refl; copying = refl; gone_out = refl; deliveries = refl; closed = refl }; none_in = refl; none_out = refl })
+by_kind P books goes comes closes puts ends other (Fail (Ok x)) = other _ (record { same = λ s. record { book = refl; copying = refl; gone_out = refl; deliveries = refl; closed = refl }; none_in = refl; none_out = refl })
+by_kind P books goes comes closes puts ends other (Fail (Err e)) = other _ (record { same = λ s. record { book = refl; copying = refl; gone_out = refl; deliveries = refl; closed = refl }; none_in = refl; none_out = refl })
 
 -- ---- what came and went out
 
@@ -75,6 +88,8 @@ received-one s e = by_kind (λ e. received (after s e).deliveries ≡ received s
     (λ part. sym (append-nil (received s.deliveries)))
     (λ batch complete. received-push s.deliveries (record { owner = next_owner s; messages = batch; complete = complete }))
     (sym (append-nil (received s.deliveries)))
+    (λ id part. sym (append-nil (received s.deliveries)))
+    (λ id part. sym (append-nil (received s.deliveries)))
     (λ e plain. as_before (received s.deliveries) (received (after s e).deliveries) (delivered_in e) (ap received (plain.same s).deliveries) plain.none_in)
     e
 
@@ -90,6 +105,8 @@ out-one s e = by_kind (λ e. joined (after s e).gone_out ≡ joined s.gone_out +
     (λ part. joined-push s.gone_out part)
     (λ batch complete. sym (append-nil (joined s.gone_out)))
     (sym (append-nil (joined s.gone_out)))
+    (λ id part. sym (append-nil (joined s.gone_out)))
+    (λ id part. sym (append-nil (joined s.gone_out)))
     (λ e plain. as_before (joined s.gone_out) (joined (after s e).gone_out) (bytes_out_in e) (ap (λ (l : List (List ℕ)). joined l) (plain.same s).gone_out) plain.none_out)
     e
 
@@ -101,40 +118,47 @@ out-all s (e ∷ es) = out-all (after s e) es ∙ ap (λ (l : List ℕ). l ++ by
 
 -- ---- once nothing more can come
 
--- Requests are closed, all parts went out, and no request is open.
+-- Requests are closed, all parts went out, no copy may get more, and no request is open.
 pub record Spent (s : State) : Type 0 where
   pub closed : s.closed ≡ true
   pub out : drop (length s.gone_out) (wire s.book) ≡ []
+  pub ended : AllEnded s.book s.copying
   pub answered : has_open s ≡ false
 
 not_open : (a b : Bool) → a ≡ true → a || b ≡ false → ⊥
 not_open a b e f = let g : true || b ≡ false = subst (λ (x : Bool). x || b ≡ false) e f in let h : true ≡ false = g in cc
 
-no_part : (s : State) (part : List ℕ) (l : List (List ℕ)) → l ≡ [] → out.Part part ≡ out_of_rest s l → ⊥
-no_part s part (x ∷ l) none e = absurd cc
-no_part s part [] none e = by_tests (has_open s) s.closed e
-  where
-    by_tests : (a b : Bool) → out.Part part ≡ (if a then out.Nothing else (if b then out.NoMore else out.Nothing)) → ⊥
-    by_tests true b e = absurd cc
-    by_tests false true e = absurd cc
-    by_tests false false e = absurd cc
+no_part : (l more : List (List ℕ)) (part : List ℕ) → l ≡ [] → l ≡ part ∷ more → ⊥
+no_part l more part none e = let no : ◌≡◌ {A = List (List ℕ)} [] (part ∷ more) = sym none ∙ e in cc
 
 spent-same : (s t : State) → Same s t → Spent s → Spent t
 spent-same s t same h = record {
   closed = same.closed ∙ h.closed;
   out = ap (λ (l : List (List ℕ)). drop (length l) (wire t.book)) same.gone_out ∙ ap (λ (b : List Booking). drop (length s.gone_out) (wire b)) same.book ∙ h.out;
+  ended = subst (λ (cs : List Bool). AllEnded t.book cs) (sym same.copying) (subst (λ (b : List Booking). AllEnded b s.copying) (sym same.book) h.ended);
   answered = ap (λ (b : List Booking). has_open (record t { book = b })) same.book
       ∙ ap (λ (g : List (List ℕ)). has_open (record t { book = s.book; gone_out = g })) same.gone_out
       ∙ ap (λ (ds : List Delivery). has_open (record t { book = s.book; gone_out = s.gone_out; deliveries = ds })) same.deliveries ∙ h.answered;
 }
 
+-- no part is added to a copy then
+spent-put : (s : State) (id : ℕ) (part : List ℕ) → Spent s → is_running s id ≡ true → Spent (after s (PutEvent id part putting.Took))
+spent-put s id part h runs = subst (λ (b : List Booking). Spent (record s { book = b })) (sym (ended-extended id part s.book s.copying h.ended (running-copies s id runs))) h
+
+spent-end : (s : State) (id : ℕ) (part : List ℕ) → Spent s → is_running s id ≡ true → Spent (after s (EndCopy id part putting.Took))
+spent-end s id part h runs =
+    subst (λ (b : List Booking). Spent (record s { book = b; copying = slice_set s.copying id false })) (sym (ended-extended id part s.book s.copying h.ended (running-copies s id runs)))
+    (record { closed = h.closed; out = h.out; ended = ended-cleared id s.book s.copying h.ended; answered = h.answered })
+
 -- It stays so, whatever happens.
 pub spent-one : (s : State) (e : Event) → Spent s → Allows s e → Spent (after s e)
 spent-one s e h = by_kind (λ e. Allows s e → Spent (after s e))
     (λ stamp part copying id a. absurd (not_open s.closed s.failed h.closed a.0))
-    (λ part a. absurd (no_part s part (drop (length s.gone_out) (wire s.book)) h.out a.1))
+    (λ part a. let g = part-goes-out s part a.1 in absurd (no_part (drop (length s.gone_out) (wire s.book)) g.more part h.out g.next))
     (λ batch complete a. absurd (let no : true ≡ false = sym a.1 ∙ h.answered in cc))
-    (λ a. record { closed = refl; out = h.out; answered = h.answered })
+    (λ a. record { closed = refl; out = h.out; ended = h.ended; answered = h.answered })
+    (λ id part a. spent-put s id part h a.1)
+    (λ id part a. spent-end s id part h a.1)
     (λ e plain a. spent-same s (after s e) (plain.same s) h)
     e
 
@@ -142,13 +166,8 @@ pub spent-all : (s : State) (es : List Event) → Spent s → IsLegal s es → S
 spent-all s [] h l = h
 spent-all s (e ∷ es) h l = spent-all (after s e) es (spent-one s e h l.0) l.1
 
-no_rest : (s : State) (l : List (List ℕ)) → out.NoMore ≡ out_of_rest s l → l ≡ []
-no_rest s (x ∷ l) e = absurd cc
-no_rest s [] e = refl
-
-no_more : (s : State) (l : List (List ℕ)) → out.NoMore ≡ out_of_rest s l → (s.closed ≡ true) × (has_open s ≡ false)
-no_more s (x ∷ l) e = absurd cc
-no_more s [] e = by_tests (has_open s) s.closed refl refl e
+no-more-one : (s : State) (e : Event) → has_no_more e ≡ true → Allows s e → Spent (after s e)
+no-more-one s (NextOut (Ok out.NoMore)) is a = by (stands (last_out s) out.NoMore (length s.gone_out) s.book s.copying a.1)
   where
     by_tests : (a b : Bool) → has_open s ≡ a → s.closed ≡ b → out.NoMore ≡ (if a then out.Nothing else (if b then out.NoMore else out.Nothing)) →
         (s.closed ≡ true) × (has_open s ≡ false)
@@ -156,11 +175,10 @@ no_more s [] e = by_tests (has_open s) s.closed refl refl e
     by_tests false true p q e = (q, p)
     by_tests false false p q e = absurd cc
 
-no-more-one : (s : State) (e : Event) → has_no_more e ≡ true → Allows s e → Spent (after s e)
-no-more-one s (NextOut (Ok out.NoMore)) is a =
-    let rest = drop (length s.gone_out) (wire s.book) in
-    let h = no_more s rest a.1 in
-    record { closed = h.0; out = no_rest s rest a.1; answered = h.1 }
+    by : Stands (last_out s) (length s.gone_out) s.book s.copying out.NoMore → Spent s
+    by (Whole w) = let h = by_tests (has_open s) s.closed refl refl w.is in record { closed = h.0; out = w.parts; ended = w.ended; answered = h.1 }
+    by (Waits is w) = absurd cc
+    by (Part part is) = absurd cc
 no-more-one s _ is a = absurd cc
 
 -- It is so where the hub's last answer was that nothing more will come.
@@ -170,10 +188,6 @@ no-more-spent s (e ∷ []) is l = no-more-one s e is l.0
 no-more-spent s (e ∷ f ∷ es) is l = no-more-spent (after s e) (f ∷ es) is l.1
 
 -- ---- the deliveries of a legal list
-
-first-part : (s : State) (part : List ℕ) (l : List (List ℕ)) → out.Part part ≡ out_of_rest s l → (more : List (List ℕ)) × (l ≡ part ∷ more)
-first-part s part (x ∷ l) e = let same : x ≡ part = cc in (l, ap (λ (p : List ℕ). p ∷ l) same)
-first-part s part [] e = absurd (no_part s part [] refl e)
 
 -- the last batch ended its group, or none came
 abbrev pub ends_whole : List Delivery → Bool
@@ -185,7 +199,7 @@ ends_whole (d ∷ e ∷ ds) = ends_whole (e ∷ ds)
 pub record Ran (s : State) : Type 0 where
   pub cut : AllCut s.deliveries
   pub order : InOrder s
-  pub tail : ends_whole s.deliveries ≡ false → finished s.deliveries < length s.gone_out
+  pub tail : ends_whole s.deliveries ≡ false → finished s.deliveries < started_of s
 
 ends-push : (ds : List Delivery) (d : Delivery) → ends_whole (ds ++ d ∷ []) ≡ d.complete
 ends-push [] d = refl
@@ -206,35 +220,57 @@ ran-deliver s batch true h a = record {
 ran-deliver s batch false h a = record {
   cut = cut-more s.deliveries (record { owner = next_owner s; messages = batch; complete = false }) h.cut a.0;
   order = order-deliver s batch false h.order a.1;
-  tail = λ e. subst (λ (n : ℕ). n < length s.gone_out) (sym (finished-push s.deliveries (next_owner s) batch)) (open-less s h.order a.1);
+  tail = λ e. subst (λ (n : ℕ). n < started_of s) (sym (finished-push s.deliveries (next_owner s) batch)) (open-less s h.order a.1);
 }
 
 ran-same : (s t : State) → Same s t → Ran s → Ran t
 ran-same s t same h = record {
   cut = subst AllCut (sym same.deliveries) h.cut;
-  order = order-same s t (sym same.book) (sym same.gone_out) (sym same.deliveries) h.order;
+  order = order-same s t (sym same.book) (sym same.copying) (sym same.gone_out) (sym same.deliveries) h.order;
   tail = λ e.
-      let b : finished s.deliveries < length s.gone_out = h.tail (sym (ap ends_whole same.deliveries) ∙ e) in
-      let g = ap (λ (l : List (List ℕ)). length l) same.gone_out in let d = ap finished same.deliveries in omega arith;
+      let b : finished s.deliveries < started_of s = h.tail (sym (ap ends_whole same.deliveries) ∙ e) in
+      let g : started_of t ≡ started_of s = ap (λ (l : List (List ℕ)). started (length l) t.book) same.gone_out ∙ ap (λ (l : List Booking). started (length s.gone_out) l) same.book in
+      let d = ap finished same.deliveries in omega arith;
 }
+
+-- as many requests began where one is booked, and where a copy gets a part more
+ran-began : (s : State) (n : ℕ) → n ≡ started_of s → (ends_whole s.deliveries ≡ false → finished s.deliveries < started_of s) → ends_whole s.deliveries ≡ false → finished s.deliveries < n
+ran-began s n same tail e = subst (λ (m : ℕ). finished s.deliveries < m) (sym same) (tail e)
 
 ran-one : (s : State) (e : Event) → Ran s → Allows s e → Ran (after s e)
 ran-one s e h = by_kind (λ e. Allows s e → Ran (after s e))
-    (λ stamp part copying id a. record { cut = h.cut; order = order-book s stamp part copying id h.order; tail = h.tail })
+    (λ stamp part copying id a. record {
+      cut = h.cut;
+      order = order-book s stamp part copying id h.order;
+      tail = ran-began s _ (started-more (length s.gone_out) s.book s.copying (record { stamp = stamp; parts = part ∷ [] }) h.order.out) h.tail;
+    })
     (λ part a. record {
       cut = h.cut;
-      order = let more = first-part s part (drop (length s.gone_out) (wire s.book)) a.1 in order-out s part h.order more.0 more.1;
-      tail = λ e. let b : finished s.deliveries < length s.gone_out = h.tail e in omega (arith, b, length_push s.gone_out part);
+      order = order-out s part h.order a.1;
+      tail = λ e.
+          let b : finished s.deliveries < started_of s = h.tail e in
+          let one = length_push s.gone_out part in
+          let more = started-up (length s.gone_out) (length (s.gone_out ++ part ∷ [])) s.book (omega (arith, one)) in omega (arith, b, more);
     })
     (λ batch complete a. ran-deliver s batch complete h a)
-    (λ a. record { cut = h.cut; order = order-same s (after s (CloseRequests (Ok tt))) refl refl refl h.order; tail = h.tail })
+    (λ a. record { cut = h.cut; order = order-same s (after s (CloseRequests (Ok tt))) refl refl refl refl h.order; tail = h.tail })
+    (λ id part a. record {
+      cut = h.cut;
+      order = order-put s id part h.order a.1;
+      tail = ran-began s _ (started-extended (length s.gone_out) id part s.book s.copying h.order.out (running-copies s id a.1)) h.tail;
+    })
+    (λ id part a. record {
+      cut = h.cut;
+      order = order-end s id part h.order a.1;
+      tail = ran-began s _ (started-extended (length s.gone_out) id part s.book s.copying h.order.out (running-copies s id a.1)) h.tail;
+    })
     (λ e plain a. ran-same s (after s e) (plain.same s) h)
     e
 
 pub ran-start : (n m : ℕ) → Ran (start n m)
 ran-start n m = record {
   cut = tt;
-  order = record { owners = tt; one_part = tt; out = omega arith; ended = omega arith };
+  order = record { owners = tt; flags = refl; all = tt; out = refl; ended = omega arith };
   tail = λ e. absurd (let no : true ≡ false = e in cc);
 }
 

@@ -8,21 +8,23 @@ use Rattle.pg_connect.specs.Passed.{IsEngineCall, AllEngineCalls, delivered_in, 
 use Rattle.pg_desk.specs.declared.event.Booking.{Booking}
 use Rattle.pg_desk.specs.declared.event.Deliver.TheVariants as delivering
 use Rattle.pg_desk.specs.declared.event.Event.{Event}
-use Rattle.pg_desk.specs.declared.event.Event.TheVariants.{Book, Take as TakeEvent, HangUp, NextStatement, NextPortal, NextOut, Deliver as DeliverEvent, CloseRequests, Fail}
+use Rattle.pg_desk.specs.declared.event.Event.TheVariants.{Book, Put as PutEvent, EndCopy, Take as TakeEvent, HangUp, NextStatement, NextPortal, NextOut, Deliver as DeliverEvent, CloseRequests, Fail}
 use Rattle.pg_desk.specs.declared.event.Out.TheVariants as out
 use Rattle.pg_spec.specs.declared.stamps.Stamp.{Stamp}
 use Rattle.pg_desk.specs.declared.event.Take.TheVariants as taking
-use Rattle.pg_desk.specs.History.{State, Delivery, Taken, wire, given, has_ended, has_open, may_let_go, next_owner, taken, waiting, is_hung_up, after, after_all, take_answer, take_of_waiting, out_of_rest, Allows, IsLegal}
+use Rattle.pg_desk.specs.History.{State, Delivery, Taken, wire, given, has_ended, may_let_go, next_owner, taken, waiting, is_hung_up, after, after_all, take_answer, take_of_waiting, started_of, Allows, IsLegal}
 use Rattle.pg_desk.proofs.Owners.{given-own, given-other}
-use Rattle.pg_desk.proofs.Soundness.{taken-own, taken-other, wire-more, in-more-if}
+use Rattle.pg_desk.proofs.Soundness.{taken-own, taken-other, in-more-if, part-goes-out}
+use Rattle.pg_desk.proofs.Parts.{started-low, wire-more}
 use Rattle.pg_hub.specs.declared.mailbox.Mailbox.{Mailbox}
 use Rattle.pg_hub.specs.declared.mailbox.Mailbox.TheVariants.{Empty, One, Two, HungUp}
 use Rattle.pg_hub.specs.Fits.{Fits, MailFits}
 use Rattle.pg_hub.specs.Mail.{waits, is_gone, at}
+use Rattle.pg_hub.specs.Rests.{weight_in}
 use Rattle.pg_hub.specs.Standing.{Standing}
 use Rattle.pg_hub.specs.Waiting.{undelivered_in}
-use Rattle.pg_session.specs.Measure.{one_if, parts_left, hub_left}
-use Rattle.pg_session.proofs.Nearer.Sums.{one-or, total, total-more, total-less, total-falls, total-grows, undelivered-total, parts-behind}
+use Rattle.pg_session.specs.Measure.{one_if, hub_left}
+use Rattle.pg_session.proofs.Nearer.Sums.{one-or, total, total-more, total-less, total-falls, total-grows, undelivered-total, parts_left, parts-behind, weight-rests}
 
 -- ---- what a state leaves to do
 
@@ -55,7 +57,8 @@ hub-state s h fits =
     let mail : undelivered_in h.mail ≡ total (waits_for s) (length h.mail) =
     undelivered-total h.mail (waits_for s) (λ k lt. mail-waits s k (at h.mail k) (fits.mail k (omega (arith, lt, long)))) in
     let same : total (waits_for s) (length h.mail) ≡ total (waits_for s) (length s.book) = ap (total (waits_for s)) long in
-    let parts : parts_left h.outgoing ≡ parts_left (drop (length s.gone_out) (wire s.book)) = ap parts_left fits.outgoing in
+    let parts : h.unsent ≡ parts_left (drop (length s.gone_out) (wire s.book)) =
+    fits.standing.out.unsent ∙ ap weight_in fits.parts.rest ∙ weight-rests (length s.gone_out) s.book s.copying in
     omega (arith, mail, same, parts)
 
 -- ---- a booking
@@ -77,9 +80,7 @@ pub book-left : (s : State) (h : Standing) (stamp : Stamp) (part : List ℕ) (co
 book-left s h stamp part copying id fits =
     let booking : Booking = record { stamp = stamp; parts = part ∷ [] } in
     let long : length (s.book ++ booking ∷ []) ≡ suc (length s.book) = length_push s.book booking ∙ omega arith in
-    let standing = fits.standing in
-    let few : length s.gone_out ≤ length s.book =
-    omega (arith, standing.out, fits.gone_out, ap (λ (b : List Booking). length b) fits.book) in
+    let few : started_of s ≤ length s.book = started-low (length s.gone_out) s.book in
     let none : waits_for s (length s.book) ≡ 0 = none-given s (length s.book) (fits.none_given (length s.book) few) in
     let batches : total (waits_for s) (length (s.book ++ booking ∷ [])) ≡ total (waits_for s) (length s.book) + waits_for s (length s.book) =
     ap (total (waits_for s)) long ∙ total-more (waits_for s) (length s.book) in
@@ -176,15 +177,6 @@ deliver-left s batch complete =
 
 -- ---- a part goes out
 
-first-part : (s : State) (part : List ℕ) (l : List (List ℕ)) → out.Part part ≡ out_of_rest s l → (more : List (List ℕ)) × (l ≡ part ∷ more)
-first-part s part (x ∷ l) h = let same : x ≡ part = cc in (l, ap (λ (p : List ℕ). p ∷ l) same)
-first-part s part [] h = by (has_open s) s.closed h
-  where
-    by : (b c : Bool) → out.Part part ≡ (if b then out.Nothing else (if c then out.NoMore else out.Nothing)) → (more : List (List ℕ)) × (◌≡◌ {A = List (List ℕ)} [] (part ∷ more))
-    by true c h = absurd cc
-    by false true h = absurd cc
-    by false false h = absurd cc
-
 one-out : (n : ℕ) (ps : List (List ℕ)) (p : List ℕ) (more : List (List ℕ)) → drop n ps ≡ p ∷ more → parts_left (drop (suc n) ps) + suc (length p) ≡ parts_left (drop n ps)
 one-out n [] p more h = let none = ap (λ (l : List (List ℕ)). length l) h in absurd (omega (arith, none, length-drop n (let no : List (List ℕ) = [] in no)))
 one-out zero (q ∷ ps) p more h = let same : q ≡ p = cc in let long = ap (λ (l : List ℕ). length l) same in omega (arith, long)
@@ -193,9 +185,9 @@ one-out (suc n) (q ∷ ps) p more h = one-out n ps p more h
 pub out-left : (s : State) (part : List ℕ) → Allows s (NextOut (Ok (out.Part part))) →
     state_left (after s (NextOut (Ok (out.Part part)))) + suc (length part) ≤ state_left s
 out-left s part allows =
-    let first = first-part s part (drop (length s.gone_out) (wire s.book)) allows.1 in
+    let first = part-goes-out s part allows.1 in
     let long : length (s.gone_out ++ part ∷ []) ≡ suc (length s.gone_out) = length_push s.gone_out part ∙ omega arith in
-    let parts = one-out (length s.gone_out) (wire s.book) part first.0 first.1 in
+    let parts = one-out (length s.gone_out) (wire s.book) part first.more first.next in
     let same = ap (λ (n : ℕ). parts_left (drop n (wire s.book))) long in
     omega (arith, parts, same)
 
@@ -220,6 +212,8 @@ engine-one s (TakeEvent id r) call a = absurd call
 engine-one s (HangUp id r) call a = absurd call
 engine-one s (NextStatement r) call a = absurd call
 engine-one s (NextPortal r) call a = absurd call
+engine-one s (PutEvent which part r) call a = absurd call
+engine-one s (EndCopy which part r) call a = absurd call
 engine-one s (CloseRequests r) call a = absurd call
 engine-one s (Fail r) call a = absurd call
 

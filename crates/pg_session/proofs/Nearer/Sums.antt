@@ -1,11 +1,14 @@
 -- Sums over places, and what is left of scripts and parts.
-use Rattle.std.proofs.Common.{◌≡◌, ◌≢◌, ℕ, zero, suc, ◌+◌, ◌<◌, ◌≤◌, List, [], ◌∷◌, ◌++◌, length, drop, Bool, true, false, ◌||◌, Some, refl, ap, ◌∙◌, subst, arith}
+use Rattle.std.proofs.Common.{◌≡◌, ◌≢◌, ℕ, zero, suc, ◌+◌, ◌-◌, ◌<◌, ◌≤◌, List, [], ◌∷◌, ◌++◌, length, drop, Bool, true, false, ◌||◌, Some, refl, ap, ◌∙◌, subst, arith}
 use Rattle.std.specs.Prelude.{slice_get, slice_set}
 use Rattle.pg_hub.specs.declared.mailbox.Mailbox.{Mailbox}
 use Rattle.pg_hub.specs.Mail.{waits, at}
+use Rattle.pg_desk.specs.declared.event.Booking.{Booking}
+use Rattle.pg_desk.specs.History.{rest_flags, wire}
+use Rattle.pg_hub.specs.Rests.{rests, weight_in, weight_of}
 use Rattle.pg_hub.specs.Waiting.{undelivered_in}
 use Rattle.pg_text.specs.declared.command.Command.{Command}
-use Rattle.pg_session.specs.Measure.{one_if, parts_left, command_left, commands_left, script_left, scripts_left, RunReads, AllRead}
+use Rattle.pg_session.specs.Measure.{one_if, part_left, command_left, commands_left, script_left, scripts_left, RunReads, AllRead}
 use Rattle.pg_session.specs.States.{HandleState}
 
 -- one of two things moved
@@ -60,9 +63,33 @@ undelivered-total (m ∷ mail) f h =
 
 -- ---- parts
 
+-- parts that are to go out
+abbrev pub parts_left : List (List ℕ) → ℕ
+parts_left [] = 0
+parts_left (part ∷ parts) = part_left part + parts_left parts
+
 pub parts-joined : (ps qs : List (List ℕ)) → parts_left (ps ++ qs) ≡ parts_left ps + parts_left qs
 parts-joined [] qs = omega arith
 parts-joined (p ∷ ps) qs = let h = parts-joined ps qs in omega (arith, h)
+
+weighs : (ps : List (List ℕ)) → weight_of ps ≡ parts_left ps
+weighs [] = refl
+weighs (p ∷ ps) = let h = weighs ps in omega (arith, h)
+
+drop-both : {A : Type 0} (n : ℕ) (xs ys : List A) → drop n (xs ++ ys) ≡ drop n xs ++ drop (n - length xs) ys
+drop-both {A} zero xs ys = ap (λ (m : ℕ). xs ++ drop m ys) (let e : 0 ≡ 0 - length xs = omega arith in e)
+drop-both {A} (suc n) [] ys = ap (λ (m : ℕ). drop m ys) (let e : suc n ≡ suc n - 0 = omega arith in e)
+drop-both {A} (suc n) (x ∷ xs) ys = drop-both n xs ys ∙ ap (λ (m : ℕ). drop n xs ++ drop m ys) (let e : n - length xs ≡ suc n - suc (length xs) = omega arith in e)
+
+-- what waits of all requests weighs what is left of the wire
+pub weight-rests : (n : ℕ) (bs : List Booking) (cs : List Bool) → weight_in (rests n bs cs) ≡ parts_left (drop n (wire bs))
+weight-rests zero [] cs = refl
+weight-rests (suc n) [] cs = refl
+weight-rests n (b ∷ bs) cs =
+    let here = weighs (drop n b.parts) in
+    let later = weight-rests (n - length b.parts) bs (rest_flags cs) in
+    let both = ap parts_left (drop-both n b.parts (wire bs)) ∙ parts-joined (drop n b.parts) (drop (n - length b.parts) (wire bs)) in
+    omega (arith, here, later, both)
 
 -- what is left behind the first ones grows by the parts that come behind, at most
 pub parts-behind : (n : ℕ) (ps qs : List (List ℕ)) → parts_left (drop n (ps ++ qs)) ≤ parts_left (drop n ps) + parts_left qs

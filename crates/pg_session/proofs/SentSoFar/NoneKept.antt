@@ -22,8 +22,7 @@ use Rattle.pg_spec.specs.Sent.{whole_units}
 use Rattle.pg_spec.specs.Startup.{Outcome, Done, More}
 use Rattle.pg_faults.specs.declared.error.Error.{Error}
 use Rattle.pg_faults.specs.declared.error.Error.TheVariants as error
-use Rattle.pg_desk.proofs.Soundness.{wire-counted}
-use Rattle.pg_desk.specs.History.{State, wire}
+use Rattle.pg_desk.specs.History.{State, start, after_all, wire}
 use Rattle.pg_desk.specs.declared.event.Event.{Event}
 use Rattle.pg_wire.specs.LinkCalls.{Keeps}
 use Rattle.pg_connect.specs.Answers.{fresh, left_open}
@@ -38,7 +37,7 @@ use Rattle.pg_text.specs.Views.{command_of, scripts_of, booking_of}
 use Rattle.pg_text.specs.declared.command.Command.{Command}
 use Rattle.pg_session.specs.Failures.{StopsOpening}
 use Rattle.pg_session.specs.States.{HandleState, SessionState}
-use Rattle.pg_session.proofs.Caused.Asks.{AsksQueries}
+use Rattle.pg_session.proofs.Caused.Asks.{AsksQueries, asks-out, asks-wire, tame-in}
 use Rattle.pg_session.proofs.Caused.Bytes.{of-batch, IsOfAnswer}
 use Rattle.pg_session.proofs.Crossing.Chain.{StoodIn}
 use Rattle.pg_session.proofs.LivesReached.{book_in, state_of}
@@ -172,7 +171,9 @@ none-kept call settings opening first scripts s l t m before after means asked d
     let goes = q.polled.turns.goes in
     let settled = (went-quietly (fresh s.streams) (left_open t.streams) l m goes.events q.unmoved q.not_full goes.ended (λ closing. goes.passes.still_closing closing)).settled (keeps.steady steady) in
     let st = state_of q.reached in
-    let out = quiet-out st goes.events goes.calls (none-moved q.hub t.hub s.streams t.streams l m _ false q.polled q.unmoved) (goes.became.stands st q.before).0 settled.none_left settled.not_over in
+    let tame = tame-in st t.hub q.reached.fits asks.hub.tame in
+    let now = after_all (start 0 0) h.events in
+    let out = quiet-out st goes.events tame.ended goes.calls (none-moved q.hub t.hub s.streams t.streams l m _ false q.polled q.unmoved) (goes.became.stands st q.before).0 settled.none_left settled.not_over in
     let many = all-asked scripts t st q.stands q.quiet (subst (λ (x : List (List told.Command)). All (λ script. All (λ command. IsTrue (is_plain command)) script) x) asked plain) in
     let units = units-are call settings opening first t l m goes.events done h asks settled in
     let all : AllSent call h.taken =
@@ -181,9 +182,11 @@ none-kept call settings opening first scripts s l t m before after means asked d
       many,
       units,
       dropped (length st.gone_out) (wire st.book) out.parts,
-      wire-counted st.book q.reached.fits.in_order.one_part,
-      q.reached.fits.gone_out,
-      h.fits.gone_out,
+      asks-wire st.book tame.asks,
+      asks-out st q.reached.fits.in_order tame.asks,
+      q.reached.fits.parts.started,
+      asks-out now h.fits.in_order (tame-in now t.hub h.fits asks.hub.tame).asks,
+      h.fits.parts.started,
       ap length q.reached.fits.book,
       length-map t.hub.book booking_of,
       ap (λ (x : List (List told.Command)). count_by (λ script. nat_lt 0 (length script)) x) asked,

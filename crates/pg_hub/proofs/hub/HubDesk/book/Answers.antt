@@ -1,11 +1,11 @@
-use Rattle.std.proofs.Common.{◌≡◌, ◌++◌, [], ◌∷◌, refl, sym, subst, ◌∙◌, ap, arith}
+use Rattle.std.proofs.Common.{◌≡◌, ◌++◌, ◌+◌, [], ◌∷◌, ℕ, length, refl, sym, subst, ◌∙◌, ap, arith}
 use Rattle.std.proofs.lemmas.Grind.{common_steps}
 use Rattle.pg_hub.specs.declared.mailbox.Mailbox.TheVariants.{Empty}
-use Rattle.pg_hub.specs.Standing.{Standing, standing}
+use Rattle.pg_hub.specs.Standing.{Standing, StandsOut, standing}
 use Rattle.pg_hub.specs.Fits.{Fits}
 use Rattle.pg_hub.specs.Waiting.{undelivered_in, undelivered_of}
 use Rattle.pg_hub.proofs.Mailing.{count-more}
-use Rattle.pg_hub.proofs.Simulation.{booked, neither}
+use Rattle.pg_hub.proofs.Simulation.{booked, neither, stands-booked}
 use Rattle.pg_hub.proofs.hub.HubDesk.book.Goals as goal
 
 pub returns-clause-event : goal.returns-clause-event
@@ -14,12 +14,26 @@ returns-clause-event c = record {
       let g : Fits s (standing c.self.inside) = subst (λ (h : Standing). Fits s h) (sym c.self.view_is) f in
       let book : c.push.new.self ≡ c.self.inside.book ++ record { stamp = c.args.stamp; parts = c.args.part ∷ [] } ∷ [] = grind (arith, common_steps) in
       let mail : c.push_reserved.new.self.items ≡ c.self.inside.mail.items ++ Empty ∷ [] = grind (arith, common_steps) in
-      let out : c.push_back.new.self.items ≡ c.self.inside.outgoing.items ++ c.args.part ∷ [] = grind (arith, common_steps) in (
+      let out : c.push_reserved-2.new.self.items ≡ c.self.inside.outgoing.items ++ record { parts = c.args.part ∷ []; copying = c.args.copying } ∷ [] = grind (arith, common_steps) in
+      let unsent : c.in-Some.unsent ≡ c.self.inside.unsent + (length c.args.part + 1) = c.in-Some.ensures in (
         ((neither s.closed s.failed (sym g.closed ∙ c.if-self.false) (sym g.failed ∙ c.if-self-2.false), grind (arith, common_steps, g)), tt, tt),
-        booked s (standing c.self.inside) c.args.stamp c.args.part c.args.copying _ _ _ g book mail out,
+        booked s (standing c.self.inside) c.args.stamp c.args.part c.args.copying _ _ _ _ g book mail out unsent,
       );
   touched = λ s f. refl;
 }
+
+pub invariant_of-self-2 : goal.invariant_of-self-2
+invariant_of-self-2 c =
+    let v = c.self.invariant in
+    let book : length c.push.new.self ≡ length c.self.inside.book + 1 = grind (arith, common_steps) in
+    let mail : length c.push_reserved.new.self.items ≡ length c.self.inside.mail.items + 1 = grind (arith, common_steps) in
+    let out : c.push_reserved-2.new.self.items ≡ c.self.inside.outgoing.items ++ record { parts = c.args.part ∷ []; copying = c.args.copying } ∷ [] = grind (arith, common_steps) in
+    record {
+      mail = omega (arith, v.mail, mail, book);
+      out = subst (λ (n : ℕ). StandsOut n c.push_reserved-2.new.self.items c.in-Some.unsent c.self.inside.whole c.self.inside.started) (sym book)
+          (stands-booked (length c.self.inside.book) c.self.inside.outgoing.items _ c.self.inside.unsent _ c.self.inside.whole c.self.inside.started c.args.part c.args.copying v.out out c.in-Some.ensures);
+      finished = v.finished;
+    }
 
 pub returns-clause-count : goal.returns-clause-count
 returns-clause-count c =

@@ -16,7 +16,7 @@ use Rattle.pg_hub.proofs.hub.HubEngine.deliver.Goals as goal
 use Rattle.pg_hub.proofs.hub.HubEngine.deliver.Goals.{then-complete, else-complete}
 
 -- the hub where the batch has been put, and the group ended or not
-step : (c : goal.Joined-complete) (s : State) (finished' : ℕ) → Fits s c.args.self.now → finished' ≡ (if c.args.complete then 1 else 0) + c.self.inside.finished → finished' ≤ c.self.inside.gone_out →
+step : (c : goal.Joined-complete) (s : State) (finished' : ℕ) → Fits s c.args.self.now → finished' ≡ (if c.args.complete then 1 else 0) + c.self.inside.finished → finished' ≤ c.self.inside.started →
     (Allows s (call.Deliver c.args.batch c.args.complete delivering.Taken) × Unit {0} × Unit {0})
     × Fits (after s (call.Deliver c.args.batch c.args.complete delivering.Taken))
     (record (standing c.self.inside) { mail = (with_items c.self.inside.mail c.put_at.new.mail).items; finished = finished'; touched = true })
@@ -45,7 +45,7 @@ pub returns-then-self-clause-event : goal.returns-then-self-clause-event
 returns-then-self-clause-event c = record {
   stands = λ s f.
       let g : Fits s (standing c.self.inside) = subst (λ (h : Standing). Fits s h) (sym c.self.view_is) f in
-      (((refl, open-is s (standing c.self.inside) g ∙ not-less c.self.inside.finished c.self.inside.gone_out c.if-self.true), tt, tt), f);
+      (((refl, open-is s (standing c.self.inside) g ∙ not-less c.self.inside.finished c.self.inside.started c.if-self.true), tt, tt), f);
   touched = λ s f. refl;
 }
   where
@@ -61,7 +61,7 @@ returns-in-Some-clause-event c = record {
       let mail : (with_items c.self.inside.mail c.put_at.new.mail).items ≡ c.self.inside.mail.items =
       with_items_is c.self.inside.mail c.put_at.new.mail (ap length (back.1 ∙ c.deref_mut.ensures.value) ∙ grind (arith, common_steps)) ∙ back.1 ∙ c.deref_mut.ensures.value in (
         (full s (standing c.self.inside) c.args.batch c.args.complete c.in-Some.back g c.if-self.false back.0 none, tt, tt),
-        refits s (standing c.self.inside) (with_items c.self.inside.mail c.put_at.new.mail).items c.self.inside.outgoing.items g mail refl,
+        refits s (standing c.self.inside) (with_items c.self.inside.mail c.put_at.new.mail).items g mail,
       );
   touched = λ s f. ap (λ (h : Standing). h.touched) c.self.view_is;
 }

@@ -1,0 +1,36 @@
+-- What of each request hasn't gone out.
+use Rattle.std.specs.Prelude.{ℕ, suc, ◌+◌, ◌-◌, List, [], ◌∷◌, length, drop, Bool, false, ◌&&◌, not, if◌then◌else◌, get_or, nat_lt}
+use Rattle.pg_desk.specs.declared.event.Booking.{Booking}
+use Rattle.pg_desk.specs.History.{first_flag, rest_flags}
+
+-- the parts that wait, and whether it is a copy that isn't ended
+pub record Rest : Type 0 where
+  pub parts : List (List ℕ)
+  pub copying : Bool
+
+-- what of request k hasn't gone out
+abbrev pub rest_at : List Rest → ℕ → Rest
+rest_at outgoing k = get_or outgoing k (record { parts = []; copying = false })
+
+-- what of each request hasn't gone out, where n parts went out
+abbrev pub rests : ℕ → List Booking → List Bool → List Rest
+rests n [] cs = []
+rests n (b ∷ bs) cs = record { parts = drop n b.parts; copying = first_flag cs } ∷ rests (n - length b.parts) bs (rest_flags cs)
+
+-- whether a request has gone out whole, and how many have
+abbrev pub is_whole : ℕ → Booking → Bool → Bool
+is_whole n b c = not c && not (nat_lt n (length b.parts))
+
+abbrev pub whole_of : ℕ → List Booking → List Bool → ℕ
+whole_of n [] cs = 0
+whole_of n (b ∷ bs) cs = if is_whole n b (first_flag cs) then suc (whole_of (n - length b.parts) bs (rest_flags cs)) else 0
+
+-- what parts weigh: their bytes, and one more for each, so that a part of no bytes counts too
+abbrev pub weight_of : List (List ℕ) → ℕ
+weight_of [] = 0
+weight_of (part ∷ parts) = length part + 1 + weight_of parts
+
+-- what all parts that wait weigh
+abbrev pub weight_in : List Rest → ℕ
+weight_in [] = 0
+weight_in (r ∷ rs) = weight_of r.parts + weight_in rs
