@@ -101,6 +101,13 @@ impl Hub {
         book
     }
 
+    /// The bytes of the parts that haven't gone out, and one more for each part.
+    pub fn unsent(&self) -> u64
+        ensures { result ≡ self.now.unsent }
+    {
+        self.unsent
+    }
+
     /// A part more in the book of one of the bookings. Where it isn't shown for want of memory, nothing
     /// changes.
     fn shows(&mut self, alloc: Global, place: usize, part: &Bytes) -> bool
