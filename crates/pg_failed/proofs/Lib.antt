@@ -1,3 +1,3 @@
-mod SentOrder
-mod NoFlush
-mod Kept
+pub mod SentOrder
+pub mod NoFlush
+pub mod Kept

@@ -106,7 +106,7 @@ caused call _ none h = h
 -- ---- the frames that give the turn
 
 -- as many as turns
-flushes-many : (t : List ℕ) → length (flushes t) ≡ turns_given t
+pub flushes-many : (t : List ℕ) → length (flushes t) ≡ turns_given t
 flushes-many t = by (asked_for_tls t) (after_startup_frame t)
   where
     count : (ms : List RawMessage) → length (map is_flush (filter gives_turn ms)) ≡ count_by gives_turn ms
@@ -125,10 +125,10 @@ flushes-many t = by (asked_for_tls t) (after_startup_frame t)
     by true (Some rest) = omega (arith, count (messages rest))
     by false (Some rest) = omega (arith, count (messages rest))
 
-abbrev NoneIs : List Bool → Type 0
+abbrev pub NoneIs : List Bool → Type 0
 NoneIs fs = AllByRecursion (λ f. f ≡ false) fs
 
-flushes-none : (t : List ℕ) → has_flush t ≡ false → NoneIs (flushes t)
+pub flushes-none : (t : List ℕ) → has_flush t ≡ false → NoneIs (flushes t)
 flushes-none t none = by (asked_for_tls t) (after_startup_frame t) none
   where
     mapped : (ms : List RawMessage) → list_any is_flush ms ≡ false → NoneIs (map is_flush ms)

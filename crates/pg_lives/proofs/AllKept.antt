@@ -24,9 +24,9 @@ use Rattle.pg_core.specs.Trails.{said_booking}
 use Rattle.pg_core.proofs.Counts.{came-by}
 use Rattle.pg_core.proofs.Owned.{others-questions, others-requests-apart}
 use Rattle.pg_core.proofs.Steps.{firm, reached-on}
-use Rattle.pg_session.proofs.LivesLists.{set-here, set-there}
-use Rattle.pg_lives.specs.Speeches.{Speech}
-use Rattle.pg_lives.specs.Handles.{HandleState}
+use Rattle.pg_turns.proofs.Lists.{set-here, set-there}
+use Rattle.pg_turns.specs.Speeches.{Speech}
+use Rattle.pg_turns.specs.Handles.{HandleState}
 use Rattle.pg_lives.specs.Kept.{AllKept, AreKnown, Does, HandleKept, NoneFrom, Now, Past, Runs, book_of, free_of}
 use Rattle.pg_lives.proofs.Alone.{is-booked}
 use Rattle.pg_lives.proofs.AskedFirst.{asked-first}

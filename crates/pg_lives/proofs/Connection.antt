@@ -23,16 +23,16 @@ use Rattle.pg_query.specs.declared.desk_call.DeskCall.{DeskCall}
 use Rattle.pg_query.specs.declared.desk_call.Reply.{Reply}
 use Rattle.pg_course.specs.Courses.{Asked, Course}
 use Rattle.pg_core.specs.Lists.{events_of}
-use Rattle.pg_session.proofs.LivesCame.{counted-last}
-use Rattle.pg_session.proofs.LivesHub.{SameBook, engine-all, no-more-closed}
-use Rattle.pg_session.proofs.LivesTakes.{engine-received}
-use Rattle.pg_session.specs.Lives.{calls_in_poll}
-use Rattle.pg_session.specs.Turns.{HandsOn}
-use Rattle.pg_session.proofs.LivesLists.{one-more}
-use Rattle.pg_lives.specs.Speeches.{Speech}
-use Rattle.pg_lives.specs.Handles.{HandleState}
-use Rattle.pg_lives.specs.States.{SessionState}
-use Rattle.pg_lives.specs.Turns.{ConnectionMade}
+use Rattle.pg_turns.proofs.Came.{counted-last}
+use Rattle.pg_turns.proofs.Books.{SameBook, engine-all, no-more-closed}
+use Rattle.pg_turns.proofs.Takes.{engine-received}
+use Rattle.pg_turns.specs.Calls.{calls_in_poll}
+use Rattle.pg_turns.specs.Turns.{HandsOn}
+use Rattle.pg_turns.proofs.Lists.{one-more}
+use Rattle.pg_turns.specs.Speeches.{Speech}
+use Rattle.pg_turns.specs.Handles.{HandleState}
+use Rattle.pg_turns.specs.States.{SessionState}
+use Rattle.pg_turns.specs.Turns.{ConnectionMade}
 use Rattle.pg_lives.specs.Kept.{AllKept, NoneFrom}
 use Rattle.pg_lives.specs.SessionKept.{IsWithin, SessionKept, left}
 use Rattle.pg_lives.proofs.AllKept.{nobodys-keep}

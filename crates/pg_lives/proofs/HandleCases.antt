@@ -23,10 +23,10 @@ use Rattle.pg_core.specs.Lists.{events_of}
 use Rattle.pg_core.specs.Outcomes.{asked}
 use Rattle.pg_core.specs.Trails.{PollEnds, point_of, ran_by}
 use Rattle.pg_core.proofs.Polls.{IsPoll, answer-ends, pause-ends, poll-is, under_stamp}
-use Rattle.pg_session.proofs.LivesLists.{get-cases, one-more}
-use Rattle.pg_lives.specs.Speeches.{AreCommands, Speech}
-use Rattle.pg_lives.specs.Handles.{HandleState}
-use Rattle.pg_lives.specs.HandleTurns.{Answers, Idles, Waits}
+use Rattle.pg_turns.proofs.Lists.{get-cases, one-more}
+use Rattle.pg_turns.specs.Speeches.{AreCommands, Speech}
+use Rattle.pg_turns.specs.Handles.{HandleState}
+use Rattle.pg_turns.specs.HandleTurns.{Answers, Idles, Waits}
 use Rattle.pg_lives.specs.Kept.{Does, HandleKept, HasDone, Now, Past, Rests, book_of, first_at, free_of, states_of}
 use Rattle.pg_lives.proofs.HandleTurn.{IsTurnAt, Started, StateBecomes, TurnSo, answered-many, done-before, none-behind, polled-so, starts}
 use Rattle.pg_lives.proofs.Others.{done-on}

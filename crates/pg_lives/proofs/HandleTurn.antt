@@ -26,9 +26,9 @@ use Rattle.pg_core.proofs.Counts.{came-by}
 use Rattle.pg_core.proofs.Owned.{others-questions, others-requests-apart}
 use Rattle.pg_core.proofs.Steps.{firm}
 use Rattle.pg_core.proofs.Upright.{upright-begins}
-use Rattle.pg_lives.specs.Speeches.{AreCommands, Speech}
-use Rattle.pg_lives.specs.Handles.{HandleState}
-use Rattle.pg_lives.specs.HandleTurns.{AsksCommand, BeginsNext, StartsAt}
+use Rattle.pg_turns.specs.Speeches.{AreCommands, Speech}
+use Rattle.pg_turns.specs.Handles.{HandleState}
+use Rattle.pg_turns.specs.HandleTurns.{AsksCommand, BeginsNext, StartsAt}
 use Rattle.pg_lives.specs.Kept.{Does, HandleKept, HasDone, IsReady, Now, Past, Rests, Runs, book_of, first_at, free_of, states_of}
 use Rattle.pg_lives.proofs.Alone.{begin-spares, poll-spares}
 use Rattle.pg_lives.proofs.Others.{done-on}

@@ -17,9 +17,9 @@ use Rattle.pg_course.specs.Courses.{Course}
 use Rattle.pg_core.specs.Lists.{SparesAll, events_of}
 use Rattle.pg_core.specs.Times.{HangsUpNone}
 use Rattle.pg_core.proofs.Polls.{under_stamp}
-use Rattle.pg_lives.specs.Speeches.{Speech}
-use Rattle.pg_lives.specs.Handles.{HandleState}
-use Rattle.pg_lives.specs.HandleTurns.{Answers, Waits}
+use Rattle.pg_turns.specs.Speeches.{Speech}
+use Rattle.pg_turns.specs.Handles.{HandleState}
+use Rattle.pg_turns.specs.HandleTurns.{Answers, Waits}
 use Rattle.pg_lives.specs.Kept.{NoneFrom, Now}
 use Rattle.pg_lives.proofs.AllKept.{AreNobodys}
 use Rattle.pg_lives.proofs.HandleTurn.{StateBecomes}

@@ -11,7 +11,7 @@ use Rattle.pg_query.specs.declared.desk_call.Reply.{Reply}
 use Rattle.pg_course.specs.Courses.{Asked, Request, Who}
 use Rattle.pg_course.specs.Meanings.{AreTold, booked_in}
 use Rattle.pg_core.specs.Trails.{AreNumbered, AreToldIn}
-use Rattle.pg_session.proofs.Order.Traces.{in_front}
+use Rattle.pg_turns.proofs.Order.Traces.{in_front}
 use Rattle.pg_lives.specs.Kept.{AreKnown}
 
 module _ {C X : Type 0} (scripts : List (List C)) (owner command turn : X → ℕ) where

@@ -1,9 +1,9 @@
 -- How many commands are left, as they are answered.
 use Rattle.std.proofs.Common.{◌≡◌, ℕ, zero, suc, ◌+◌, ◌-◌, ◌≤◌, List, [], ◌∷◌, length, set, Some, refl, ap, arith, slice_get}
 use Rattle.std.proofs.lemmas.List.Sums.{sum_by-cons}
-use Rattle.pg_lives.specs.Handles.{HandleState}
+use Rattle.pg_turns.specs.Handles.{HandleState}
 use Rattle.pg_lives.specs.SessionKept.{left}
-use Rattle.pg_lives.specs.States.{commands_in, new_handles}
+use Rattle.pg_turns.specs.States.{commands_in, new_handles}
 
 pub left-new : {C E : Type 0} (T A : Type 0) (begins : E) (scripts : List (List C)) → left scripts (new_handles {C = C} {T = T} {A = A} {E = E} begins scripts) ≡ commands_in scripts
 left-new T A begins [] = refl

@@ -15,11 +15,5 @@ pub mod Left
 pub mod Hubs
 pub mod Session
 pub mod Connection
-pub mod Order
 pub mod Played
 pub mod Ran
-pub mod SimpleMeans
-pub mod SimplePlayed
-pub mod SimpleRan
-pub mod Renamed
-pub mod Headlines

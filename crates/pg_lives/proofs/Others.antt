@@ -13,8 +13,8 @@ use Rattle.pg_course.specs.Courses.{Asked, Course, Request, Unfolds, Who, begun_
 use Rattle.pg_core.specs.Lists.{SparesAll, events_of}
 use Rattle.pg_core.specs.Times.{HangsUpNone, IsUpright}
 use Rattle.pg_core.proofs.Upright.{upright-others}
-use Rattle.pg_lives.specs.Speeches.{Speech, meaning_of}
-use Rattle.pg_lives.specs.Handles.{HandleState}
+use Rattle.pg_turns.specs.Speeches.{Speech, meaning_of}
+use Rattle.pg_turns.specs.Handles.{HandleState}
 use Rattle.pg_lives.specs.Kept.{Does, HandleKept, HasDone, IsUnderWay, NoneFrom, Now, Past, book_of, free_of, states_of}
 
 -- What others did, as a handle sees it: no turn of it was made, and nothing was booked or asked in its name.

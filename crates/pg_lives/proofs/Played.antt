@@ -15,12 +15,13 @@ use Rattle.pg_query.specs.declared.desk_call.DeskCall.{DeskCall}
 use Rattle.pg_query.specs.declared.desk_call.Reply.{Reply}
 use Rattle.pg_course.specs.Courses.{Asked, Course}
 use Rattle.pg_core.proofs.Steps.{reached-start}
-use Rattle.pg_session.specs.Turns.{Closes}
-use Rattle.pg_lives.specs.Speeches.{AreCommands, Speech}
-use Rattle.pg_lives.specs.Handles.{HandleState, idle_handle}
-use Rattle.pg_lives.specs.States.{SessionState, commands_in, new_handles}
-use Rattle.pg_lives.specs.Turns.{Makes}
-use Rattle.pg_lives.specs.Sessions.{IsNewSession, MakesAll, Plays, asked_in_all, asked_in_turn, asked_of, calls_in, calls_in_turn, calls_of}
+use Rattle.pg_turns.specs.Turns.{Closes}
+use Rattle.pg_turns.specs.Speeches.{AreCommands, Speech}
+use Rattle.pg_turns.specs.Handles.{HandleState, idle_handle}
+use Rattle.pg_turns.specs.States.{SessionState, commands_in, new_handles}
+use Rattle.pg_turns.specs.Turns.{Makes}
+use Rattle.pg_turns.specs.Sessions.{IsNewSession, MakesAll, Plays}
+use Rattle.pg_turns.specs.Calls.{asked_in_all, asked_in_turn, asked_of, calls_in, calls_in_turn, calls_of}
 use Rattle.pg_lives.specs.Kept.{AllKept, HandleKept, Past}
 use Rattle.pg_lives.specs.SessionKept.{IsWithin, SessionKept, left}
 use Rattle.pg_lives.proofs.AllKept.{nobodys-keep}
@@ -28,7 +29,7 @@ use Rattle.pg_lives.proofs.Connection.{connection-keeps, over-closing}
 use Rattle.pg_lives.proofs.Hubs.{becomes, closing-nobodys, nobodys}
 use Rattle.pg_lives.proofs.Known.{none-known}
 use Rattle.pg_lives.proofs.Left.{left-new}
-use Rattle.pg_lives.proofs.Session.{handle-keeps}
+use Rattle.pg_lives.proofs.Session.{front-short, handle-keeps}
 
 front-then : {A : Type 0} (xs ys zs : List A) → IsFrontOf xs ys → IsFrontOf ys zs → IsFrontOf xs zs
 front-then {A} xs ys zs (more, e) (rest, f) = (more ++ rest, sym (append_assoc xs more rest) ∙ ap (λ (l : List A). l ++ rest) e ∙ f)
@@ -59,7 +60,7 @@ front-first : (came now more whole : List RawMessage) → IsFrontOf ((came ++ no
 front-first came now more whole h = front-then came ((came ++ now) ++ more) whole (now ++ more, sym (append_assoc came now more)) h
 
 within-before : (course : Course DeskCall Reply) (later : List RawMessage) (trace whole : List TurnMark) (came all : List RawMessage) → IsFrontOf trace whole → IsFrontOf came all → IsWithin course later whole all → IsWithin course later trace came
-within-before course later trace whole came all f g w = record { turns = front-then trace whole course.trace f w.turns; front = front-then came all (sync_of later) g w.front; replies = w.replies; small = w.small }
+within-before course later trace whole came all f g w = record { turns = front-then trace whole course.trace f w.turns; front = front-then came all (sync_of later) g w.front; replies = w.replies; small = (let a = front-short came all g in let b = w.small in omega (arith, a, b)) }
 
 pub turns-keep : {C T A E : Type 0} (speech : Speech C T A E) (scripts : List (List C)) (course : Course DeskCall Reply) (later : List RawMessage) (asked : List (Asked DeskCall Reply)) (came : List RawMessage) (turns : List ℕ) (s : SessionState T A E) (l : LinkView) (t : SessionState T A E) (m : LinkView) → AreCommands speech →
     (made : MakesAll speech scripts turns s l t m) → IsWithin course later t.trace (came ++ delivered_by (calls_in speech scripts turns s l t m made)) → SessionKept speech scripts course asked came s →

@@ -16,16 +16,17 @@ use Rattle.pg_query.specs.declared.desk_call.Reply.{Reply}
 use Rattle.pg_course.specs.Courses.{Asked, Course, Unfolds, begun_in, nowhere, questions_of, requests_of}
 use Rattle.pg_course.specs.Meanings.{Did, EachCommand, HasRun, booked_in}
 use Rattle.pg_core.specs.Trails.{said_booking}
-use Rattle.pg_lives.specs.Speeches.{AreCommands, Speech, meaning_of}
-use Rattle.pg_lives.specs.Handles.{HandleState}
-use Rattle.pg_lives.specs.States.{SessionState}
-use Rattle.pg_lives.specs.Sessions.{IsNewSession, Plays, asked_of, calls_of}
+use Rattle.pg_turns.specs.Speeches.{AreCommands, Speech, meaning_of}
+use Rattle.pg_turns.specs.Handles.{HandleState}
+use Rattle.pg_turns.specs.States.{SessionState}
+use Rattle.pg_turns.specs.Sessions.{IsNewSession, Plays}
+use Rattle.pg_turns.specs.Calls.{asked_of, calls_of}
 use Rattle.pg_lives.specs.Kept.{HandleKept, Past, book_of, free_of, states_of}
 use Rattle.pg_lives.proofs.Left.{left-at}
-use Rattle.pg_lives.proofs.Order.{turns-in-order}
+use Rattle.pg_turns.proofs.Order.Holds.{turns_are_in_order}
 use Rattle.pg_lives.proofs.Played.{SessionEnds, session-ends}
 use Rattle.pg_lives.proofs.Rows.{get-within, places-below}
-use Rattle.pg_lives.proofs.Session.{now_of, past-there}
+use Rattle.pg_lives.proofs.Session.{front-short, now_of, past-there}
 
 -- ---- rows of rows
 
@@ -178,4 +179,4 @@ pub session-has-run : {C T A E : Type 0} (speech : Speech C T A E) → AreComman
 session-has-run speech commands scripts given s l t m new active none plays later front small =
     ran speech scripts given (groups later) (asked_of speech scripts given s l t m plays) (delivered_by (calls_of speech scripts given s l t m plays)) t
     (session-ends speech scripts given (course_at t (groups later) (asked_of speech scripts given s l t m plays)) later s l t m commands new active none plays
-    (record { turns = ([], append-nil t.trace); front = front; replies = refl; small = small })) (turns-in-order speech scripts given s l t m new none plays)
+    (record { turns = ([], append-nil t.trace); front = front; replies = refl; small = (let a = front-short (delivered_by (calls_of speech scripts given s l t m plays)) (sync_of later) front in omega (arith, a, small)) })) (turns_are_in_order speech scripts given s t l m new none plays)

@@ -1,7 +1,7 @@
 -- Rows of commands that answered, as they grow.
 use Rattle.std.proofs.Common.{◌≡◌, ℕ, zero, suc, ◌+◌, ◌<◌, ◌≤◌, List, [], ◌∷◌, ◌++◌, length, Option, Some, option_map, unwrap_or, refl, sym, ap, ◌∙◌, arith, slice_get}
 use Rattle.std.proofs.lemmas.Option.{slice_get-map}
-use Rattle.pg_session.proofs.LivesLists.{get-before, get-last}
+use Rattle.pg_turns.proofs.Lists.{get-before, get-last}
 use Rattle.pg_lives.specs.Kept.{Past, free_of, states_of}
 
 pub get-within : {X : Type 0} (xs : List X) (i : ℕ) (x : X) → slice_get xs i ≡ Some x → i < length xs

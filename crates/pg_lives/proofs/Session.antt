@@ -18,17 +18,17 @@ use Rattle.pg_query.specs.declared.desk_call.Reply.{Reply}
 use Rattle.pg_course.specs.Courses.{Asked, Course}
 use Rattle.pg_core.specs.Deeds.{asked_in}
 use Rattle.pg_core.specs.Lists.{events_of}
-use Rattle.pg_session.proofs.LivesCame.{counted-last}
-use Rattle.pg_session.specs.Turns.{Closes, ClosesBehind, left_behind, untouched}
-use Rattle.pg_session.specs.declared.handle_turn.Polling.{Polling}
-use Rattle.pg_session.specs.declared.handle_turn.Polling.TheVariants as polling
-use Rattle.pg_session.proofs.LivesLists.{get-last, one-more}
-use Rattle.pg_session.proofs.Order.Traces.{in_front}
-use Rattle.pg_lives.specs.Speeches.{AreCommands, Speech}
-use Rattle.pg_lives.specs.Handles.{HandleState}
-use Rattle.pg_lives.specs.States.{SessionState}
-use Rattle.pg_lives.specs.Turns.{HandleMade, HandleTurns}
-use Rattle.pg_lives.specs.Sessions.{deeds_in_handle}
+use Rattle.pg_turns.proofs.Came.{counted-last}
+use Rattle.pg_turns.specs.Turns.{Closes, ClosesBehind, left_behind, untouched}
+use Rattle.pg_turns.specs.declared.handle_turn.Polling.{Polling}
+use Rattle.pg_turns.specs.declared.handle_turn.Polling.TheVariants as polling
+use Rattle.pg_turns.proofs.Lists.{get-last, one-more}
+use Rattle.pg_turns.proofs.Order.Traces.{in_front}
+use Rattle.pg_turns.specs.Speeches.{AreCommands, Speech}
+use Rattle.pg_turns.specs.Handles.{HandleState}
+use Rattle.pg_turns.specs.States.{SessionState}
+use Rattle.pg_turns.specs.Turns.{HandleMade, HandleTurns}
+use Rattle.pg_turns.specs.Calls.{deeds_in_handle}
 use Rattle.pg_lives.specs.Kept.{AllKept, HandleKept, Now, Past}
 use Rattle.pg_lives.specs.SessionKept.{IsWithin, SessionKept, left}
 use Rattle.pg_lives.proofs.AllKept.{nobodys-keep, turn-keeps}
@@ -207,7 +207,7 @@ handle-keeps {C} {T} {A} {E} speech scripts course later asked came i s t did co
     here = subst (λ (tr : List TurnMark). IsFrontOf tr course.trace) made.trace within.turns
 
     short : length came < 2 ^ 64
-    short = let a = front-short came (sync_of later) within.front in let b = within.small in omega (arith, a, b)
+    short = within.small
 
     open_ : length past.0 < length made.script → s.hub.closed ≡ false
     open_ lt = false-unless s.hub.closed (λ e.

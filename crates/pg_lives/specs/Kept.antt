@@ -16,8 +16,8 @@ use Rattle.pg_core.specs.Counters.{Counts, tells}
 use Rattle.pg_core.specs.Lists.{IsReached}
 use Rattle.pg_core.specs.Times.{IsUpright}
 use Rattle.pg_core.specs.Trails.{Moment, AreTurnsOf, begun_at, ran_by, said_booking}
-use Rattle.pg_lives.specs.Speeches.{Speech, meaning_of}
-use Rattle.pg_lives.specs.Handles.{HandleState}
+use Rattle.pg_turns.specs.Speeches.{Speech, meaning_of}
+use Rattle.pg_turns.specs.Handles.{HandleState}
 
 -- what stands of a session: so many turns were made, this was asked of its desk, and this is the state of its hub
 pub record Now : Type 0 where

@@ -1,10 +1,2 @@
-pub mod Speeches
-pub mod Handles
-pub mod States
-pub mod HandleTurns
-pub mod Turns
-pub mod Sessions
 pub mod Kept
 pub mod SessionKept
-pub mod SimpleSessions
-pub mod Headlines

@@ -10,9 +10,9 @@ use Rattle.pg_hub.specs.Fits.{Fits}
 use Rattle.pg_query.specs.declared.desk_call.DeskCall.{DeskCall}
 use Rattle.pg_query.specs.declared.desk_call.Reply.{Reply}
 use Rattle.pg_course.specs.Courses.{Asked, Course}
-use Rattle.pg_lives.specs.Speeches.{Speech}
-use Rattle.pg_lives.specs.Handles.{HandleState}
-use Rattle.pg_lives.specs.States.{SessionState}
+use Rattle.pg_turns.specs.Speeches.{Speech}
+use Rattle.pg_turns.specs.Handles.{HandleState}
+use Rattle.pg_turns.specs.States.{SessionState}
 use Rattle.pg_lives.specs.Kept.{AllKept}
 
 -- How many commands are left of scripts, where these handles answered so many.
@@ -21,12 +21,12 @@ left [] handles = 0
 left (script ∷ scripts) [] = 0
 left (script ∷ scripts) (h ∷ handles) = (length script - length h.answers) + left scripts handles
 
--- What the turns so far are in the whole session: a front of its trace, and what came is a front of all that came.
+-- What the turns so far are in the whole session: a front of its trace, and what came is a front of all that came, and is counted by 64 bits.
 pub record IsWithin (course : Course DeskCall Reply) (later : List RawMessage) (trace : List TurnMark) (came : List RawMessage) : Type 0 where
   pub turns : IsFrontOf trace course.trace
   pub front : IsFrontOf came (sync_of later)
   pub replies : course.replies ≡ groups later
-  pub small : length (sync_of later) < 2 ^ 64
+  pub small : length came < 2 ^ 64
 
 -- What holds of a session between two turns, where this was asked so far and these messages came.
 pub record SessionKept {C T A E : Type 0} (speech : Speech C T A E) (scripts : List (List C)) (course : Course DeskCall Reply) (asked : List (Asked DeskCall Reply)) (came : List RawMessage) (s : SessionState T A E) : Type 0 where

@@ -2,6 +2,7 @@
 pub mod Bytes
 pub mod Groups
 pub mod Start
+pub mod Answered
 pub mod Course
 use Rattle.std.proofs.Common.{◌≡◌, ◌⊎◌, ◌<◌, ◌≤◌, ◌+◌, ◌-◌, ℕ, zero, suc, List, [], ◌∷◌, ◌++◌, length, take, drop, Bool, true, false, not, ◌||◌, Option, Some, None, Result, Ok, Err, inl, inr, refl, sym, ap, subst, ◌∙◌, append_assoc, append-nil, arith}
 use Rattle.std.specs.Prelude.{IfSome, IsSome, IsTrue, IsOk, count_by, is_none, slice_get}
@@ -19,7 +20,7 @@ use Rattle.pg_spec.specs.Faults.{FrameFault, WireFault, Failure}
 use Rattle.pg_spec.specs.Faults as faults
 use Rattle.pg_spec.specs.Links.{Plan, added, due_by}
 use Rattle.pg_spec.specs.Messages.{Message}
-use Rattle.pg_promises.specs.Promises.{IsValid, Conforms, EndsWell, IsOneReply}
+use Rattle.pg_promises.specs.Promises.{AnswersStartup, IsValid, Conforms, EndsWell, IsOneReply}
 use Rattle.pg_promises.proofs.Strings.{means_one, no_fault}
 use Rattle.pg_spec.specs.RawMessages.{RawMessage, messages, bytes_left, has_bad_header, groups, is_async, is_parameter, is_whole_group}
 use Rattle.pg_spec.specs.Sent.{turns_given}
@@ -32,7 +33,7 @@ use Rattle.pg_session.proofs.Complete.Groups.{AreReplies, IsAside, are-replies, 
 use Rattle.pg_session.proofs.Complete.Start.{done-later, front-startup, never-refused, same-later, used-within}
 use Rattle.pg_session.proofs.Opening.Passwords.{dialogue-passwords}
 use Rattle.pg_session.proofs.Opening.Turns.{opening-turns}
-use Rattle.pg_session.proofs.SentSoFar.TurnsCounted.{front-all}
+use Rattle.pg_session.proofs.SentSoFar.Whole.{front-all}
 
 -- one of two numbers is no less
 le_or_lt : (m n : ℕ) → (m ≤ n) ⊎ (n < m)
@@ -53,8 +54,20 @@ none-user : (o : Option (List ℕ)) → o ≡ None → IsSome o → ⊥
 none-user None none some = absurd cc
 none-user (Some user) none some = cc
 
+-- The plan answers the startup, and each request that was sent.
+pub record IsAnswered (call : Call) (s : Settings) (plan : Plan) (t : List ℕ) : Type 0 where
+  pub opens : AnswersStartup call s plan
+  pub few : turns_given t - opens.frames ≤ length plan.entries - opens.frames
+  pub replies : AllByRecursion IsOneReply (drop opens.frames (take (turns_given t) plan.entries))
+
+-- as one that conforms does
+pub is-answered : (call : Call) (s : Settings) (plan : Plan) (t : List ℕ) → Conforms call s plan t → IsAnswered call s plan t
+is-answered call s plan t c =
+    let few = c.later.entries in
+    record { opens = c.opens; few = omega (arith, few); replies = recursion_from_All IsOneReply (drop c.opens.frames (take (turns_given t) plan.entries)) c.later.replies }
+
 module _ (call : Call) (settings : Settings) (plan : Plan) (g t : List ℕ) (means : Means call.config settings)
-    (v : IsValid call settings plan) (c : Conforms call settings plan t) (k : HoldsCourse call settings plan g t) where
+    (v : IsValid call settings plan) (c : IsAnswered call settings plan t) (k : HoldsCourse call settings plan g t) where
   abbrev entries : List (List ℕ)
   entries = plan.entries
 
@@ -189,12 +202,12 @@ module _ (call : Call) (settings : Settings) (plan : Plan) (g t : List ℕ) (mea
   count-replies =
       let a = length-drop many (take (turns_given t) entries) in
       let b = length-take (turns_given t) entries in
-      let few = c.later.entries in
+      let few = c.few in
       omega (arith, a, b, few)
 
   are-all : AreReplies (length replies) (messages (concat replies))
   are-all = are-replies replies (all-drop IsWhole many (take (turns_given t) entries) (all-take IsWhole (turns_given t) entries whole))
-      (recursion_from_All IsOneReply replies c.later.replies)
+      c.replies
 
   -- where not all turns of the startup were given, its entries begin with what may come
   first-split : turns_given t ≤ many → messages first ≡ messages come ++ messages (concat (drop (turns_given t) (take many entries)))

@@ -14,21 +14,15 @@ use Rattle.pg_startup.specs.Transfers.{IsWithinLimit}
 use Rattle.pg_startup.specs.declared.startup.Startup.{Startup}
 use Rattle.pg_connect.specs.declared.streams.Streams.{Streams}
 use Rattle.pg_connect.proofs.Joining.{grew_same}
-use Rattle.pg_text.specs.declared.command.Command.{Command}
-use Rattle.pg_text.specs.declared.report.Report.{Report}
+use Rattle.pg_headline.specs.Endings.{Report}
 use Rattle.pg_session.specs.Failures.{StopsOpening}
-use Rattle.pg_session.specs.Sessions.{HasPlayed}
-use Rattle.pg_session.specs.States.{SessionState}
+use Rattle.pg_turns.specs.Sessions.{HasPlayed}
+use Rattle.pg_turns.specs.States.{SessionState}
 use Rattle.pg_session.proofs.Crossing.Chain.{StoodIn}
 use Rattle.pg_session.proofs.Crossing.End.{finished}
 use Rattle.pg_session.proofs.Stalled.Start.{rests-so}
 use Rattle.pg_session.proofs.Caused.Start.{of_grown}
-
--- a session whose count is within its limit was given no more than that
-pub limit_kept : (opening : List ℕ) (first : List RawMessage) (base l : LinkView) (s : SessionState) (limit : ℕ) → StoodIn opening first base s l →
-    s.streams.given ≤ limit → OfBytes base l (λ g t. length g ≤ limit)
-limit_kept opening first base l s limit h within =
-    of_grown base l h.given h.taken (λ g t. length g ≤ limit) h.gave h.took (subst (λ (n : ℕ). n ≤ limit) h.count within)
+use Rattle.pg_turns.specs.Speeches.{Speech}
 
 -- what is told of the bytes by an error: no more than the limit, unless it speaks of that or memory lacked
 abbrev pub HoldsLimit : Call → Error → Type 0
@@ -85,9 +79,16 @@ holds-paused call s e given taken limit within count gave took =
     holds-by call e s.given (within-any e s.given call.limit (omega (arith, within, limit)))
     (λ less. of_grown call.before call.after given taken (λ g t. length g ≤ call.limit) gave took (omega (arith, less, count)))
 
--- where the session ended well
-pub holds-ended : (settings : Settings) (nonce : List ℕ) (scripts : List (List Command)) (given : List ℕ) (before after : LinkView) (report : Report) (limit : ℕ)
-    (p : HasPlayed settings nonce scripts given before after report) → p.startup.bytes.max_bytes ≡ limit → OfBytes before after (λ g t. length g ≤ limit)
-holds-ended settings nonce scripts given before after report limit p is =
-    limit_kept p.opening p.opened.read before after p.last limit (finished settings nonce scripts given before after report p).stood
-    (subst (λ (n : ℕ). p.last.streams.given ≤ n) is p.within)
+module _ {C T A E : Type 0} (speech : Speech C T A E) where
+  -- a session whose count is within its limit was given no more than that
+  pub limit_kept : (opening : List ℕ) (first : List RawMessage) (base l : LinkView) (s : SessionState T A E) (limit : ℕ) → StoodIn speech opening first base s l →
+      s.streams.given ≤ limit → OfBytes base l (λ g t. length g ≤ limit)
+  limit_kept opening first base l s limit h within =
+      of_grown base l h.given h.taken (λ g t. length g ≤ limit) h.gave h.took (subst (λ (n : ℕ). n ≤ limit) h.count within)
+
+  -- where the session ended well
+  pub holds-ended : (settings : Settings) (nonce : List ℕ) (scripts : List (List C)) (given : List ℕ) (before after : LinkView) (report : Report A) (limit : ℕ)
+      (p : HasPlayed speech settings nonce scripts given before after report) → p.startup.bytes.max_bytes ≡ limit → OfBytes before after (λ g t. length g ≤ limit)
+  holds-ended settings nonce scripts given before after report limit p is =
+      limit_kept p.opening p.opened.read before after p.last limit (finished speech settings nonce scripts given before after report p).stood
+      (subst (λ (n : ℕ). p.last.streams.given ≤ n) is p.within)

@@ -21,26 +21,27 @@ use Rattle.pg_errors.specs.declared.async_message.AsyncMessage.{AsyncMessage}
 use Rattle.pg_faults.specs.declared.error.Error.{Error}
 use Rattle.pg_hub.specs.Fits.{HubBecomes}
 use Rattle.pg_hub.specs.Standing.{Standing}
-use Rattle.pg_text.specs.declared.command.Command.{Command}
-use Rattle.pg_text.specs.declared.report.Report.{Report}
+use Rattle.pg_headline.specs.Endings.{Report}
 use Rattle.pg_wire.specs.declared.message.Message.{Message}
 use Rattle.std.specs.Prelude.{Result}
-use Rattle.pg_session.specs.Lives.{CameBehind, calls_in_poll, calls_in_turn, calls_in, calls_of}
-use Rattle.pg_session.specs.Sessions.{MakesAll, HasPlayed, Rests}
-use Rattle.pg_session.specs.States.{SessionState}
-use Rattle.pg_session.specs.Turns.{HandsOn, Makes}
+use Rattle.pg_session.specs.Lives.{CameBehind}
+use Rattle.pg_turns.specs.Calls.{calls_in_poll, calls_in_turn, calls_in, calls_of}
+use Rattle.pg_turns.specs.Sessions.{MakesAll, HasPlayed, Rests}
+use Rattle.pg_turns.specs.States.{SessionState}
+use Rattle.pg_turns.specs.Turns.{HandsOn, Makes}
+use Rattle.pg_turns.specs.Speeches.{Speech}
 
 -- what the link gave since the startup began was read, or lies there, and this was delivered of it
-record CameSo (first : List RawMessage) (base l : LinkView) (s : Streams) (all : List RawMessage) : Type 0 where
-  got : List ℕ
-  given : Grew base.given l.given got
-  count : s.given ≡ length got
-  passed : List RawMessage
-  lost : List RawMessage
-  came_off : messages got ≡ (first ++ passed) ++ (lost ++ messages s.buffer.items)
-  rest : bytes_left got ≡ bytes_left s.buffer.items
-  unread : IsUnread s.unread lost
-  delivered : sync_of passed ≡ all ++ waiting s.held
+pub record CameSo (first : List RawMessage) (base l : LinkView) (s : Streams) (all : List RawMessage) : Type 0 where
+  pub got : List ℕ
+  pub given : Grew base.given l.given got
+  pub count : s.given ≡ length got
+  pub passed : List RawMessage
+  pub lost : List RawMessage
+  pub came_off : messages got ≡ (first ++ passed) ++ (lost ++ messages s.buffer.items)
+  pub rest : bytes_left got ≡ bytes_left s.buffer.items
+  pub unread : IsUnread s.unread lost
+  pub delivered : sync_of passed ≡ all ++ waiting s.held
 
 came-passed : (first : List RawMessage) (base l m : LinkView) (s t : Streams) (all : List RawMessage) (es : List Event) (hs : List RawMessage) →
     CameSo first base l s all →
@@ -83,34 +84,8 @@ came-polled first base l m a b s t all (Ready None) p was now over hands is = ca
 came-polled first base l m a b s t all (Ready (Some (Ok message))) p was now over hands is = came-passed first base l m s t all p.turns.goes.events p.turns.handed is p.turns.goes.passes
 came-polled first base l m a b s t all (Ready (Some (Err e))) p was now over hands is = absurd hands
 
-came-turn : (first : List RawMessage) (base : LinkView) (all : List RawMessage) (scripts : List (List Command)) (turn : ℕ) (s t : SessionState)
-    (l m : LinkView) (over : Bool) → (made : Makes scripts turn s t l m over) →
-    CameSo first base l s.streams all → CameSo first base m t.streams (all ++ delivered_by (calls_in_turn scripts turn s t l m over made))
-came-turn first base all scripts turn s t l m over (inl handle) is =
-    subst (λ (ms : List RawMessage). CameSo first base m t.streams ms) (sym (append-nil all))
-    (subst (λ (x : LinkView). CameSo first base x t.streams all) (sym handle.link)
-    (subst (λ (x : Streams). CameSo first base l x all) (sym handle.made.streams) is))
-came-turn first base all scripts turn s t l m over (inr connection) is =
-    let made = connection.made in
-    came-polled first base l m s.hub t.hub s.streams t.streams all made.answer made.polled s.asynchronous t.asynchronous over made.hands is
-
-came-turns : (first : List RawMessage) (base : LinkView) (all : List RawMessage) (scripts : List (List Command)) (turns : List ℕ) (s : SessionState)
-    (l : LinkView) (t : SessionState) (m : LinkView) →
-    (made : MakesAll scripts turns s l t m) → CameSo first base l s.streams all →
-    CameSo first base m t.streams (all ++ delivered_by (calls_in scripts turns s l t m made))
-came-turns first base all scripts [] s l t m made is =
-    subst (λ (ms : List RawMessage). CameSo first base m t.streams ms) (sym (append-nil all))
-    (subst (λ (x : SessionState). CameSo first base m x.streams all) (sym made.0) (came-rested first base l m s.streams all made.1 is))
-came-turns first base all scripts (turn ∷ turns) s l t m (rested, mid, passed, rests, makes, more) is =
-    let now = calls_in_turn scripts turn s mid rested passed false makes in
-    let later = calls_in scripts turns mid passed t m more in
-    let one = came-turn first base all scripts turn s mid rested passed false makes (came-rested first base l rested s.streams all rests is) in
-    subst (λ (ms : List RawMessage). CameSo first base m t.streams ms)
-    (append_assoc all (delivered_by now) (delivered_by later) ∙ ap (λ (ms : List RawMessage). all ++ ms) (sym (delivered_by-append now later)))
-    (came-turns first base (all ++ delivered_by now) scripts turns mid passed t m more one)
-
 -- where the session begins
-came-first : (settings : Settings) (nonce : List ℕ) (before link : LinkView) (startup : Startup) (opening : List ℕ) (s : Streams) →
+pub came-first : (settings : Settings) (nonce : List ℕ) (before link : LinkView) (startup : Startup) (opening : List ℕ) (s : Streams) →
     (o : Opened (plain_login settings nonce) 0 before link startup) → IsFresh startup opening s →
     CameSo o.read before link s []
 came-first settings nonce before link startup opening s o f = record {
@@ -125,29 +100,63 @@ came-first settings nonce before link startup opening s o f = record {
   delivered = sym (ap waiting f.held);
 }
 
--- what came to the hub is a front of what the link gave
-pub came-behind : (settings : Settings) (nonce : List ℕ) (scripts : List (List Command)) (given : List ℕ) (before after : LinkView) (report : Report) →
-    (p : HasPlayed settings nonce scripts given before after report) →
-    CameBehind p.opened.read before after (delivered_by (calls_of scripts given p.new p.link p.last after p.plays)) p.last.streams.given
-came-behind settings nonce scripts given before after report p =
-    let ends = p.plays.ends in
-    let first = p.opened.read in
-    let es = calls_in scripts p.plays.turns p.new p.link ends.state ends.link ends.before in
-    let fs = calls_in_turn scripts p.plays.last ends.state p.last ends.link after true ends.over in
-    let begun = came-turns first before [] scripts p.plays.turns p.new p.link ends.state ends.link ends.before
-    (came-first settings nonce before p.link p.startup p.opening p.new.streams p.opened p.fresh) in
-    let all = came-turn first before (delivered_by es) scripts p.plays.last ends.state p.last ends.link after true ends.over begun in
-    record {
-      got = all.got;
-      given = all.given;
-      counted = all.count;
-      more = all.passed ++ (all.lost ++ messages p.last.streams.buffer.items);
-      behind = all.came_off ∙ append_assoc first all.passed (all.lost ++ messages p.last.streams.buffer.items);
-      front = (
-        waiting p.last.streams.held ++ sync_of (all.lost ++ messages p.last.streams.buffer.items),
-        ap (λ (ms : List RawMessage). ms ++ (waiting p.last.streams.held ++ sync_of (all.lost ++ messages p.last.streams.buffer.items))) (delivered_by-append es fs)
-            ∙ sym (append_assoc (delivered_by es ++ delivered_by fs) (waiting p.last.streams.held) (sync_of (all.lost ++ messages p.last.streams.buffer.items)))
-            ∙ ap (λ (ms : List RawMessage). ms ++ sync_of (all.lost ++ messages p.last.streams.buffer.items)) (sym all.delivered)
-            ∙ sym (filter-append _ all.passed (all.lost ++ messages p.last.streams.buffer.items)),
-      );
-    }
+module _ {C T A E : Type 0} (speech : Speech C T A E) where
+  pub came-turn : (first : List RawMessage) (base : LinkView) (all : List RawMessage) (scripts : List (List C)) (turn : ℕ) (s t : SessionState T A E)
+      (l m : LinkView) (over : Bool) → (made : Makes speech scripts turn s t l m over) →
+      CameSo first base l s.streams all → CameSo first base m t.streams (all ++ delivered_by (calls_in_turn speech scripts turn s t l m over made))
+  came-turn first base all scripts turn s t l m over (inl handle) is =
+      subst (λ (ms : List RawMessage). CameSo first base m t.streams ms) (sym (append-nil all))
+      (subst (λ (x : LinkView). CameSo first base x t.streams all) (sym handle.link)
+      (subst (λ (x : Streams). CameSo first base l x all) (sym handle.made.streams) is))
+  came-turn first base all scripts turn s t l m over (inr connection) is =
+      let made = connection.made in
+      came-polled first base l m s.hub t.hub s.streams t.streams all made.answer made.polled s.asynchronous t.asynchronous over made.hands is
+
+  pub came-turns : (first : List RawMessage) (base : LinkView) (all : List RawMessage) (scripts : List (List C)) (turns : List ℕ) (s : SessionState T A E)
+      (l : LinkView) (t : SessionState T A E) (m : LinkView) →
+      (made : MakesAll speech scripts turns s l t m) → CameSo first base l s.streams all →
+      CameSo first base m t.streams (all ++ delivered_by (calls_in speech scripts turns s l t m made))
+  came-turns first base all scripts [] s l t m made is =
+      subst (λ (ms : List RawMessage). CameSo first base m t.streams ms) (sym (append-nil all))
+      (subst (λ (x : SessionState T A E). CameSo first base m x.streams all) (sym made.0) (came-rested first base l m s.streams all made.1 is))
+  came-turns first base all scripts (turn ∷ turns) s l t m (rested, mid, passed, rests, makes, more) is =
+      let now = calls_in_turn speech scripts turn s mid rested passed false makes in
+      let later = calls_in speech scripts turns mid passed t m more in
+      let one = came-turn first base all scripts turn s mid rested passed false makes (came-rested first base l rested s.streams all rests is) in
+      subst (λ (ms : List RawMessage). CameSo first base m t.streams ms)
+      (append_assoc all (delivered_by now) (delivered_by later) ∙ ap (λ (ms : List RawMessage). all ++ ms) (sym (delivered_by-append now later)))
+      (came-turns first base (all ++ delivered_by now) scripts turns mid passed t m more one)
+
+  -- at the end of a session
+  pub came-last : (settings : Settings) (nonce : List ℕ) (scripts : List (List C)) (given : List ℕ) (before after : LinkView) (report : Report A) →
+      (p : HasPlayed speech settings nonce scripts given before after report) →
+      CameSo p.opened.read before after p.last.streams (delivered_by (calls_of speech scripts given p.new p.link p.last after p.plays))
+  came-last settings nonce scripts given before after report p =
+      let ends = p.plays.ends in
+      let first = p.opened.read in
+      let es = calls_in speech scripts p.plays.turns p.new p.link ends.state ends.link ends.before in
+      let fs = calls_in_turn speech scripts p.plays.last ends.state p.last ends.link after true ends.over in
+      let begun = came-turns first before [] scripts p.plays.turns p.new p.link ends.state ends.link ends.before
+      (came-first settings nonce before p.link p.startup p.opening p.new.streams p.opened p.fresh) in
+      subst (λ (ms : List RawMessage). CameSo first before after p.last.streams ms) (sym (delivered_by-append es fs))
+      (came-turn first before (delivered_by es) scripts p.plays.last ends.state p.last ends.link after true ends.over begun)
+
+  -- what came to the hub is a front of what the link gave
+  pub came-behind : (settings : Settings) (nonce : List ℕ) (scripts : List (List C)) (given : List ℕ) (before after : LinkView) (report : Report A) →
+      (p : HasPlayed speech settings nonce scripts given before after report) →
+      CameBehind p.opened.read before after (delivered_by (calls_of speech scripts given p.new p.link p.last after p.plays)) p.last.streams.given
+  came-behind settings nonce scripts given before after report p =
+      let all = delivered_by (calls_of speech scripts given p.new p.link p.last after p.plays) in
+      let c = came-last settings nonce scripts given before after report p in
+      let rest = c.lost ++ messages p.last.streams.buffer.items in
+      record {
+        got = c.got;
+        given = c.given;
+        counted = c.count;
+        more = c.passed ++ rest;
+        behind = c.came_off ∙ append_assoc p.opened.read c.passed rest;
+        front = (
+          waiting p.last.streams.held ++ sync_of rest,
+          sym (append_assoc all (waiting p.last.streams.held) (sync_of rest)) ∙ ap (λ (ms : List RawMessage). ms ++ sync_of rest) (sym c.delivered) ∙ sym (filter-append _ c.passed rest),
+        );
+      }

@@ -1,5 +1,5 @@
 -- How a session that was opened ends in an error.
-use Rattle.std.specs.Prelude.{◌≡◌, ◌⊎◌, ◌≤◌, ◌+◌, ℕ, Bool, true, false, IsTrue, List, length, Option, Some, Result, Err}
+use Rattle.std.specs.Prelude.{◌≡◌, ◌⊎◌, ◌<◌, ◌≤◌, ◌+◌, ◌^◌, ℕ, Bool, true, false, IsTrue, List, length, Option, Some, Result, Err}
 use Rattle.futures.specs.declared.task.Poll.{Poll}
 use Rattle.futures.specs.declared.task.Poll.TheVariants.{Ready}
 use Rattle.pg_promises.specs.Causes.{NeedsNoTls}
@@ -19,12 +19,12 @@ use Rattle.pg_faults.specs.declared.error.Error.{Error}
 use Rattle.pg_faults.specs.declared.error.Error.TheVariants as error
 use Rattle.pg_hub.specs.Fits.{HubBecomes}
 use Rattle.pg_hub.specs.Standing.{Standing}
-use Rattle.pg_text.specs.declared.command.Command.{Command}
-use Rattle.pg_session.specs.Sessions.{IsNewSession, MakesAll, Plays, Rests, StaysAll, numbers}
-use Rattle.pg_session.specs.States.{SessionState}
+use Rattle.pg_turns.specs.Sessions.{IsNewSession, MakesAll, Plays, Rests, StaysAll, numbers}
+use Rattle.pg_turns.specs.Speeches.{Speech}
+use Rattle.pg_turns.specs.States.{SessionState}
 
 -- a poll of the connection failed
-pub record PollFails (s : SessionState) (before after : LinkView) (e : Error) : Type 0 where
+pub record PollFails {T A E : Type 0} (s : SessionState T A E) (before after : LinkView) (e : Error) : Type 0 where
   pub hub : Standing
   pub streams : Streams
   pub polled : PollAnswers HubBecomes s.hub hub s.streams streams before after (Ready (Some (Err e)))
@@ -36,7 +36,7 @@ IsFine (Ready (Some (Err e))) = ⊥
 IsFine answer = Unit {0}
 
 -- the connection was polled, and what it answered wasn't noted
-pub record WasPolled (s : SessionState) (before after : LinkView) : Type 0 where
+pub record WasPolled {T A E : Type 0} (s : SessionState T A E) (before after : LinkView) : Type 0 where
   pub hub : Standing
   pub streams : Streams
   pub answer : Poll (Option (Result AsyncMessage Error))
@@ -45,12 +45,12 @@ pub record WasPolled (s : SessionState) (before after : LinkView) : Type 0 where
   pub fine : IsFine answer
 
 -- Memory lacked in a turn: in a handle's, which crosses no link, or behind a poll of the connection.
-pub record LacksMemory (s : SessionState) (before after : LinkView) (e : Error) : Type 0 where
+pub record LacksMemory {T A E : Type 0} (s : SessionState T A E) (before after : LinkView) (e : Error) : Type 0 where
   pub memory : e ≡ error.OutOfMemory
   pub crossed : (after ≡ before) ⊎ WasPolled s before after
 
 -- why a turn failed
-abbrev pub TurnFails : SessionState → (before after : LinkView) → Error → Type 0
+abbrev pub TurnFails : {T A E : Type 0} → SessionState T A E → (before after : LinkView) → Error → Type 0
 TurnFails s before after e = LacksMemory s before after e ⊎ PollFails s before after e
 
 -- The link was waited for in vain: that is a lull, and one more call that wasn't ready.
@@ -87,34 +87,37 @@ pub record StopsOpening (settings : Settings) (nonce : List ℕ) (begin now : Li
   pub promised : waited ≡ true → IsTrue link.promised
   pub fails : PauseFails link.quiet polled.quiet waited polled now e
 
--- some turns were made, and memory lacked in the next one
-pub record RunsShort (scripts : List (List Command)) (s : SessionState) (l m : LinkView) (e : Error) : Type 0 where
+-- Some turns were made, in which the bytes that came are counted by 64 bits, and memory lacked in the next one.
+pub record RunsShort {C T A E : Type 0} (speech : Speech C T A E) (scripts : List (List C)) (s : SessionState T A E) (l m : LinkView) (e : Error) : Type 0 where
   pub turns : List ℕ
-  pub state : SessionState
+  pub state : SessionState T A E
   pub link : LinkView
-  pub before : MakesAll scripts turns s l state link
+  pub before : MakesAll speech scripts turns s l state link
+  pub counted : state.streams.given < 2 ^ 64
   pub lacks : LacksMemory state link m e
 
--- some turns were made, and the next one failed
-pub record BreaksOff (scripts : List (List Command)) (s : SessionState) (l m : LinkView) (e : Error) : Type 0 where
+-- some turns were made, in which the bytes that came are counted by 64 bits, and the next one failed
+pub record BreaksOff {C T A E : Type 0} (speech : Speech C T A E) (scripts : List (List C)) (s : SessionState T A E) (l m : LinkView) (e : Error) : Type 0 where
   pub turns : List ℕ
-  pub state : SessionState
+  pub state : SessionState T A E
   pub link : LinkView
-  pub before : MakesAll scripts turns s l state link
+  pub before : MakesAll speech scripts turns s l state link
+  pub counted : state.streams.given < 2 ^ 64
   pub fails : PollFails state link m e
 
 -- Some turns were made, and then a whole round in which nothing moved, and the pause behind it failed. The round came
--- behind a wait, or not; up to its end no call was a lull on a steady link.
-pub record GivesOut (scripts : List (List Command)) (s : SessionState) (l m : LinkView) (e : Error) : Type 0 where
+-- behind a wait, or not; up to its end no call was a lull on a steady link, and the bytes that came are counted by 64 bits.
+pub record GivesOut {C T A E : Type 0} (speech : Speech C T A E) (scripts : List (List C)) (s : SessionState T A E) (l m : LinkView) (e : Error) : Type 0 where
   pub turns : List ℕ
-  pub state : SessionState
+  pub state : SessionState T A E
   pub link : LinkView
-  pub before : MakesAll scripts turns s l state link
-  pub last : SessionState
+  pub before : MakesAll speech scripts turns s l state link
+  pub last : SessionState T A E
   pub passed : LinkView
-  pub round : StaysAll scripts (numbers (length scripts + 1)) state link last passed
+  pub round : StaysAll speech scripts (numbers (length scripts + 1)) state link last passed
   pub calm : StaysCalm l passed
   pub within : last.streams.given ≤ last.streams.max_bytes
+  pub counted : last.streams.given < 2 ^ 64
   pub bytes : SameBytes passed m
   pub writing : SameWriting passed m
   pub waited : Bool
@@ -122,21 +125,21 @@ pub record GivesOut (scripts : List (List Command)) (s : SessionState) (l m : Li
   pub fails : PauseFails link.quiet passed.quiet waited passed m e
 
 -- why a session that was opened failed
-abbrev pub HasFailed : List (List Command) → SessionState → (before after : LinkView) → Error → Type 0
-HasFailed scripts s l m e = RunsShort scripts s l m e ⊎ (BreaksOff scripts s l m e ⊎ GivesOut scripts s l m e)
+abbrev pub HasFailed : {C T A E : Type 0} → Speech C T A E → List (List C) → SessionState T A E → (before after : LinkView) → Error → Type 0
+HasFailed speech scripts s l m e = RunsShort speech scripts s l m e ⊎ (BreaksOff speech scripts s l m e ⊎ GivesOut speech scripts s l m e)
 
 -- a whole session: no TLS is required, it was opened by these settings, and failed behind its startup
-pub record HasBroken (settings : Settings) (nonce : List ℕ) (scripts : List (List Command)) (before after : LinkView) (e : Error) : Type 0 where
+pub record HasBroken {C T A E : Type 0} (speech : Speech C T A E) (settings : Settings) (nonce : List ℕ) (scripts : List (List C)) (before after : LinkView) (e : Error) : Type 0 where
   pub no_tls : NeedsNoTls settings
   pub startup : Startup
   pub link : LinkView
   pub opened : Opened (plain_login settings nonce) 0 before link startup
   pub calm : StaysCalm before link
   pub opening : List ℕ
-  pub new : SessionState
+  pub new : SessionState T A E
   pub fresh : IsFresh startup opening new.streams
-  pub is_new : IsNewSession scripts new
-  pub fails : HasFailed scripts new link after e
+  pub is_new : IsNewSession speech scripts new
+  pub fails : HasFailed speech scripts new link after e
 
 -- a session that was opened, and made no turn
 pub record WasOpened (settings : Settings) (nonce : List ℕ) (before after : LinkView) : Type 0 where
@@ -144,16 +147,17 @@ pub record WasOpened (settings : Settings) (nonce : List ℕ) (before after : Li
   pub startup : Startup
   pub opened : Opened (plain_login settings nonce) 0 before after startup
 
--- a session that was opened and played to its end, and wasn't reported
-pub record WasOver (settings : Settings) (nonce : List ℕ) (scripts : List (List Command)) (before after : LinkView) : Type 0 where
+-- a session that was opened and played to its end, in which the bytes that came are counted by 64 bits, and wasn't reported
+pub record WasOver {C T A E : Type 0} (speech : Speech C T A E) (settings : Settings) (nonce : List ℕ) (scripts : List (List C)) (before after : LinkView) : Type 0 where
   pub no_tls : NeedsNoTls settings
   pub startup : Startup
   pub link : LinkView
   pub opened : Opened (plain_login settings nonce) 0 before link startup
   pub opening : List ℕ
-  pub new : SessionState
+  pub new : SessionState T A E
   pub fresh : IsFresh startup opening new.streams
-  pub is_new : IsNewSession scripts new
+  pub is_new : IsNewSession speech scripts new
   pub given : List ℕ
-  pub last : SessionState
-  pub plays : Plays scripts given new link last after
+  pub last : SessionState T A E
+  pub plays : Plays speech scripts given new link last after
+  pub counted : last.streams.given < 2 ^ 64

@@ -1,9 +1,4 @@
-pub mod States
 pub mod Measure
-pub mod HandleTurns
-pub mod Turns
-pub mod Sessions
-pub mod Reports
 pub mod Lives
 pub mod Events
 pub mod Crossed

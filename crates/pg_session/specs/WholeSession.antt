@@ -2,17 +2,16 @@
 use Rattle.std.specs.Prelude.{◌≡◌, ◌⊎◌, ℕ, IsFalse, IsTrue, List, ◌++◌}
 use Rattle.pg_faults.specs.declared.error.Error.{Error}
 use Rattle.pg_faults.specs.declared.error.Error.TheVariants.{OutOfMemory}
-use Rattle.pg_promises.specs.EndedWell.{EndedWell}
+use Rattle.pg_headline.specs.Endings.{EndedWell, Report}
 use Rattle.pg_spec.specs.Frames.{terminate_frame}
 use Rattle.pg_spec.specs.Links.{LinkView, OfBytes}
 use Rattle.pg_spec.specs.Settings.{Settings}
-use Rattle.pg_text.specs.declared.command.Command.{Command}
-use Rattle.pg_text.specs.declared.report.Report.{Report}
+use Rattle.pg_turns.specs.Speeches.{Speech, meaning_of}
 use Rattle.pg_session.specs.Crossed.{session_of}
 
 -- where the link tells its bytes, the session ended well
-abbrev pub EndsWell : (settings : Settings) (nonce : List ℕ) (scripts : List (List Command)) (given : List ℕ) (before after : LinkView) → Report → Type 0
-EndsWell settings nonce scripts given before after report = OfBytes before after (λ g t. EndedWell (session_of settings nonce scripts given report g) t)
+abbrev pub EndsWell : {C T A E : Type 0} → (speech : Speech C T A E) (settings : Settings) (nonce : List ℕ) (scripts : List (List C)) (given : List ℕ) (before after : LinkView) → Report A → Type 0
+EndsWell speech settings nonce scripts given before after report = OfBytes before after (λ g t. EndedWell (meaning_of speech) (session_of settings nonce scripts given report g) t)
 
 -- All that the link took is flushed, and it is shut down. Of a link that was shut down before nothing is known of flushes.
 pub record IsClosed (before after : LinkView) : Type 0 where

@@ -1,14 +1,11 @@
--- A session asks queries alone, and makes its hub fail in no turn.
+-- A session books whole requests alone, and makes its hub fail in no turn.
 use Rattle.std.proofs.Common.{◌≡◌, inl, inr, ℕ, zero, suc, ◌+◌, ◌-◌, List, [], ◌∷◌, ◌++◌, length, Bool, true, false, if◌then◌else◌, Option, Some, None, Result, Ok, Err, refl, sym, ap, subst, ◌∙◌, ◌≤◌, arith, length-append}
 use Rattle.std.proofs.lemmas.List.{length_push}
-use Rattle.std.specs.Prelude.{slice_get, slice_set, is_some}
-use Rattle.pg_spec.specs.Faults as faults
-use Rattle.pg_spec.specs.Frames.{query_frame}
+use Rattle.std.specs.Prelude.{slice_get, slice_set}
 use Rattle.pg_spec.specs.Links.{LinkView}
 use Rattle.pg_spec.specs.RawMessages.{RawMessage}
 use Rattle.futures.specs.declared.task.Poll.{Poll}
 use Rattle.futures.specs.declared.task.Poll.TheVariants.{Ready, Pending}
-use Rattle.pg_client.specs.Simple.{asks_by, told}
 use Rattle.pg_errors.specs.declared.async_message.AsyncMessage.{AsyncMessage}
 use Rattle.pg_faults.specs.declared.error.Error.{Error}
 use Rattle.pg_desk.specs.declared.event.Booking.{Booking}
@@ -39,27 +36,24 @@ use Rattle.pg_query.specs.Faults.{of_fault}
 use Rattle.pg_query.specs.Dialogue.{Dialogue, Answer, Ask, Send, Leave, Read, Put, Finish, Close, HangUp, Call, Hear, Steps, Walks, Told, feed_one, feed, after_reply}
 use Rattle.pg_query.specs.Meaning.{Place}
 use Rattle.pg_query.specs.Meaning as meaning
-use Rattle.pg_query.specs.Reading.{ends}
-use Rattle.pg_query.specs.Requests.{asks, reads_unless}
-use Rattle.pg_query.specs.declared.simple_message.SimpleMessage.{SimpleMessage}
-use Rattle.pg_text.specs.declared.command.Command.{Command}
-use Rattle.pg_text.specs.declared.command.Command.TheVariants as command
-use Rattle.pg_session.specs.declared.handle_turn.Polling.{Polling}
-use Rattle.pg_session.specs.declared.handle_turn.Polling.TheVariants as polling
-use Rattle.pg_session.specs.HandleTurns.{AsksCommand, HandleTurns, StartsAt}
-use Rattle.pg_session.specs.Sessions.{IsNewSession, MakesAll}
-use Rattle.pg_session.specs.States.{HandleState, SessionState, new_handles, commands_in}
-use Rattle.pg_session.specs.Turns.{untouched, Closes, ClosesBehind, HandsOn, Makes}
-use Rattle.pg_session.proofs.Caused.Frames.{IsQuery, a-query, AreQueries}
+use Rattle.pg_turns.specs.declared.handle_turn.Polling.{Polling}
+use Rattle.pg_turns.specs.declared.handle_turn.Polling.TheVariants as polling
+use Rattle.pg_turns.specs.HandleTurns.{AsksCommand, StartsAt}
+use Rattle.pg_turns.specs.Sessions.{IsNewSession, MakesAll}
+use Rattle.pg_turns.specs.Handles.{HandleState}
+use Rattle.pg_turns.specs.States.{SessionState, new_handles, commands_in}
+use Rattle.pg_turns.specs.Turns.{untouched, Closes, ClosesBehind, HandleTurns, HandsOn, Makes}
+use Rattle.pg_session.proofs.Caused.Frames.{AreRequests}
+use Rattle.pg_turns.specs.Speeches.{BookWhole, BooksWhole, IsWholeRequest, Speech}
 
 -- ---- the hub's bookings
 
--- each request has one part, a Query
+-- each request has one part, a whole request
 abbrev pub AllAsk : List Booking → Type 0
 AllAsk [] = Unit {0}
-AllAsk (b ∷ bs) = (part : List ℕ) × (b.parts ≡ part ∷ []) × IsQuery part × AllAsk bs
+AllAsk (b ∷ bs) = (part : List ℕ) × (b.parts ≡ part ∷ []) × IsWholeRequest part × AllAsk bs
 
-ask-more : (bs : List Booking) (stamp : Stamp) (part : List ℕ) → AllAsk bs → IsQuery part → AllAsk (bs ++ record { stamp = stamp; parts = part ∷ [] } ∷ [])
+ask-more : (bs : List Booking) (stamp : Stamp) (part : List ℕ) → AllAsk bs → IsWholeRequest part → AllAsk (bs ++ record { stamp = stamp; parts = part ∷ [] } ∷ [])
 ask-more [] stamp part h q = (part, refl, q, tt)
 ask-more (b ∷ bs) stamp part h q = (h.0, h.1, h.2, ask-more bs stamp part h.3 q)
 
@@ -81,21 +75,21 @@ asks-wire (b ∷ bs) h =
 pub asks-out : (s : State) → InOrder s → AllAsk s.book → started_of s ≡ length s.gone_out
 asks-out s order h = asks-began (length s.gone_out) s.book h (let low = order-low (length s.gone_out) s.book s.copying order.out in omega (arith, low, asks-wire s.book h))
 
--- all parts are queries
-pub wire-asks : (bs : List Booking) → AllAsk bs → AreQueries (wire bs)
+-- all parts are whole requests
+pub wire-asks : (bs : List Booking) → AllAsk bs → AreRequests (wire bs)
 wire-asks [] h = tt
-wire-asks (b ∷ bs) h = subst (λ (x : List (List ℕ)). AreQueries (x ++ wire bs)) (sym h.1) (h.2, wire-asks bs h.3)
+wire-asks (b ∷ bs) h = subst (λ (x : List (List ℕ)). AreRequests (x ++ wire bs)) (sym h.1) (h.2, wire-asks bs h.3)
 
--- Such a hub hasn't failed, and its requests are queries, none of them a copy.
+-- Such a hub hasn't failed, and its requests are whole, none of them a copy.
 pub record IsTame (book : List Booking) (copying : List Bool) (failed : Bool) : Type 0 where
   pub works : failed ≡ false
   pub asks : AllAsk book
   pub flags : length copying ≡ length book
   pub ended : AllEnded book copying
 
--- an event books a query alone, and doesn't make the hub fail
+-- an event books a whole request alone, and doesn't make the hub fail
 abbrev pub IsMild : Event → Type 0
-IsMild (Book stamp part copying answer) = IsQuery part × (copying ≡ false)
+IsMild (Book stamp part copying answer) = IsWholeRequest part × (copying ≡ false)
 IsMild (PutEvent id part answer) = ⊥
 IsMild (EndCopy id part answer) = ⊥
 IsMild (Fail answer) = ⊥
@@ -216,28 +210,14 @@ tame-untouched a h = record {
 
 -- ---- dialogues
 
--- whatever comes, the dialogue books queries alone
-abbrev pub Asks : {T : Type 0} → Dialogue T → Type 0
-Asks (Answer r) = Unit {0}
-Asks (Ask copying part d) = IsQuery part × (copying ≡ false) × Asks d
-Asks (Send part refused d) = IsQuery part × ((e : Error) → Asks (refused e)) × Asks d
-Asks (Leave id d) = Asks d
-Asks (Read cleanup decides next) = (ms : List RawMessage) → Asks (next ms)
-Asks (Put cleanup part d) = ⊥
-Asks (Finish part d) = ⊥
-Asks (Close part d) = ⊥
-Asks (HangUp d) = Asks d
-Asks (Call q refused next) = ((e : Error) → Asks (refused e)) × ((r : Reply) → Asks (next r))
-Asks (Hear next) = (r : Reply) → Asks (next r)
-
-asks-fed-one : {T : Type 0} (m : RawMessage) (d : Dialogue T) → Asks d → Asks (feed_one m d)
+asks-fed-one : {T : Type 0} (m : RawMessage) (d : Dialogue T) → BooksWhole d → BooksWhole (feed_one m d)
 asks-fed-one m (Answer r) h = h
 asks-fed-one m (Ask copying part d) h = h
 asks-fed-one m (Send part refused d) h = (h.0, λ e. asks-fed-one m (refused e) (h.1 e), asks-fed-one m d h.2)
 asks-fed-one m (Leave id d) h = asks-fed-one m d h
 asks-fed-one {T} m (Read cleanup decides next) h = by_test (decides (m ∷ []))
   where
-    by_test : (b : Bool) → Asks (if b then next (m ∷ []) else Read cleanup (λ ms. decides (m ∷ ms)) (λ ms. next (m ∷ ms)))
+    by_test : (b : Bool) → BooksWhole (if b then next (m ∷ []) else Read cleanup (λ ms. decides (m ∷ ms)) (λ ms. next (m ∷ ms)))
     by_test true = h (m ∷ [])
     by_test false = λ ms. h (m ∷ ms)
 asks-fed-one m (Put cleanup part d) h = absurd h
@@ -247,7 +227,7 @@ asks-fed-one m (HangUp d) h = h
 asks-fed-one m (Call q refused next) h = (λ e. asks-fed-one m (refused e) (h.0 e), λ r. asks-fed-one m (next r) (h.1 r))
 asks-fed-one m (Hear next) h = λ r. asks-fed-one m (next r) (h r)
 
-asks-fed : {T : Type 0} (ms : List RawMessage) (d : Dialogue T) → Asks d → Asks (feed ms d)
+asks-fed : {T : Type 0} (ms : List RawMessage) (d : Dialogue T) → BooksWhole d → BooksWhole (feed ms d)
 asks-fed [] d h = h
 asks-fed (m ∷ ms) d h = asks-fed ms (feed_one m d) (asks-fed-one m d h)
 
@@ -257,25 +237,25 @@ mild-told desk_call.NextStatement _ r h = absurd h
 mild-told desk_call.NextPortal (NextPortal answer) r h = tt
 mild-told desk_call.NextPortal _ r h = absurd h
 
-asks-reply : {T : Type 0} (r : Result Reply DeskFault) (refused : Error → Dialogue T) (next : Reply → Dialogue T) → ((e : Error) → Asks (refused e)) → ((r : Reply) → Asks (next r)) → Asks (after_reply r refused next)
+asks-reply : {T : Type 0} (r : Result Reply DeskFault) (refused : Error → Dialogue T) (next : Reply → Dialogue T) → ((e : Error) → BooksWhole (refused e)) → ((r : Reply) → BooksWhole (next r)) → BooksWhole (after_reply r refused next)
 asks-reply (Ok r) refused next k h = h r
 asks-reply (Err e) refused next k h = k (of_fault e)
 
--- a step books a query, or nothing
+-- a step books a whole request, or nothing
 record GoesOn {T : Type 0} (e : Event) (d : Dialogue T) : Type 0 where
   mild : IsMild e
-  asks : Asks d
+  asks : BooksWhole d
 
-on : {T : Type 0} (e : Event) (d d' : Dialogue T) → IsMild e → Asks d → d' ≡ d → GoesOn e d'
-on {T} e d d' mild asks same = record { mild = mild; asks = subst (λ (x : Dialogue T). Asks x) (sym same) asks }
+on : {T : Type 0} (e : Event) (d d' : Dialogue T) → IsMild e → BooksWhole d → d' ≡ d → GoesOn e d'
+on {T} e d d' mild asks same = record { mild = mild; asks = subst (λ (x : Dialogue T). BooksWhole x) (sym same) asks }
 
-step : {T : Type 0} (stamp : Stamp) (d : Dialogue T) (id : ℕ) (e : Event) (d' : Dialogue T) (id' : ℕ) → Steps stamp d id e d' id' → Asks d → GoesOn e d'
+step : {T : Type 0} (stamp : Stamp) (d : Dialogue T) (id : ℕ) (e : Event) (d' : Dialogue T) (id' : ℕ) → Steps stamp d id e d' id' → BooksWhole d → GoesOn e d'
 step stamp (Answer r) id e d' id' h q = absurd h
-step stamp (Ask copying part d) id (Book stamp' part' copying' (Ok new)) d' id' h q = on _ d d' (subst IsQuery (sym h.1) q.0, h.2 ∙ q.1) q.2 h.3
-step stamp (Ask copying part d) id (Book stamp' part' copying' (Err e)) d' id' h q = on _ _ d' (subst IsQuery (sym h.1) q.0, h.2 ∙ q.1) tt h.3
+step stamp (Ask copying part d) id (Book stamp' part' copying' (Ok new)) d' id' h q = on _ d d' (subst IsWholeRequest (sym h.1) q.0, h.2 ∙ q.1) q.2 h.3
+step stamp (Ask copying part d) id (Book stamp' part' copying' (Err e)) d' id' h q = on _ _ d' (subst IsWholeRequest (sym h.1) q.0, h.2 ∙ q.1) tt h.3
 step stamp (Ask copying part d) id _ d' id' h q = absurd h
-step stamp (Send part refused d) id (Book stamp' part' copying (Ok new)) d' id' h q = on _ (Leave new d) d' (subst IsQuery (sym h.1) q.0, h.2) q.2 h.3
-step stamp (Send part refused d) id (Book stamp' part' copying (Err e)) d' id' h q = on _ (refused (of_fault e)) d' (subst IsQuery (sym h.1) q.0, h.2) (q.1 (of_fault e)) h.3
+step stamp (Send part refused d) id (Book stamp' part' copying (Ok new)) d' id' h q = on _ (Leave new d) d' (subst IsWholeRequest (sym h.1) q.0, h.2) q.2 h.3
+step stamp (Send part refused d) id (Book stamp' part' copying (Err e)) d' id' h q = on _ (refused (of_fault e)) d' (subst IsWholeRequest (sym h.1) q.0, h.2) (q.1 (of_fault e)) h.3
 step stamp (Send part refused d) id _ d' id' h q = absurd h
 step stamp (Leave sent d) id (HangUpEvent which (Ok x)) d' id' h q = on _ d d' tt q h.1
 step stamp (Leave sent d) id (HangUpEvent which (Err e)) d' id' h q = on _ _ d' tt tt h.1
@@ -299,99 +279,16 @@ step stamp (Hear next) id e d' id' h q = absurd h
 -- the same of several
 record GoesFar {T : Type 0} (es : List Event) (d : Dialogue T) : Type 0 where
   mild : AreMild es
-  asks : Asks d
+  asks : BooksWhole d
 
-walk : {T : Type 0} (stamp : Stamp) (d : Dialogue T) (id : ℕ) (es : List Event) (d' : Dialogue T) (id' : ℕ) → Walks stamp d id es d' id' → Asks d → GoesFar es d'
-walk {T} stamp d id [] d' id' h q = record { mild = tt; asks = subst (λ (x : Dialogue T). Asks x) (sym h.0) q }
+walk : {T : Type 0} (stamp : Stamp) (d : Dialogue T) (id : ℕ) (es : List Event) (d' : Dialogue T) (id' : ℕ) → Walks stamp d id es d' id' → BooksWhole d → GoesFar es d'
+walk {T} stamp d id [] d' id' h q = record { mild = tt; asks = subst (λ (x : Dialogue T). BooksWhole x) (sym h.0) q }
 walk stamp d id (e ∷ es) d' id' h q =
     let one = step stamp d id e h.0 h.1 h.2 q in
     let rest = walk stamp h.0 h.1 es d' id' h.3 one.asks in
     record { mild = (one.mild, rest.mild); asks = rest.asks }
 
--- ---- a query's dialogue
-
-asks-ends : {T : Type 0} (stops : Bool) (o : Option (Result T Error)) → Asks (ends stops o)
-asks-ends true (Some (Ok x)) = tt
-asks-ends false (Some (Ok x)) = tt
-asks-ends stops (Some (Err e)) = tt
-asks-ends stops None = tt
-
-asks-unless : {T : Type 0} (stops : Bool) (reading : List RawMessage → Option (Result T Error)) (o : Option (Result T Error)) → Asks (reads_unless stops reading o)
-asks-unless stops reading (Some r) = tt
-asks-unless stops reading None = λ ms. asks-ends stops (reading ms)
-
-asks-query : (take : Option ℕ) (text : List ℕ) (r : Result (List ℕ) faults.FrameFault) → query_frame text ≡ r → Asks (asks_by take r)
-asks-query take text (Err fault) e = tt
-asks-query take text (Ok frame) e = (a-query text frame e, refl, asks-unless (is_some take) (told take) (told take []))
-
-asks-command : (c : Command) (d : Dialogue (List SimpleMessage)) → AsksCommand c d → Asks d
-asks-command (command.Simple text take) d (inl is) = subst (λ (x : Dialogue (List SimpleMessage)). Asks x) (sym is) (asks-query take text (query_frame text) refl)
-asks-command (command.Simple text take) d (inr is) = subst (λ (x : Dialogue (List SimpleMessage)). Asks x) (sym is) tt
-
 -- ---- handles
-
--- what runs books queries alone
-abbrev pub Runs : Option (Place (List SimpleMessage)) → Type 0
-Runs None = Unit {0}
-Runs (Some place) = Asks place.dialogue
-
-abbrev pub AllRun : List HandleState → Type 0
-AllRun [] = Unit {0}
-AllRun (h ∷ hs) = Runs h.running × AllRun hs
-
-run-at : (hs : List HandleState) (i : ℕ) (h : HandleState) → AllRun hs → slice_get hs i ≡ Some h → Runs h.running
-run-at [] i h all e = absurd cc
-run-at (x ∷ hs) zero h all e = subst (λ (o : Option HandleState). RunsIn o) e all.0
-  where
-    RunsIn : Option HandleState → Type 0
-    RunsIn None = Unit {0}
-    RunsIn (Some x) = Runs x.running
-run-at (x ∷ hs) (suc i) h all e = run-at hs i h all.1 e
-
-run-set : (hs : List HandleState) (i : ℕ) (h : HandleState) → AllRun hs → Runs h.running → AllRun (slice_set hs i h)
-run-set [] i h all q = tt
-run-set (x ∷ hs) zero h all q = (q, all.1)
-run-set (x ∷ hs) (suc i) h all q = (all.0, run-set hs i h all.1 q)
-
-run-new : (scripts : List (List Command)) → AllRun (new_handles scripts)
-run-new [] = tt
-run-new (script ∷ scripts) = (tt, run-new scripts)
-
-starts : (script : List Command) (h : HandleState) (begins : Bool) (from : Place (List SimpleMessage)) → Runs h.running → StartsAt script h begins from → Asks from.dialogue
-starts script h true from q s = asks-command s.next from.dialogue s.asks
-starts script h false from q s = subst Runs s q
-
--- ---- turns
-
--- a session whose hub is so, and whose commands book queries alone
-pub record AsksQueries (s : SessionState) : Type 0 where
-  pub hub : Tame s.hub
-  pub handles : AllRun s.handles
-
-record HandleGoes (hub : Standing) (new : HandleState) : Type 0 where
-  tame : Tame hub
-  runs : Runs new.running
-
-walked : (stamp : Stamp) (a b : Standing) (p q : Place (List SimpleMessage)) → Tame a → Asks p.dialogue → (g : meaning.Goes HubBecomes stamp a p b q) → Tame b × Asks q.dialogue
-walked stamp a b p q h asks g =
-    let far = walk stamp p.dialogue p.reads g.events q.dialogue q.reads g.walked asks in
-    (tame-moves a b g.events h g.became far.mild, far.asks)
-
-handle-goes : (script : List Command) (stamp : Stamp) (a b : Standing) (old new : HandleState) (did : Polling) → Tame a → Runs old.running →
-    HandleTurns HubBecomes script stamp a old b new did → HandleGoes b new
-handle-goes script stamp a b old new polling.Idle h q t = record {
-  tame = subst Tame (sym t.desk) h;
-  runs = subst (λ (x : HandleState). Runs x.running) (sym t.handle) q;
-}
-handle-goes script stamp a b old new polling.Began h q t =
-    let w = walked stamp a b t.from t.to h (starts script old true t.from q t.starts) t.pauses.goes in
-    record { tame = w.0; runs = subst (λ (x : HandleState). Runs x.running) (sym t.handle) w.1 }
-handle-goes script stamp a b old new polling.Waits h q t =
-    let w = walked stamp a b t.from t.to h (starts script old false t.from q t.starts) t.pauses.goes in
-    record { tame = w.0; runs = subst (λ (x : HandleState). Runs x.running) (sym t.handle) w.1 }
-handle-goes script stamp a b old new polling.Answered h q t =
-    let w = walked stamp a b t.from t.goes.last h (starts script old t.begins t.from q t.starts) t.goes.goes in
-    record { tame = w.0; runs = subst (λ (x : HandleState). Runs x.running) (sym t.handle) tt }
 
 tame-closes : (left : ℕ) (a b : Standing) → Tame a → Closes left a b → Tame b
 tame-closes zero a b h c = tame-moves a b (CloseRequests (Ok tt) ∷ []) h c (tt, tt)
@@ -411,27 +308,96 @@ tame-poll a b s t l m old new over (Ready (Some (Ok message))) h p hands =
     tame-moves a b p.turns.goes.events h p.turns.goes.became (mild-engines p.turns.goes.events p.turns.goes.calls)
 tame-poll a b s t l m old new over (Ready (Some (Err e))) h p hands = absurd hands
 
-asks-turn : (scripts : List (List Command)) (turn : ℕ) (s t : SessionState) (l m : LinkView) (over : Bool) → AsksQueries s → Makes scripts turn s t l m over → AsksQueries t
-asks-turn scripts turn s t l m over h (inl made) =
-    let go = made.made in
-    let goes = handle-goes go.script _ (untouched s.hub) go.hub go.old go.new made.did (tame-untouched s.hub h.hub) (run-at s.handles turn go.old h.handles go.old_at) go.turns in
-    record {
-      hub = tame-behind made.did s.unanswered go.hub t.hub goes.tame go.closes;
-      handles = subst AllRun (sym go.handles) (run-set s.handles turn go.new h.handles goes.runs);
+-- what runs books whole requests alone
+abbrev pub Runs : {T : Type 0} → Option (Place T) → Type 0
+Runs None = Unit {0}
+Runs (Some place) = BooksWhole place.dialogue
+
+walked : {T : Type 0} (stamp : Stamp) (a b : Standing) (p q : Place T) → Tame a → BooksWhole p.dialogue → (g : meaning.Goes HubBecomes stamp a p b q) → Tame b × BooksWhole q.dialogue
+walked stamp a b p q h asks g =
+    let far = walk stamp p.dialogue p.reads g.events q.dialogue q.reads g.walked asks in
+    (tame-moves a b g.events h g.became far.mild, far.asks)
+
+module _ {C T A E : Type 0} (speech : Speech C T A E) where
+  abbrev pub AllRun : List (HandleState T A E) → Type 0
+  AllRun [] = Unit {0}
+  AllRun (h ∷ hs) = Runs h.running × AllRun hs
+
+  run-at : (hs : List (HandleState T A E)) (i : ℕ) (h : HandleState T A E) → AllRun hs → slice_get hs i ≡ Some h → Runs h.running
+  run-at [] i h all e = absurd cc
+  run-at (x ∷ hs) zero h all e = subst (λ (o : Option (HandleState T A E)). RunsIn o) e all.0
+    where
+      RunsIn : Option (HandleState T A E) → Type 0
+      RunsIn None = Unit {0}
+      RunsIn (Some x) = Runs x.running
+  run-at (x ∷ hs) (suc i) h all e = run-at hs i h all.1 e
+
+  run-set : (hs : List (HandleState T A E)) (i : ℕ) (h : HandleState T A E) → AllRun hs → Runs h.running → AllRun (slice_set hs i h)
+  run-set [] i h all q = tt
+  run-set (x ∷ hs) zero h all q = (q, all.1)
+  run-set (x ∷ hs) (suc i) h all q = (all.0, run-set hs i h all.1 q)
+
+  run-new : (scripts : List (List C)) → AllRun (new_handles speech.begins scripts)
+  run-new [] = tt
+  run-new (script ∷ scripts) = (tt, run-new scripts)
+
+  -- ---- turns
+
+  -- a session whose hub is so, and whose commands book whole requests alone
+  pub record AsksWhole (s : SessionState T A E) : Type 0 where
+    pub hub : Tame s.hub
+    pub handles : AllRun s.handles
+
+  record HandleGoes (hub : Standing) (new : HandleState T A E) : Type 0 where
+    tame : Tame hub
+    runs : Runs new.running
+
+  pub asks-new : (scripts : List (List C)) (s : SessionState T A E) → IsNewSession speech scripts s → AsksWhole s
+  asks-new scripts s new = record {
+    hub = tame-closes (commands_in scripts) new.hub s.hub
+        (record { state = start 0 0; fits = new.new; tame = tame-out (start 0 0) new.hub new.new (record { works = refl; asks = tt; flags = refl; ended = tt }) }) new.closes;
+    handles = subst AllRun (sym new.handles) (run-new scripts);
+  }
+
+  module _ (whole : BookWhole speech) where
+    asks-command : (own : E) (c : C) (d : Dialogue T) → AsksCommand (speech.says own c) d → BooksWhole d
+    asks-command own c d (inl is) = subst (λ (x : Dialogue T). BooksWhole x) (sym is) (whole own c)
+    asks-command own c d (inr is) = subst (λ (x : Dialogue T). BooksWhole x) (sym is) tt
+
+    starts : (script : List C) (h : HandleState T A E) (begins : Bool) (from : Place T) → Runs h.running → StartsAt speech script h begins from → BooksWhole from.dialogue
+    starts script h true from q s = asks-command h.own s.next from.dialogue s.asks
+    starts script h false from q s = subst Runs s q
+
+    handle-goes : (script : List C) (stamp : Stamp) (a b : Standing) (old new : HandleState T A E) (did : Polling) → Tame a → Runs old.running →
+        HandleTurns HubBecomes speech script stamp a old b new did → HandleGoes b new
+    handle-goes script stamp a b old new polling.Idle h q t = record {
+      tame = subst Tame (sym t.desk) h;
+      runs = subst (λ (x : HandleState T A E). Runs x.running) (sym t.handle) q;
     }
-asks-turn scripts turn s t l m over h (inr made) = record {
-  hub = tame-poll s.hub t.hub s.streams t.streams l m s.asynchronous t.asynchronous over made.made.answer h.hub made.made.polled made.made.hands;
-  handles = subst AllRun (sym made.made.handles) h.handles;
-}
+    handle-goes script stamp a b old new polling.Began h q t =
+        let w = walked stamp a b t.from t.to h (starts script old true t.from q t.starts) t.pauses.goes in
+        record { tame = w.0; runs = subst (λ (x : HandleState T A E). Runs x.running) (sym t.handle) w.1 }
+    handle-goes script stamp a b old new polling.Waits h q t =
+        let w = walked stamp a b t.from t.to h (starts script old false t.from q t.starts) t.pauses.goes in
+        record { tame = w.0; runs = subst (λ (x : HandleState T A E). Runs x.running) (sym t.handle) w.1 }
+    handle-goes script stamp a b old new polling.Answered h q t =
+        let w = walked stamp a b t.from t.goes.last h (starts script old t.begins t.from q t.starts) t.goes.goes in
+        record { tame = w.0; runs = subst (λ (x : HandleState T A E). Runs x.running) (sym t.handle) tt }
 
-pub asks-all : (scripts : List (List Command)) (turns : List ℕ) (s : SessionState) (l : LinkView) (t : SessionState) (m : LinkView) → AsksQueries s → MakesAll scripts turns s l t m → AsksQueries t
-asks-all scripts [] s l t m h made = subst AsksQueries (sym made.0) h
-asks-all scripts (turn ∷ turns) s l t m h made =
-    asks-all scripts turns made.1 made.2 t m (asks-turn scripts turn s made.1 made.0 made.2 false h made.4) made.5
+    asks-turn : (scripts : List (List C)) (turn : ℕ) (s t : SessionState T A E) (l m : LinkView) (over : Bool) → AsksWhole s → Makes speech scripts turn s t l m over → AsksWhole t
+    asks-turn scripts turn s t l m over h (inl made) =
+        let go = made.made in
+        let goes = handle-goes go.script _ (untouched s.hub) go.hub go.old go.new made.did (tame-untouched s.hub h.hub) (run-at s.handles turn go.old h.handles go.old_at) go.turns in
+        record {
+          hub = tame-behind made.did s.unanswered go.hub t.hub goes.tame go.closes;
+          handles = subst AllRun (sym go.handles) (run-set s.handles turn go.new h.handles goes.runs);
+        }
+    asks-turn scripts turn s t l m over h (inr made) = record {
+      hub = tame-poll s.hub t.hub s.streams t.streams l m s.asynchronous t.asynchronous over made.made.answer h.hub made.made.polled made.made.hands;
+      handles = subst AllRun (sym made.made.handles) h.handles;
+    }
 
-pub asks-new : (scripts : List (List Command)) (s : SessionState) → IsNewSession scripts s → AsksQueries s
-asks-new scripts s new = record {
-  hub = tame-closes (commands_in scripts) new.hub s.hub
-      (record { state = start 0 0; fits = new.new; tame = tame-out (start 0 0) new.hub new.new (record { works = refl; asks = tt; flags = refl; ended = tt }) }) new.closes;
-  handles = subst AllRun (sym new.handles) (run-new scripts);
-}
+    pub asks-all : (scripts : List (List C)) (turns : List ℕ) (s : SessionState T A E) (l : LinkView) (t : SessionState T A E) (m : LinkView) → AsksWhole s → MakesAll speech scripts turns s l t m → AsksWhole t
+    asks-all scripts [] s l t m h made = subst AsksWhole (sym made.0) h
+    asks-all scripts (turn ∷ turns) s l t m h made =
+        asks-all scripts turns made.1 made.2 t m (asks-turn scripts turn s made.1 made.0 made.2 false h made.4) made.5

@@ -1,7 +1,7 @@
 -- The causes of failures, by the bytes that crossed the link.
 use Rattle.std.proofs.Common.{◌≡◌, ◌≢◌, inl, inr, ◌⊎◌, ◌≤◌, ℕ, List, [], ◌∷◌, ◌++◌, length, map, Bool, true, false, ◌&&◌, if◌then◌else◌, Option, Some, None, Result, Ok, Err, refl, sym, ap, subst, ◌∙◌, append_assoc, append-nil, drop, arith}
 use Rattle.std.proofs.Math.Seq.{drop-append_seam}
-use Rattle.std.specs.Prelude.{Contains, is_some, find, ◌==◌}
+use Rattle.std.specs.Prelude.{Contains, filter, is_some, find, ◌==◌}
 use Rattle.std.specs.Str.{is_utf8}
 use Rattle.std.proofs.lemmas.List.Elements.{Contains-append_left, Contains-append_right}
 use Rattle.std.proofs.lemmas.Option.{same_Some}
@@ -15,7 +15,7 @@ use Rattle.pg_spec.specs.Links.{LinkView, OfBytes, Grew}
 use Rattle.pg_spec.specs.Messages.{Message, layouts}
 use Rattle.pg_spec.specs.Messages as spec
 use Rattle.pg_spec.specs.RawMessages.{RawMessage, messages, bytes_left, has_bad_header, async_of, is_ready, cut_after}
-use Rattle.pg_spec.specs.Sent.{said_terminate, units}
+use Rattle.pg_spec.specs.Sent.{ends_unit, said_terminate, units}
 use Rattle.pg_wire.specs.LinkCalls.{Keeps}
 use Rattle.pg_wire.specs.Messages.{message_view}
 use Rattle.pg_wire.specs.declared.body.ErrorResponseBody.{ErrorResponseBody}
@@ -41,7 +41,7 @@ use Rattle.pg_connect.specs.declared.fault.ConnectionFault.TheVariants as fault
 use Rattle.pg_connect.specs.declared.streams.Streams.{Streams}
 use Rattle.pg_connect.proofs.Joining.{rose_later}
 use Rattle.pg_session.proofs.Caused.Asks.{IsTame, asks-out, tame-all, mild-engines, never-closed, wire-asks}
-use Rattle.pg_session.proofs.Caused.Frames.{AreQueries, front-queries, TakesQueries, front-reads, never-said}
+use Rattle.pg_session.proofs.Caused.Frames.{AreRequests, TakesRequests, front-reads, front-requests, is_kept, never-said}
 use Rattle.pg_session.proofs.Crossing.Hub.{out-all}
 use Rattle.pg_session.proofs.Caused.Groups.{none-open, delivered-whole, InFront, in-front}
 use Rattle.pg_session.proofs.Crossing.Groups.{AreWhole}
@@ -49,7 +49,7 @@ use Rattle.pg_session.proofs.Caused.Lists.{first-stands, unfiltered, not-none, a
 use Rattle.pg_session.proofs.Caused.Turns.{Broke}
 use Rattle.pg_session.proofs.Crossing.End.{added-is, of-bytes}
 use Rattle.pg_session.proofs.Opening.{IsDone, IsOpening, Started, done-opening, is-started}
-use Rattle.pg_session.proofs.Opening.Sent.{few-units, silent-behind}
+use Rattle.pg_session.proofs.Opening.Sent.{opening-units, silent-behind}
 
 -- a call failed behind its startup, in a turn of its connection
 pub record Fails (settings : Settings) (call : Call) (former now : List Event) (t : Streams) (l : LinkView) : Type 0 where
@@ -210,10 +210,10 @@ module _ (settings : Settings) (call : Call) (former now : List Event) (t : Stre
 
   -- ---- what was taken
 
-  -- where the connection isn't closing, frames of queries were taken, no more than went out of the hub
-  pub took-queries : t.closing ≡ false → (taken : List ℕ) → taken ≡ f.broke.taken → taken ≡ f.opening ++ f.more →
-      TakesQueries (length (after_all (after_all (start 0 0) former) now).gone_out) (messages f.more)
-  took-queries open_ taken same front =
+  -- where the connection isn't closing, frames of requests were taken, no more units than parts that went out of the hub
+  pub took-requests : t.closing ≡ false → (taken : List ℕ) → taken ≡ f.broke.taken → taken ≡ f.opening ++ f.more →
+      TakesRequests (length (after_all (after_all (start 0 0) former) now).gone_out) (messages f.more)
+  took-requests open_ taken same front =
       let begin = after_all (start 0 0) former in
       let last = after_all begin now in
       let joins : after_all (start 0 0) (former ++ now) ≡ last = after-joined (start 0 0) former now in
@@ -221,7 +221,7 @@ module _ (settings : Settings) (call : Call) (former now : List Event) (t : Stre
       let legal = legal-joined (start 0 0) former now f.broke.legal f.broke.legal_now in
       let out : IsFrontOf last.gone_out (wire last.book) =
       subst (λ (s : State). IsFrontOf s.gone_out (wire s.book)) joins (legal-sound 0 0 (former ++ now) legal).out_is_front in
-      let parts : AreQueries last.gone_out = front-queries last.gone_out out.0 (subst AreQueries (sym out.1) (wire-asks last.book tame.asks)) in
+      let parts : AreRequests last.gone_out = front-requests last.gone_out out.0 (subst AreRequests (sym out.1) (wire-asks last.book tame.asks)) in
       let bytes : joined last.gone_out ≡ bytes_out_by (former ++ now) = ap (λ (s : State). joined s.gone_out) (sym joins) ∙ out-all (start 0 0) (former ++ now) in
       let all : f.opening ++ joined last.gone_out ≡ f.opening ++ (f.more ++ t.unsent) =
       ap (λ (x : List ℕ). f.opening ++ x) bytes ∙ sym (append-nil (f.opening ++ bytes_out_by (former ++ now)))
@@ -237,7 +237,7 @@ module _ (settings : Settings) (call : Call) (former now : List Event) (t : Stre
     rose_later call.before.ends l.ends call.after.ends f.keeps.counts.ends ends.rose,
     of-taken _ (λ taken same front. (
       f.broke.rest ∙ ap bytes_left ends.buffer,
-      ap said_terminate front ∙ silent-behind settings f.opening opens f.more (never-said (messages f.more) (took-queries ends.stays taken same front).all),
+      ap said_terminate front ∙ silent-behind settings f.opening opens f.more (never-said (messages f.more) (took-requests ends.stays taken same front).silent),
     )),
   )
 
@@ -280,9 +280,9 @@ module _ (settings : Settings) (call : Call) (former now : List Event) (t : Stre
       let stands : InFront (finished last.deliveries) first later =
       in-front (finished last.deliveries) (delivered_by (former ++ now)) batch f.broke.read (f.broke.lost ++ messages t.buffer.items) first whole
       (f.broke.delivered ∙ ap (λ (x : List RawMessage). delivered_by (former ++ now) ++ x) held) in
-      let sent : length (messages f.more) ≤ length last.gone_out = (took-queries open_ taken same front).count in
-      let few : length (units taken) ≤ length (messages f.more) =
-      subst (λ (x : List ℕ). length (units x) ≤ length (messages f.more)) (sym front) (few-units settings f.opening opens f.more) in
+      let sent = (took-requests open_ taken same front).units in
+      let few : length (units taken) ≡ length (cut_after ends_unit (filter is_kept (messages f.more))) =
+      ap (λ (x : List ℕ). length (units x)) front ∙ ap (λ (us : List (List RawMessage)). length us) (opening-units settings f.opening opens f.more) in
       record {
         before = finished last.deliveries;
         group = stands.group;

@@ -1,22 +1,24 @@
--- The frames that a session of queries sent.
-use Rattle.std.proofs.Common.{◌≡◌, ◌<◌, ◌≤◌, ℕ, suc, ◌+◌, ◌^◌, List, [], ◌∷◌, ◌++◌, length, Bool, true, false, not, ◌==◌, if◌then◌else◌, Some, None, Result, Ok, Err, refl, sym, ap, ◌∙◌, arith, nat_lt, length-append, drop, map}
+-- The frames that a session sent.
+use Rattle.std.proofs.Common.{◌≡◌, ◌<◌, ◌≤◌, ◌⊎◌, inl, inr, ℕ, suc, ◌+◌, ◌^◌, List, [], ◌∷◌, ◌++◌, length, Bool, true, false, not, cond, ◌||◌, ◌&&◌, ◌==◌, if◌then◌else◌, Some, None, Result, Ok, Err, refl, sym, ap, ◌∙◌, arith, nat_lt, drop, map}
 use Rattle.std.specs.Prelude.{filter}
 use Rattle.std.specs.List.{list_all, list_any, onto_first}
 use Rattle.std.specs.Str.{byte}
 use Rattle.std.proofs.lemmas.Bool.{eqb-true}
 use Rattle.std.proofs.lemmas.Bool.Decides.{nat_tests}
+use Rattle.std.proofs.lemmas.List.{length-map}
+use Rattle.std.proofs.lemmas.List.Elements.{filter-append}
 use Rattle.std.proofs.lemmas.List.Folds.{list_all-append}
-use Rattle.pg_spec.specs.Bytes.{text0}
 use Rattle.pg_spec.specs.Faults.{FrameFault, ZeroByte, TooMany, TooLong}
-use Rattle.pg_spec.specs.Frames.{frame_fault, unless_fault, has_zero, untagged, tagged, startup_body, query_frame}
-use Rattle.pg_spec.specs.RawMessages.{RawMessage, message_bytes, messages, bytes_left, cut_after, ends_in}
-use Rattle.pg_spec.specs.Sent.{after_startup_frame, messages_if, tagged_frames, is_password, ends_unit, units, is_terminate}
+use Rattle.pg_spec.specs.Frames.{frame_fault, unless_fault, has_zero, untagged, startup_body}
+use Rattle.pg_spec.specs.RawMessages.{RawMessage, messages, bytes_left, cut_after, ends_in}
+use Rattle.pg_spec.specs.Sent.{after_startup_frame, messages_if, tagged_frames, is_password, ends_unit, gives_turn, is_terminate}
 use Rattle.pg_spec.specs.Settings.{startup_parameters, Settings}
-use Rattle.pg_spec.proofs.MessageLaws.{messages-front, messages-append}
+use Rattle.pg_spec.proofs.MessageLaws.{messages-append}
 use Rattle.pg_spec.proofs.SentLaws.{after_startup_frame-front}
 use Rattle.pg_desk.specs.History.{joined}
 use Rattle.pg_login.specs.Steps.{frame_of}
 use Rattle.pg_session.proofs.Crossing.Groups.{both-true}
+use Rattle.pg_turns.specs.Speeches.{EndsAlone, IsWholeRequest}
 
 -- ---- frames that were written
 
@@ -39,63 +41,144 @@ written texts counts n frame x = by_tests (list_any has_zero texts) (list_any (�
     by_tests false false true is e = absurd cc
     by_tests false false false is e = record { same = sym (ap frame-in e); short = let high : n ≤ 2147483647 = grind (arith, nat_tests) in omega (arith, high) }
 
--- ---- queries
-
--- the part is one Query
-pub record IsQuery (part : List ℕ) : Type 0 where
-  pub body : List ℕ
-  pub is : part ≡ message_bytes (record { tag = byte "Q"; body = body })
-  pub fits : 4 + length body < 2 ^ 31
-
-pub a-query : (text frame : List ℕ) → query_frame text ≡ Ok frame → IsQuery frame
-a-query text frame e =
-    let w = written (text ∷ []) [] (4 + length (text0 text)) (tagged (byte "Q") (text0 text)) frame e in
-    record { body = text0 text; is = w.same; fits = w.short }
+-- ---- whole requests
 
 -- each of the parts is one
-abbrev pub AreQueries : List (List ℕ) → Type 0
-AreQueries [] = Unit {0}
-AreQueries (part ∷ parts) = IsQuery part × AreQueries parts
+abbrev pub AreRequests : List (List ℕ) → Type 0
+AreRequests [] = Unit {0}
+AreRequests (part ∷ parts) = IsWholeRequest part × AreRequests parts
 
-pub front-queries : (xs ys : List (List ℕ)) → AreQueries (xs ++ ys) → AreQueries xs
-front-queries [] ys h = tt
-front-queries (x ∷ xs) ys h = (h.0, front-queries xs ys h.1)
+pub front-requests : (xs ys : List (List ℕ)) → AreRequests (xs ++ ys) → AreRequests xs
+front-requests [] ys h = tt
+front-requests (x ∷ xs) ys h = (h.0, front-requests xs ys h.1)
 
--- a message is a Query
-abbrev pub is_query : RawMessage → Bool
-is_query frame = frame.tag == byte "Q"
+-- their frames are read off their bytes, request by request
+reads-requests : (parts : List (List ℕ)) → AreRequests parts → messages (joined parts) ≡ joined (map messages parts)
+reads-requests [] h = refl
+reads-requests (part ∷ parts) h =
+    messages-append part (joined parts) ∙ ap (λ (x : List ℕ). messages part ++ messages (x ++ joined parts)) h.0.whole
+    ∙ ap (λ (ms : List RawMessage). messages part ++ ms) (reads-requests parts h.1)
 
--- as many messages as parts are read off their bytes, and each is a Query
-pub record ReadsQueries (n : ℕ) (ms : List RawMessage) : Type 0 where
-  pub count : length ms ≡ n
-  pub all : list_all is_query ms ≡ true
+-- each of these ends alone
+abbrev pub AllEndAlone : List (List RawMessage) → Type 0
+AllEndAlone [] = Unit {0}
+AllEndAlone (g ∷ gs) = EndsAlone g × AllEndAlone gs
 
-pub reads-queries : (parts : List (List ℕ)) → AreQueries parts → ReadsQueries (length parts) (messages (joined parts))
-reads-queries [] h = record { count = refl; all = refl }
-reads-queries (part ∷ parts) h =
-    let m : RawMessage = record { tag = byte "Q"; body = h.0.body } in
-    let front : messages (part ++ joined parts) ≡ m ∷ messages (joined parts) =
-    ap (λ (x : List ℕ). messages (x ++ joined parts)) h.0.is ∙ messages-front m (joined parts) h.0.fits in
-    let rest = reads-queries parts h.1 in
-    record {
-      count = ap length front ∙ ap suc rest.count;
-      all = ap (list_all is_query) front ∙ rest.all;
-    }
+pub each-ends : (parts : List (List ℕ)) → AreRequests parts → AllEndAlone (map messages parts)
+each-ends [] h = tt
+each-ends (part ∷ parts) h = (h.0.frames, each-ends parts h.1)
 
--- what was taken of the parts
-pub record TakesQueries (n : ℕ) (ms : List RawMessage) : Type 0 where
-  pub count : length ms ≤ n
-  pub all : list_all is_query ms ≡ true
+-- ---- what a request's frames are cut into
 
-pub front-reads : (parts : List (List ℕ)) (more unsent : List ℕ) → AreQueries parts → more ++ unsent ≡ joined parts → TakesQueries (length parts) (messages more)
+-- a frame that isn't a password
+abbrev pub is_kept : RawMessage → Bool
+is_kept frame = not (is_password frame)
+
+either : (a b : Bool) → (a || b) ≡ true → (a ≡ true) ⊎ (b ≡ true)
+either true b e = inl refl
+either false b e = inr e
+
+neither : (a b : Bool) → (a || b) ≡ false → (a ≡ false) × (b ≡ false)
+neither true b e = absurd cc
+neither false b e = (refl, e)
+
+by-tag : (f : ℕ → Bool) (m : RawMessage) → f (byte "Q") ≡ false → f (byte "S") ≡ false → ends_unit m ≡ true → f m.tag ≡ false
+by-tag f m q s e = by (either (m.tag == byte "Q") (m.tag == byte "S") e)
+  where
+    by : ((m.tag == byte "Q") ≡ true) ⊎ ((m.tag == byte "S") ≡ true) → f m.tag ≡ false
+    by (inl is) = ap f (eqb-true m.tag (byte "Q") is) ∙ q
+    by (inr is) = ap f (eqb-true m.tag (byte "S") is) ∙ s
+
+-- what ends a request is no password and not Terminate
+end-kept : (m : RawMessage) → ends_unit m ≡ true → is_password m ≡ false
+end-kept m e = by-tag (λ (tag : ℕ). tag == byte "p") m refl refl e
+
+end-stays : (m : RawMessage) → ends_unit m ≡ true → is_terminate m ≡ false
+end-stays m e = by-tag (λ (tag : ℕ). tag == byte "X") m refl refl e
+
+-- what gives no turn is no password and ends no request
+quiet-kept : (m : RawMessage) → gives_turn m ≡ false → (is_password m ≡ false) × (ends_unit m ≡ false)
+quiet-kept m e =
+    let a = neither (is_password m || ends_unit m) (m.tag == byte "H") e in
+    neither (is_password m) (ends_unit m) a.0
+
+-- a request is one piece
+pub unit-cut : (g rest : List RawMessage) → EndsAlone g → cut_after ends_unit (filter is_kept (g ++ rest)) ≡ g ∷ cut_after ends_unit (filter is_kept rest)
+unit-cut [] rest e = absurd e
+unit-cut (m ∷ []) rest e =
+    ap (λ (b : Bool). cut_after ends_unit (cond (not b) (m ∷ filter is_kept rest) (filter is_kept rest))) (end-kept m e)
+    ∙ ap (λ (b : Bool). if b then (m ∷ []) ∷ cut_after ends_unit (filter is_kept rest) else onto_first m (cut_after ends_unit (filter is_kept rest))) e
+unit-cut (m ∷ n ∷ g) rest e =
+    let quiet = quiet-kept m e.0 in
+    let others : List RawMessage = filter is_kept ((n ∷ g) ++ rest) in
+    ap (λ (b : Bool). cut_after ends_unit (cond (not b) (m ∷ others) others)) quiet.0
+    ∙ ap (λ (b : Bool). if b then (m ∷ []) ∷ cut_after ends_unit others else onto_first m (cut_after ends_unit others)) quiet.1
+    ∙ ap (onto_first m) (unit-cut (n ∷ g) rest e.2)
+
+pub units-cut : (gs : List (List RawMessage)) → AllEndAlone gs → cut_after ends_unit (filter is_kept (joined gs)) ≡ gs
+units-cut [] h = refl
+units-cut (g ∷ gs) h = unit-cut g (joined gs) h.0 ∙ ap (λ (l : List (List RawMessage)). g ∷ l) (units-cut gs h.1)
+
+pub ends-alone : (g : List RawMessage) → EndsAlone g → ends_in ends_unit g ≡ true
+ends-alone [] e = absurd e
+ends-alone (m ∷ []) e = e
+ends-alone (m ∷ n ∷ g) e = ends-alone (n ∷ g) e.2
+
+-- behind the frames of requests the pieces are as many as these
+pub units-of : (parts : List (List ℕ)) → AreRequests parts → cut_after ends_unit (filter is_kept (messages (joined parts))) ≡ map messages parts
+units-of parts h =
+    ap (λ (ms : List RawMessage). cut_after ends_unit (filter is_kept ms)) (reads-requests parts h)
+    ∙ units-cut (map messages parts) (each-ends parts h)
+
+-- ---- a front of them
+
+some-more : {X : Type 0} (x : X) (few many : List (List X)) → length few ≤ length many → length (onto_first x few) ≤ length (onto_first x many)
+some-more x [] [] h = omega arith
+some-more x [] (g ∷ gs) h = omega arith
+some-more x (f ∷ fs) [] h = absurd (omega (arith, h))
+some-more x (f ∷ fs) (g ∷ gs) h = omega (arith, h)
+
+-- a front is cut into no more pieces
+pub cut-fewer : {X : Type 0} (p : X → Bool) (xs ys : List X) → length (cut_after p xs) ≤ length (cut_after p (xs ++ ys))
+cut-fewer p [] ys = omega arith
+cut-fewer {X} p (x ∷ xs) ys = by (p x) (cut-fewer p xs ys)
+  where
+    by : (b : Bool) → length (cut_after p xs) ≤ length (cut_after p (xs ++ ys)) →
+        length (if b then (x ∷ []) ∷ cut_after p xs else onto_first x (cut_after p xs)) ≤ length (if b then (x ∷ []) ∷ cut_after p (xs ++ ys) else onto_first x (cut_after p (xs ++ ys)))
+    by true h = omega (arith, h)
+    by false h = some-more x (cut_after p xs) (cut_after p (xs ++ ys)) h
+
+-- a message that isn't Terminate
+abbrev pub goes_on : RawMessage → Bool
+goes_on frame = not (is_terminate frame)
+
+alone-goes : (g : List RawMessage) → EndsAlone g → list_all goes_on g ≡ true
+alone-goes [] e = absurd e
+alone-goes (m ∷ []) e = ap (λ (b : Bool). not b && true) (end-stays m e)
+alone-goes (m ∷ n ∷ g) e = ap (λ (b : Bool). not b && list_all goes_on (n ∷ g)) e.1 ∙ alone-goes (n ∷ g) e.2
+
+all-go : (gs : List (List RawMessage)) → AllEndAlone gs → list_all goes_on (joined gs) ≡ true
+all-go [] h = refl
+all-go (g ∷ gs) h =
+    list_all-append goes_on g (joined gs) ∙ ap (λ (b : Bool). b && list_all goes_on (joined gs)) (alone-goes g h.0) ∙ all-go gs h.1
+
+-- what was taken of the parts: pieces no more than these, and the last isn't Terminate
+pub record TakesRequests (n : ℕ) (ms : List RawMessage) : Type 0 where
+  pub units : length (cut_after ends_unit (filter is_kept ms)) ≤ n
+  pub silent : list_all goes_on ms ≡ true
+
+pub front-reads : (parts : List (List ℕ)) (more unsent : List ℕ) → AreRequests parts → more ++ unsent ≡ joined parts → TakesRequests (length parts) (messages more)
 front-reads parts more unsent h is =
     let others = messages (bytes_left more ++ unsent) in
-    let all = reads-queries parts h in
     let cut : messages (joined parts) ≡ messages more ++ others = ap messages (sym is) ∙ messages-append more unsent in
+    let all : length (cut_after ends_unit (filter is_kept (messages (joined parts)))) ≡ length parts =
+    ap (λ (us : List (List RawMessage)). length us) (units-of parts h) ∙ length-map parts messages in
+    let apart : cut_after ends_unit (filter is_kept (messages (joined parts))) ≡ cut_after ends_unit (filter is_kept (messages more) ++ filter is_kept others) =
+    ap (λ (ms : List RawMessage). cut_after ends_unit (filter is_kept ms)) cut ∙ ap (λ (ms : List RawMessage). cut_after ends_unit ms) (filter-append is_kept (messages more) others) in
     record {
-      count = let a : length (messages more ++ others) ≡ length parts = ap length (sym cut) ∙ all.count in omega (arith, a, length-append (messages more) others);
-      all = (both-true (list_all is_query (messages more)) (list_all is_query others)
-          (sym (list_all-append is_query (messages more) others) ∙ ap (list_all is_query) (sym cut) ∙ all.all)).0;
+      units = omega (arith, all, ap (λ (us : List (List RawMessage)). length us) apart, cut-fewer ends_unit (filter is_kept (messages more)) (filter is_kept others));
+      silent = (both-true (list_all goes_on (messages more)) (list_all goes_on others)
+          (sym (list_all-append goes_on (messages more) others) ∙ ap (list_all goes_on) (sym cut) ∙ ap (list_all goes_on) (reads-requests parts h) ∙ all-go (map messages parts) (each-ends parts h))).0;
     }
 
 -- ---- what was said
@@ -114,13 +197,14 @@ sent-behind settings opening more e =
 pub frames-behind : (settings : Settings) (opening more : List ℕ) → frame_of settings ≡ Ok opening → tagged_frames (opening ++ more) ≡ messages more
 frames-behind settings opening more e = ap messages_if (sent-behind settings opening more e)
 
-no_end : (tag : ℕ) → (tag == byte "Q") ≡ true → (tag == byte "X") ≡ false
-no_end tag e = ap (λ (x : ℕ). x == byte "X") (eqb-true tag (byte "Q") e)
+not-true : (b : Bool) → not b ≡ true → b ≡ false
+not-true true e = absurd cc
+not-true false e = refl
 
-pub never-said : (ms : List RawMessage) → list_all is_query ms ≡ true → ends_in is_terminate ms ≡ false
+pub never-said : (ms : List RawMessage) → list_all goes_on ms ≡ true → ends_in is_terminate ms ≡ false
 never-said [] e = refl
-never-said (m ∷ []) e = no_end m.tag (both-true (is_query m) true e).0
-never-said (m ∷ n ∷ ms) e = never-said (n ∷ ms) (both-true (is_query m) (list_all is_query (n ∷ ms)) e).1
+never-said (m ∷ []) e = not-true (is_terminate m) (both-true (goes_on m) true e).0
+never-said (m ∷ n ∷ ms) e = never-said (n ∷ ms) (both-true (goes_on m) (list_all goes_on (n ∷ ms)) e).1
 
 pub filter-short : {X : Type 0} (p : X → Bool) (xs : List X) → length (filter p xs) ≤ length xs
 filter-short p [] = omega arith

@@ -1,5 +1,5 @@
 -- What a message of the startup may be refused for.
-use Rattle.std.proofs.Common.{◌≡◌, ℕ, ◌+◌, ◌&&◌, Bool, true, false, not, List, [], ◌∷◌, length, Option, Some, None, Result, Ok, Err, if◌then◌else◌, refl, subst}
+use Rattle.std.proofs.Common.{◌≡◌, ℕ, ◌&&◌, Bool, true, false, not, List, [], ◌∷◌, length, Option, Some, None, Result, Ok, Err, if◌then◌else◌, refl, subst}
 use Rattle.std.specs.Prelude.{◌==◌, ◌||◌, codes, find, nat_eq, nat_lt, unwrap_or}
 use Rattle.std.specs.List.{list_all, list_any, slice_split, starts_with}
 use Rattle.std.specs.Str.{all_ascii_digits, byte, bytes_eq, is_utf8}
@@ -13,10 +13,10 @@ use Rattle.pg_faults.specs.declared.fault.FrameFault.TheVariants as frame
 use Rattle.pg_spec.specs.Frames.{frame_fault, has_zero, unless_fault, password_frame, sasl_frame, sasl_initial_frame}
 use Rattle.pg_spec.specs.Messages as said
 use Rattle.pg_spec.specs.Messages.{Message, layouts}
-use Rattle.pg_spec.specs.Passwords.{ClientFinal, ServerFirst, after_prefix, from_base64, hi, is_nonce_byte, iterations_of, scram_if, scram_or, judged, server_first_of, told_by, md5_reply, server_final_fault}
+use Rattle.pg_spec.specs.Passwords.{ClientFinal, ServerFirst, after_prefix, from_base64, hi, is_nonce_byte, iterations_of, scram_if, scram_or, server_first_of, told_by, md5_reply, server_final_fault}
 use Rattle.pg_spec.specs.RawMessages.{RawMessage}
 use Rattle.pg_spec.specs.Settings.{Mode, Disable, Prefer, Require, Settings}
-use Rattle.pg_spec.specs.SimpleQuery.{server_error, unreadable}
+use Rattle.pg_spec.specs.SimpleQuery.{server_error}
 use Rattle.pg_spec.specs.Startup.{Login, Phase, First, Continue, Final, Accepted, Info, Move, Writes, Ends, Refuses, Scheme, writes, unless_required, with_password, unless_unbound, writes_first, uses_scheme, starts_sasl, goes_on_sasl, accepts_proof, startup_message, startup_move}
 
 -- a failure of a startup's message

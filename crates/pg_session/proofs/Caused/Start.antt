@@ -1,14 +1,14 @@
 -- A startup that failed has its cause.
-use Rattle.std.proofs.Common.{◌≡◌, ℕ, Bool, false, List, [], ◌∷◌, ◌++◌, length, Option, Some, None, Result, Ok, Err, inl, inr, refl, sym, ◌∙◌, ap, subst, arith}
+use Rattle.std.proofs.Common.{◌≡◌, ℕ, Bool, false, List, [], ◌∷◌, ◌++◌, length, Option, Some, None, Result, Err, inl, inr, refl, sym, ◌∙◌, ap, subst, arith}
 use Rattle.std.specs.Prelude.{IfSome}
 use Rattle.std.proofs.Math.Seq.{drop-append_seam}
 use Rattle.pg_promises.specs.Causes.{Call, OfPlainDialogue, InStartup, HasCause, NeedsNoTls}
 use Rattle.pg_promises.specs.ConnectionStrings.{Means}
 use Rattle.pg_spec.specs.Settings.{Settings}
-use Rattle.pg_spec.specs.Faults.{FrameFault, ZeroByte, TooMany, TooLong, Failure, Frame, Encode}
+use Rattle.pg_spec.specs.Faults.{FrameFault, ZeroByte, TooMany, TooLong, Frame, Encode}
 use Rattle.pg_spec.specs.Links.{LinkView, Grew, added, OfBytes}
 use Rattle.pg_spec.specs.RawMessages.{RawMessage, messages}
-use Rattle.pg_spec.specs.Startup.{Outcome, Refused, Move, begun_by, dialogue, First, moved_by, startup, plain_login}
+use Rattle.pg_spec.specs.Startup.{Refused, Move, begun_by, dialogue, First, moved_by, startup, plain_login}
 use Rattle.pg_faults.specs.declared.fault.FrameFault.TheVariants as frame
 use Rattle.pg_faults.specs.declared.fault.WireFault.TheVariants as wire
 use Rattle.pg_faults.specs.declared.cause.Cause.TheVariants as cause

@@ -17,11 +17,11 @@ use Rattle.pg_connect.specs.Answers.{PollAnswers, is_over, fresh, left_open}
 use Rattle.pg_connect.specs.Passed.{delivered_by, bytes_out_by}
 use Rattle.pg_connect.specs.Passes.{Passes, waiting, delayed_in, IsUnread, goodbye}
 use Rattle.pg_connect.proofs.Joining.{relay, grew_then, came_off_then, rest_then, out_then, delivered_by-append, bytes_out_by-append, none_lost, keeps_then}
-use Rattle.pg_text.specs.declared.command.Command.{Command}
-use Rattle.pg_session.specs.Sessions.{MakesAll, Rests}
-use Rattle.pg_session.specs.States.{SessionState}
-use Rattle.pg_session.specs.Turns.{HandsOn, Makes}
+use Rattle.pg_turns.specs.Sessions.{MakesAll, Rests}
+use Rattle.pg_turns.specs.States.{SessionState}
+use Rattle.pg_turns.specs.Turns.{HandsOn, Makes}
 use Rattle.pg_session.proofs.Crossing.{Moves, Stood}
+use Rattle.pg_turns.specs.Speeches.{Speech}
 
 -- ---- between two turns
 
@@ -55,14 +55,6 @@ open-poll most opening base l m a b s t old new (Ready (Some (Ok message))) h p 
     still-open most opening base l m s t p.turns.goes.events p.turns.handed h p.stands p.turns.goes.passes
 open-poll most opening base l m a b s t old new (Ready (Some (Err e))) h p hands = absurd hands
 
-open-turn : (most : ℕ) (opening : List ℕ) (base l m : LinkView) (scripts : List (List Command)) (turn : ℕ) (s t : SessionState) →
-    IsOpen most opening base s.streams l → Makes scripts turn s t l m false → IsOpen most opening base t.streams m
-open-turn most opening base l m scripts turn s t h (inl made) =
-    subst (λ (x : LinkView). IsOpen most opening base t.streams x) (sym made.link)
-    (subst (λ (x : Streams). IsOpen most opening base x l) (sym made.made.streams) h)
-open-turn most opening base l m scripts turn s t h (inr made) =
-    open-poll most opening base l m s.hub t.hub s.streams t.streams s.asynchronous t.asynchronous made.made.answer h made.made.polled made.made.hands
-
 open-rests : (most : ℕ) (opening : List ℕ) (base l m : LinkView) (s : Streams) → IsOpen most opening base s l → Rests l m → IsOpen most opening base s m
 open-rests most opening base l m s h rests = record {
   keeps = keeps_then base l m h.keeps rests.keeps;
@@ -71,14 +63,6 @@ open-rests most opening base l m s h rests = record {
   goes_on = h.goes_on;
   limit = h.limit;
 }
-
-pub open-all : (most : ℕ) (opening : List ℕ) (base : LinkView) (scripts : List (List Command)) (turns : List ℕ) (s : SessionState) (l : LinkView) (t : SessionState) (m : LinkView) →
-    IsOpen most opening base s.streams l → MakesAll scripts turns s l t m → IsOpen most opening base t.streams m
-open-all most opening base scripts [] s l t m h made =
-    subst (λ (x : SessionState). IsOpen most opening base x.streams m) (sym made.0) (open-rests most opening base l m s.streams h made.1)
-open-all most opening base scripts (turn ∷ turns) s l t m h made =
-    open-all most opening base scripts turns made.1 made.2 t m
-    (open-turn most opening base made.0 made.2 scripts turn s made.1 (open-rests most opening base l made.0 s.streams h made.3) made.4) made.5
 
 -- ---- the turn that fails
 
@@ -129,3 +113,20 @@ broke-off opening startup base l m a b s t asides es hs h moves p = record {
       ∙ relay [] (async_of (startup ++ h.read)) h.handed (delayed_in s) (async_of p.read) hs (delayed_in t) h.handed_out p.handed_out;
   count = omega (arith, p.count, h.count, length-append h.given p.got);
 }
+
+module _ {C T A E : Type 0} (speech : Speech C T A E) where
+  open-turn : (most : ℕ) (opening : List ℕ) (base l m : LinkView) (scripts : List (List C)) (turn : ℕ) (s t : SessionState T A E) →
+      IsOpen most opening base s.streams l → Makes speech scripts turn s t l m false → IsOpen most opening base t.streams m
+  open-turn most opening base l m scripts turn s t h (inl made) =
+      subst (λ (x : LinkView). IsOpen most opening base t.streams x) (sym made.link)
+      (subst (λ (x : Streams). IsOpen most opening base x l) (sym made.made.streams) h)
+  open-turn most opening base l m scripts turn s t h (inr made) =
+      open-poll most opening base l m s.hub t.hub s.streams t.streams s.asynchronous t.asynchronous made.made.answer h made.made.polled made.made.hands
+
+  pub open-all : (most : ℕ) (opening : List ℕ) (base : LinkView) (scripts : List (List C)) (turns : List ℕ) (s : SessionState T A E) (l : LinkView) (t : SessionState T A E) (m : LinkView) →
+      IsOpen most opening base s.streams l → MakesAll speech scripts turns s l t m → IsOpen most opening base t.streams m
+  open-all most opening base scripts [] s l t m h made =
+      subst (λ (x : SessionState T A E). IsOpen most opening base x.streams m) (sym made.0) (open-rests most opening base l m s.streams h made.1)
+  open-all most opening base scripts (turn ∷ turns) s l t m h made =
+      open-all most opening base scripts turns made.1 made.2 t m
+      (open-turn most opening base made.0 made.2 scripts turn s made.1 (open-rests most opening base l made.0 s.streams h made.3) made.4) made.5

@@ -1,23 +1,29 @@
 -- A link that conforms holds its course in a call, so valid input ends well over it.
-use Rattle.std.proofs.Common.{◌≡◌, ℕ, ◌≤◌, List, [], ◌++◌, length, take, drop, append_assoc, Bool, true, false, ◌||◌, Option, Some, Err, refl, sym, ap, subst, ◌∙◌, arith}
-use Rattle.std.specs.Prelude.{IfSome, IsFalse}
+use Rattle.std.proofs.Common.{◌≡◌, ℕ, ◌≤◌, List, [], ◌++◌, length, take, drop, append_assoc, Bool, true, false, ◌||◌, Option, Some, Result, Err, refl, sym, ap, subst, ◌∙◌, arith}
+use Rattle.std.specs.Prelude.{IfSome, IsFalse, ⊤}
 use Rattle.std.specs.List.{concat}
 use Rattle.pg_promises.specs.Causes.{Call, HasCause, OfDialogue, WithSettings, startup_after}
 use Rattle.pg_spec.specs.Settings.{Settings}
 use Rattle.pg_promises.specs.ConnectionStrings.{Means}
-use Rattle.pg_spec.specs.Faults.{Failure}
+use Rattle.pg_spec.specs.Faults.{Failure, OutOfMemory}
 use Rattle.pg_spec.specs.Links.{Plan, Rose, added, due_by}
 use Rattle.pg_promises.proofs.Strings.{means_one}
-use Rattle.pg_promises.specs.Promises.{AnswersStartup, Conforms, IsValid, MustEndWell, SentInOrder, requests_in}
+use Rattle.pg_promises.specs.Promises.{AnswersStartup, EndsWell}
+use Rattle.pg_failed.specs.Calls as any_calls
+use Rattle.pg_failed.specs.Calls.{apart}
+use Rattle.pg_failed.specs.Completeness as any
+use Rattle.pg_failed.specs.Sent.{SentInOrder}
 use Rattle.pg_spec.specs.RawMessages.{RawMessage, messages}
 use Rattle.pg_spec.specs.Sent.{turns_given}
 use Rattle.pg_spec.specs.Startup.{Startup, startup}
 use Rattle.pg_wire.specs.LinkCalls.{Continues, Extends, Tells}
+use Rattle.pg_turns.specs.Speeches.{BookWhole, Speech, meaning_of}
 use Rattle.pg_session.specs.Course.{HoldsCourse}
 use Rattle.std.proofs.lemmas.List.Elements.{recursion_from_All}
 use Rattle.pg_session.proofs.Complete.Bytes.{IsWhole, all-take, front-of, messages-behind, split-concat, whole-concat}
 use Rattle.pg_session.proofs.Complete.Start.{frames-grow, same-later}
 use Rattle.pg_session.proofs.Complete.{ends-well}
+use Rattle.pg_session.proofs.Complete.Answered.{answers}
 use Rattle.pg_session.proofs.SentSoFar.TurnsAsked.{HasFewTurns, few-turns}
 
 -- what is told holds of what is told
@@ -73,7 +79,7 @@ module _ (call : Call) (plan : Plan) (taken : List ℕ) (before : Tells call.bef
       (goes.keeps.in_plan (to-before (λ p g t. (rest : List ℕ) × (g ++ rest ≡ concat (take (turns_given t) p.entries)))
       (concat (take (turns_given []) plan.entries), refl)))
 
-  holds-course : (s : Settings) → HasFewTurns taken (length (startup_after call s given).frames) (requests_in call.scripts) → HoldsCourse call s plan given taken
+  holds-course : (s : Settings) → HasFewTurns taken (length (startup_after call s given).frames) → HoldsCourse call s plan given taken
   holds-course s few = record {
     none_given = none_given;
     none_taken = none_taken;
@@ -102,17 +108,26 @@ module _ (call : Call) (plan : Plan) (taken : List ℕ) (before : Tells call.bef
             (of-some (added call.before.given call.after.given) given (λ g. IfSome (added call.before.taken call.after.taken) (λ t. P s g t)) g crossed),
       )
 
+-- want of memory is so for any commands too
+ends-so : (R : Type 0) (failure : Failure) → EndsWell (Err failure) → any.EndsWell {T = R} (Err failure)
+ends-so R OutOfMemory h = tt
+ends-so R _ h = h
+
 -- valid input over a link that conforms ends well
-pub must-end-well : (call : Call) (failure : Failure) → Tells call.before → Tells call.after → Continues call.before call.after →
-    (WithSettings call (λ s. Unit {0}) → OfDialogue call (λ s g t. SentInOrder call s g t)) → HasCause call failure → MustEndWell call (Err failure)
-must-end-well call failure before after goes sent cause plan s taken none_given none_taken planned told means valid conforms =
+pub must-end-well : {C T A E R : Type 0} (speech : Speech C T A E) → BookWhole speech → (call : any_calls.Call C) (failure : Failure) (result : Result R Failure) → Tells call.before → Tells call.after → Continues call.before call.after →
+    (WithSettings (apart call) (λ s. ⊤) → OfDialogue (apart call) (λ s g t. SentInOrder (meaning_of speech) call s g t)) → HasCause (apart call) failure → result ≡ Err failure → any.MustEndWell call result
+must-end-well {C} {T} {A} {E} {R} speech whole call failure result before after goes sent cause is plan s taken none_given none_taken planned told means valid conforms =
     let calm = neither plan.is_troubled plan.ends conforms.opens.untroubled in
-    let crossed = of-bytes call plan taken before after goes none_given none_taken planned told calm.0 calm.1 (λ s g t. SentInOrder call s g t) (sent (s, means, tt)) in
-    let given = all-given call plan taken before after goes none_given none_taken planned told calm.0 calm.1 in
-    let in-order : SentInOrder call s given.0 taken = subst (λ (x : Settings). SentInOrder call x given.0 taken) (means_one call.config crossed.0 s crossed.1 means) crossed.2 in
-    ends-well call s plan given.0 taken means valid conforms
-    (holds-course call plan taken before after goes none_given none_taken planned told calm.0 calm.1 s (few-turns call s given.0 taken valid.no_tls in-order))
-    failure cause
+    let crossed = of-bytes (apart call) plan taken before after goes none_given none_taken planned told calm.0 calm.1 (λ s g t. SentInOrder (meaning_of speech) call s g t) (sent (s, means, tt)) in
+    let given = all-given (apart call) plan taken before after goes none_given none_taken planned told calm.0 calm.1 in
+    let in-order : SentInOrder (meaning_of speech) call s given.0 taken =
+    subst (λ (x : Settings). SentInOrder (meaning_of speech) call x given.0 taken) (means_one call.config crossed.0 s crossed.1 means) crossed.2 in
+    let few = few-turns speech whole call s given.0 taken valid.no_tls in-order in
+    subst (λ (r : Result R Failure). any.EndsWell r) (sym is)
+    (ends-so R failure
+    (ends-well (apart call) s plan given.0 taken means valid (answers call s plan taken few.no_flush conforms)
+    (holds-course (apart call) plan taken before after goes none_given none_taken planned told calm.0 calm.1 s few)
+    failure cause))
 
 -- ---- the frames of a startup
 

@@ -3,9 +3,10 @@ use Rattle.std.proofs.Common.{◌≡◌, ◌<◌, ◌≤◌, ℕ, suc, ◌+◌, 
 use Rattle.std.specs.Prelude.{filter, slice_get, option_map, unwrap_or}
 use Rattle.std.specs.List.{list_all}
 use Rattle.std.proofs.lemmas.List.{length_push, length-map}
-use Rattle.std.proofs.lemmas.List.Elements.{filter-append, filter_map-append}
+use Rattle.std.proofs.lemmas.List.Elements.{filter-append}
 use Rattle.std.proofs.lemmas.List.Folds.{list_all-append}
 use Rattle.pg_spec.specs.Asides.{is_readable}
+use Rattle.pg_spec.specs.Book as book
 use Rattle.pg_spec.specs.Settings.{Settings}
 use Rattle.pg_spec.specs.Links.{LinkView, added}
 use Rattle.pg_spec.specs.Parameters.{parameter_reports, AreLastValues}
@@ -26,12 +27,11 @@ use Rattle.pg_connect.specs.Passed.{delivered_by}
 use Rattle.pg_connect.specs.Passes.{risen}
 use Rattle.pg_connect.proofs.Joining.{none_lost}
 use Rattle.pg_connect.proofs.Sizes.{sizes, sized}
-use Rattle.pg_text.specs.Views.{booking_of}
-use Rattle.pg_text.specs.declared.command.Command.{Command}
-use Rattle.pg_text.specs.declared.report.Report.{Report}
+use Rattle.pg_core.specs.Trails.{said_booking}
+use Rattle.pg_headline.specs.Endings.{Report}
 use Rattle.pg_spec.specs.declared.stamps.TurnMark.{TurnMark}
 use Rattle.pg_session.specs.Crossed.{session_of, Crossed}
-use Rattle.pg_session.specs.Sessions.{HasPlayed}
+use Rattle.pg_turns.specs.Sessions.{HasPlayed}
 use Rattle.pg_session.proofs.Caused.Lists.{all-left}
 use Rattle.pg_session.proofs.Crossing.Hub.{received-all, ends_whole, Ran, ran-all, ran-start}
 use Rattle.pg_session.proofs.Crossing.{Emptied, Stood, shown}
@@ -40,6 +40,7 @@ use Rattle.pg_session.proofs.Crossing.End.{finished as finish, added-is, all-out
 use Rattle.pg_session.proofs.Crossing.Groups.{AreWhole, all-whole, both-true}
 use Rattle.pg_startup.specs.Startups.{Ends}
 use Rattle.pg_connect.proofs.LastValues.{last-values}
+use Rattle.pg_turns.specs.Speeches.{Speech}
 
 -- ---- lists
 
@@ -78,10 +79,10 @@ told-count : (all before : List TurnMark) (mark : TurnMark) (read later : List R
 told-count all before mark read later is count same = trace-end all before mark is ∙ count ∙ ap (λ (x : List RawMessage). length (sync_of x)) (sym same)
 
 -- the notices and notifications of a report
-told-asides : (reported asides : List AsyncMessage) (read ms : List RawMessage) → reported ≡ asides → shown asides ≡ map said.async_of_raw (async_of read) → async_of ms ≡ async_of read →
-    map (λ (m : said.AsyncMessage). Some m) (map aside_of reported) ≡ map said.async_of_raw (async_of ms)
+told-asides : (reported : List said.AsyncMessage) (asides : List AsyncMessage) (read ms : List RawMessage) → reported ≡ map aside_of asides → shown asides ≡ map said.async_of_raw (async_of read) → async_of ms ≡ async_of read →
+    map (λ (m : said.AsyncMessage). Some m) reported ≡ map said.async_of_raw (async_of ms)
 told-asides reported asides read ms same shows is =
-    ap (λ (x : List AsyncMessage). map (λ (m : said.AsyncMessage). Some m) (map aside_of x)) same
+    ap (map (λ (m : said.AsyncMessage). Some m)) same
     ∙ map-twice (λ (m : said.AsyncMessage). Some m) aside_of asides
     ∙ shows ∙ ap (map said.async_of_raw) (sym is)
 
@@ -166,43 +167,44 @@ startup-readable settings nonce first read wrote asides ends shows =
     readable-all first (all-heard l First first done)
     (both-true (list_all is_told (async_of first)) (list_all is_told (async_of read)) (sym (list_all-append is_told (async_of first) (async_of read)) ∙ told)).0
 
--- ---- all together
+module _ {C T A E : Type 0} (speech : Speech C T A E) where
+  -- ---- all together
 
-pub all-crossed : (settings : Settings) (nonce : List ℕ) (scripts : List (List Command)) (given : List ℕ) (before after : LinkView) (report : Report)
-    (p : HasPlayed settings nonce scripts given before after report) → (g t : List ℕ) →
-    added before.given after.given ≡ Some g → added before.taken after.taken ≡ Some t → Crossed (session_of settings nonce scripts given report g) t
-all-crossed settings nonce scripts given before after report p g t e d =
-    let f = finish settings nonce scripts given before after report p in
-    let h = f.stood in
-    let sent = was-sent settings nonce scripts given before after report p f g t e d in
-    let g-is : g ≡ h.given = added-is before.given after.given h.given g h.gave e in
-    let started = startup-of settings nonce scripts given before after report p f g g-is in
-    let empty = h.emptied f.is_last.closing in
-    let passed = all-passed p.opening p.opened.read before after p.last.hub p.last.streams p.last.asynchronous h empty in
-    let whole = whole-groups p.opening p.opened.read before after p.last.hub p.last.streams p.last.asynchronous h f.is_last.closing passed.delivered in
-    let lost : h.lost ≡ [] = none_lost p.last.streams.unread h.lost empty.unread h.unread in
-    let later : session_part settings nonce (messages g) ≡ h.read =
-    started.rest ∙ ap (λ (x : List RawMessage). h.read ++ (x ++ messages p.last.streams.buffer.items)) lost
-    ∙ ap (λ (x : List RawMessage). h.read ++ x) empty.decoded ∙ append-nil h.read in
-    let all : messages g ≡ p.opened.read ++ h.read = ap messages g-is ∙ passed.all in
-    let aside : async_of (startup_part settings nonce (messages g) ++ session_part settings nonce (messages g)) ≡ async_of (p.opened.read ++ h.read) =
-    ap (λ (x : List RawMessage). async_of (x ++ session_part settings nonce (messages g))) started.part
-    ∙ ap (λ (x : List RawMessage). async_of (p.opened.read ++ x)) later in
-    let begun : list_all is_readable p.opened.read ≡ true = startup-readable settings nonce p.opened.read h.read p.opened.wrote p.last.asynchronous p.opened.done passed.shows in
-    record {
-      sends = sent;
-      one_group_each = ap (λ (x : List RawMessage). length (groups x)) later ∙ whole.count
-          ∙ ap (λ (x : List Booking). length x) (sym p.reports.book) ∙ sym (length-map report.book booking_of);
-      whole_groups = ap (λ (x : List RawMessage). list_all is_whole_group (groups x)) later ∙ whole.whole;
-      delivered_all = told-count report.trace p.plays.ends.state.trace (record { turn = f.is_last.turn; delivered = p.last.streams.delivered }) h.read
-          (session_part settings nonce (messages g)) (p.reports.trace ∙ f.is_last.trace) (passed.count p.counted) later;
-      readable = ap (λ (x : List RawMessage). list_all is_readable x) all ∙ list_all-append is_readable p.opened.read h.read
-          ∙ ap (λ (b : Bool). b && list_all is_readable h.read) begun ∙ h.readable;
-      asynchronous = told-asides report.asynchronous p.last.asynchronous (p.opened.read ++ h.read)
-          (startup_part settings nonce (messages g) ++ session_part settings nonce (messages g)) p.reports.asynchronous passed.shows aside;
-      parameters = subst (λ (x : List (List ℕ × List ℕ)). AreLastValues (parameter_reports (messages g)) x) (sym (p.reports.parameters ∙ passed.kept))
-          (subst (λ (x : List RawMessage). AreLastValues (parameter_reports x) (keep_all [] (parameter_reports (p.opened.read ++ h.read)))) (sym all) (last-values (parameter_reports (p.opened.read ++ h.read))));
-      no_bad_header = ap (λ (x : List ℕ). has_bad_header (bytes_left x)) g-is
-          ∙ ap has_bad_header (h.rest ∙ all-left p.last.streams.buffer.items empty.decoded) ∙ empty.header;
-      key = p.reports.key ∙ p.opened.noted.key ∙ ap cancel_key (sym started.part);
-    }
+  pub all-crossed : (settings : Settings) (nonce : List ℕ) (scripts : List (List C)) (given : List ℕ) (before after : LinkView) (report : Report A)
+      (p : HasPlayed speech settings nonce scripts given before after report) → (g t : List ℕ) →
+      added before.given after.given ≡ Some g → added before.taken after.taken ≡ Some t → Crossed (session_of settings nonce scripts given report g) t
+  all-crossed settings nonce scripts given before after report p g t e d =
+      let f = finish speech settings nonce scripts given before after report p in
+      let h = f.stood in
+      let sent = was-sent speech settings nonce scripts given before after report p f g t e d in
+      let g-is : g ≡ h.given = added-is before.given after.given h.given g h.gave e in
+      let started = startup-of speech settings nonce scripts given before after report p f g g-is in
+      let empty = h.emptied f.is_last.closing in
+      let passed = all-passed p.opening p.opened.read before after p.last.hub p.last.streams p.last.asynchronous h empty in
+      let whole = whole-groups p.opening p.opened.read before after p.last.hub p.last.streams p.last.asynchronous h f.is_last.closing passed.delivered in
+      let lost : h.lost ≡ [] = none_lost p.last.streams.unread h.lost empty.unread h.unread in
+      let later : session_part settings nonce (messages g) ≡ h.read =
+      started.rest ∙ ap (λ (x : List RawMessage). h.read ++ (x ++ messages p.last.streams.buffer.items)) lost
+      ∙ ap (λ (x : List RawMessage). h.read ++ x) empty.decoded ∙ append-nil h.read in
+      let all : messages g ≡ p.opened.read ++ h.read = ap messages g-is ∙ passed.all in
+      let aside : async_of (startup_part settings nonce (messages g) ++ session_part settings nonce (messages g)) ≡ async_of (p.opened.read ++ h.read) =
+      ap (λ (x : List RawMessage). async_of (x ++ session_part settings nonce (messages g))) started.part
+      ∙ ap (λ (x : List RawMessage). async_of (p.opened.read ++ x)) later in
+      let begun : list_all is_readable p.opened.read ≡ true = startup-readable settings nonce p.opened.read h.read p.opened.wrote p.last.asynchronous p.opened.done passed.shows in
+      record {
+        sends = sent;
+        one_group_each = ap (λ (x : List RawMessage). length (groups x)) later ∙ whole.count
+            ∙ sym (length-map p.last.hub.book said_booking) ∙ ap (λ (x : List book.Booking). length x) (sym p.reports.book);
+        whole_groups = ap (λ (x : List RawMessage). list_all is_whole_group (groups x)) later ∙ whole.whole;
+        delivered_all = told-count report.trace p.plays.ends.state.trace (record { turn = f.is_last.turn; delivered = p.last.streams.delivered }) h.read
+            (session_part settings nonce (messages g)) (p.reports.trace ∙ f.is_last.trace) (passed.count p.counted) later;
+        readable = ap (λ (x : List RawMessage). list_all is_readable x) all ∙ list_all-append is_readable p.opened.read h.read
+            ∙ ap (λ (b : Bool). b && list_all is_readable h.read) begun ∙ h.readable;
+        asynchronous = told-asides report.asynchronous p.last.asynchronous (p.opened.read ++ h.read)
+            (startup_part settings nonce (messages g) ++ session_part settings nonce (messages g)) p.reports.asynchronous passed.shows aside;
+        parameters = subst (λ (x : List (List ℕ × List ℕ)). AreLastValues (parameter_reports (messages g)) x) (sym (p.reports.parameters ∙ passed.kept))
+            (subst (λ (x : List RawMessage). AreLastValues (parameter_reports x) (keep_all [] (parameter_reports (p.opened.read ++ h.read)))) (sym all) (last-values (parameter_reports (p.opened.read ++ h.read))));
+        no_bad_header = ap (λ (x : List ℕ). has_bad_header (bytes_left x)) g-is
+            ∙ ap has_bad_header (h.rest ∙ all-left p.last.streams.buffer.items empty.decoded) ∙ empty.header;
+        key = p.reports.key ∙ p.opened.noted.key ∙ ap cancel_key (sym started.part);
+      }

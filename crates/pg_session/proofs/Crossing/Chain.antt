@@ -28,16 +28,16 @@ use Rattle.pg_query.specs.declared.desk_call.Reply.{Reply}
 use Rattle.pg_query.specs.Dialogue.{Dialogue, Answer, Ask, Send, Leave, Read, Put, Finish, Close, HangUp, Call, Hear, Steps, Walks, Told}
 use Rattle.pg_query.specs.Meaning.{Place}
 use Rattle.pg_query.specs.Meaning as meaning
-use Rattle.pg_query.specs.declared.simple_message.SimpleMessage.{SimpleMessage}
-use Rattle.pg_text.specs.declared.command.Command.{Command}
-use Rattle.pg_session.specs.declared.handle_turn.Polling.{Polling}
-use Rattle.pg_session.specs.declared.handle_turn.Polling.TheVariants as polling
-use Rattle.pg_session.specs.HandleTurns.{HandleTurns}
-use Rattle.pg_session.specs.Sessions.{MakesAll}
-use Rattle.pg_session.specs.States.{HandleState, SessionState}
-use Rattle.pg_session.specs.Turns.{untouched, Closes, ClosesBehind, HandsOn, Makes}
+use Rattle.pg_turns.specs.declared.handle_turn.Polling.{Polling}
+use Rattle.pg_turns.specs.declared.handle_turn.Polling.TheVariants as polling
+use Rattle.pg_turns.specs.Turns.{HandleTurns}
+use Rattle.pg_turns.specs.Sessions.{MakesAll}
+use Rattle.pg_turns.specs.Handles.{HandleState}
+use Rattle.pg_turns.specs.States.{SessionState}
+use Rattle.pg_turns.specs.Turns.{untouched, Closes, ClosesBehind, HandsOn, Makes}
 use Rattle.pg_session.proofs.Crossing.Hub.{by_kind}
 use Rattle.pg_session.proofs.Crossing.{Moves, moves-by, Quiet, shown, Stood, stood-quiet, stood-rests, Passing, stood-passing}
+use Rattle.pg_turns.specs.Speeches.{Speech}
 
 -- ---- a dialogue delivers nothing and lets nothing out
 
@@ -124,19 +124,12 @@ untouched-hub a b same = record {
   quiet = none-quiet;
 }
 
-walked : (stamp : Stamp) (a b : Standing) (p q : Place (List SimpleMessage)) → meaning.Goes HubBecomes stamp (untouched a) p b q → GoesQuietly a b
+walked : {T : Type 0} (stamp : Stamp) (a b : Standing) (p q : Place T) → meaning.Goes HubBecomes stamp (untouched a) p b q → GoesQuietly a b
 walked stamp a b p q goes = record {
   events = goes.events;
   moves = λ s f. moves-by (untouched a) b goes.events goes.became s (fits-touched s a false f);
   quiet = quiet-walk stamp p.dialogue p.reads goes.events q.dialogue q.reads goes.walked;
 }
-
-handle-goes : (script : List Command) (stamp : Stamp) (a b : Standing) (old new : HandleState) (did : Polling) →
-    HandleTurns HubBecomes script stamp (untouched a) old b new did → GoesQuietly a b
-handle-goes script stamp a b old new polling.Idle h = untouched-hub a b h.desk
-handle-goes script stamp a b old new polling.Began h = walked stamp a b h.from h.to h.pauses.goes
-handle-goes script stamp a b old new polling.Waits h = walked stamp a b h.from h.to h.pauses.goes
-handle-goes script stamp a b old new polling.Answered h = walked stamp a b h.from h.goes.last h.goes.goes
 
 pub closes-goes : (left : ℕ) (a b : Standing) → Closes left a b → GoesQuietly a b
 closes-goes zero a b h = record { events = CloseRequests (Ok tt) ∷ []; moves = moves-by a b _ h; quiet = record { none_in = refl; none_out = refl } }
@@ -192,33 +185,41 @@ passing a b s t l m old new over (Ready (Some (Ok message))) h hands = record {
 }
 passing a b s t l m old new over (Ready (Some (Err e))) h hands = absurd hands
 
--- ---- all turns
+module _ {C T A E : Type 0} (speech : Speech C T A E) where
+  handle-goes : (script : List C) (stamp : Stamp) (a b : Standing) (old new : HandleState T A E) (did : Polling) →
+      HandleTurns HubBecomes speech script stamp (untouched a) old b new did → GoesQuietly a b
+  handle-goes script stamp a b old new polling.Idle h = untouched-hub a b h.desk
+  handle-goes script stamp a b old new polling.Began h = walked stamp a b h.from h.to h.pauses.goes
+  handle-goes script stamp a b old new polling.Waits h = walked stamp a b h.from h.to h.pauses.goes
+  handle-goes script stamp a b old new polling.Answered h = walked stamp a b h.from h.goes.last h.goes.goes
 
--- what stands between two turns
-abbrev pub StoodIn : List ℕ → List RawMessage → LinkView → SessionState → LinkView → Type 0
-StoodIn opening startup base s l = Stood opening startup base s.hub s.streams s.asynchronous l
+  -- ---- all turns
 
-pub stood-turn : (opening : List ℕ) (startup : List RawMessage) (base l m : LinkView) (scripts : List (List Command)) (turn : ℕ) (s t : SessionState) (over : Bool) →
-    StoodIn opening startup base s l → Makes scripts turn s t l m over → StoodIn opening startup base t m
-stood-turn opening startup base l m scripts turn s t over h (inl made) =
-    let first = handle-goes made.made.script _ s.hub made.made.hub made.made.old made.made.new made.did made.made.turns in
-    let then = behind-goes made.did s.unanswered made.made.hub t.hub made.made.closes in
-    let now = stood-quiet opening startup base l made.made.hub t.hub s.streams s.asynchronous then.events
-    (stood-quiet opening startup base l s.hub made.made.hub s.streams s.asynchronous first.events h first.moves first.quiet) then.moves then.quiet in
-    subst (λ (x : LinkView). Stood opening startup base t.hub t.streams t.asynchronous x) (sym made.link)
-    (subst (λ (x : Streams). Stood opening startup base t.hub x t.asynchronous l) (sym made.made.streams)
-    (subst (λ (x : List AsyncMessage). Stood opening startup base t.hub s.streams x l) (sym made.made.asynchronous) now))
-stood-turn opening startup base l m scripts turn s t over h (inr made) =
-    stood-passing opening startup base l m s.hub t.hub s.streams t.streams s.asynchronous t.asynchronous h
-    (passing s.hub t.hub s.streams t.streams l m s.asynchronous t.asynchronous over made.made.answer made.made.polled made.made.hands)
+  -- what stands between two turns
+  abbrev pub StoodIn : List ℕ → List RawMessage → LinkView → SessionState T A E → LinkView → Type 0
+  StoodIn opening startup base s l = Stood opening startup base s.hub s.streams s.asynchronous l
 
-pub stood-all : (opening : List ℕ) (startup : List RawMessage) (base : LinkView) (scripts : List (List Command)) (turns : List ℕ)
-    (s : SessionState) (l : LinkView) (t : SessionState) (m : LinkView) → StoodIn opening startup base s l → MakesAll scripts turns s l t m →
-    StoodIn opening startup base t m
-stood-all opening startup base scripts [] s l t m h made =
-    subst (λ (x : SessionState). StoodIn opening startup base x m) (sym made.0)
-    (stood-rests opening startup base l m s.hub s.streams s.asynchronous made.1.bytes.given made.1.bytes.taken h)
-stood-all opening startup base scripts (turn ∷ turns) s l t m h made =
-    let rested = stood-rests opening startup base l made.0 s.hub s.streams s.asynchronous made.3.bytes.given made.3.bytes.taken h in
-    stood-all opening startup base scripts turns made.1 made.2 t m
-    (stood-turn opening startup base made.0 made.2 scripts turn s made.1 false rested made.4) made.5
+  pub stood-turn : (opening : List ℕ) (startup : List RawMessage) (base l m : LinkView) (scripts : List (List C)) (turn : ℕ) (s t : SessionState T A E) (over : Bool) →
+      StoodIn opening startup base s l → Makes speech scripts turn s t l m over → StoodIn opening startup base t m
+  stood-turn opening startup base l m scripts turn s t over h (inl made) =
+      let first = handle-goes made.made.script _ s.hub made.made.hub made.made.old made.made.new made.did made.made.turns in
+      let then = behind-goes made.did s.unanswered made.made.hub t.hub made.made.closes in
+      let now = stood-quiet opening startup base l made.made.hub t.hub s.streams s.asynchronous then.events
+      (stood-quiet opening startup base l s.hub made.made.hub s.streams s.asynchronous first.events h first.moves first.quiet) then.moves then.quiet in
+      subst (λ (x : LinkView). Stood opening startup base t.hub t.streams t.asynchronous x) (sym made.link)
+      (subst (λ (x : Streams). Stood opening startup base t.hub x t.asynchronous l) (sym made.made.streams)
+      (subst (λ (x : List AsyncMessage). Stood opening startup base t.hub s.streams x l) (sym made.made.asynchronous) now))
+  stood-turn opening startup base l m scripts turn s t over h (inr made) =
+      stood-passing opening startup base l m s.hub t.hub s.streams t.streams s.asynchronous t.asynchronous h
+      (passing s.hub t.hub s.streams t.streams l m s.asynchronous t.asynchronous over made.made.answer made.made.polled made.made.hands)
+
+  pub stood-all : (opening : List ℕ) (startup : List RawMessage) (base : LinkView) (scripts : List (List C)) (turns : List ℕ)
+      (s : SessionState T A E) (l : LinkView) (t : SessionState T A E) (m : LinkView) → StoodIn opening startup base s l → MakesAll speech scripts turns s l t m →
+      StoodIn opening startup base t m
+  stood-all opening startup base scripts [] s l t m h made =
+      subst (λ (x : SessionState T A E). StoodIn opening startup base x m) (sym made.0)
+      (stood-rests opening startup base l m s.hub s.streams s.asynchronous made.1.bytes.given made.1.bytes.taken h)
+  stood-all opening startup base scripts (turn ∷ turns) s l t m h made =
+      let rested = stood-rests opening startup base l made.0 s.hub s.streams s.asynchronous made.3.bytes.given made.3.bytes.taken h in
+      stood-all opening startup base scripts turns made.1 made.2 t m
+      (stood-turn opening startup base made.0 made.2 scripts turn s made.1 false rested made.4) made.5

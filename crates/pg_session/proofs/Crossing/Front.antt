@@ -9,13 +9,13 @@ use Rattle.pg_connect.specs.declared.streams.Streams.{Streams}
 use Rattle.pg_connect.specs.Passed.{delivered_by}
 use Rattle.pg_connect.specs.Passes.{risen, waiting}
 use Rattle.pg_errors.specs.declared.async_message.AsyncMessage.{AsyncMessage}
-use Rattle.pg_text.specs.declared.command.Command.{Command}
 use Rattle.pg_spec.specs.declared.stamps.TurnMark.{TurnMark}
-use Rattle.pg_session.specs.Sessions.{MakesAll}
-use Rattle.pg_session.specs.States.{SessionState}
-use Rattle.pg_session.specs.Turns.{Makes}
+use Rattle.pg_turns.specs.Sessions.{MakesAll}
+use Rattle.pg_turns.specs.States.{SessionState}
+use Rattle.pg_turns.specs.Turns.{Makes}
 use Rattle.pg_session.proofs.Crossing.{Stood}
 use Rattle.pg_session.proofs.Crossing.Chain.{passing}
+use Rattle.pg_turns.specs.Speeches.{Speech}
 
 -- no mark tells more than this
 abbrev pub NoneAbove : List TurnMark → ℕ → Type 0
@@ -37,33 +37,8 @@ marked : (old new : List TurnMark) (mark : TurnMark) (m n : ℕ) → new ≡ old
 marked old new mark m n is up low h =
     subst (λ (l : List TurnMark). NoneAbove l n) (sym is) (none-push old mark n (none-higher old m n up h) low)
 
--- what a session's trace tells
-abbrev pub IsMarked : SessionState → Type 0
-IsMarked s = NoneAbove s.trace s.streams.delivered
-
 rises : (a b n : ℕ) → b ≡ risen a n → a ≤ b
 rises a b n e = omega arith
-
-marked-turn : (scripts : List (List Command)) (turn : ℕ) (s t : SessionState) (l m : LinkView) (over : _) → IsMarked s → Makes scripts turn s t l m over → IsMarked t
-marked-turn scripts turn s t l m over h (inl made) =
-    let same : t.streams.delivered ≡ s.streams.delivered = ap (λ (x : Streams). x.delivered) made.made.streams in
-    marked s.trace t.trace (record { turn = turn; delivered = s.streams.delivered }) s.streams.delivered t.streams.delivered made.made.trace (omega (arith, same)) (omega (arith, same)) h
-marked-turn scripts turn s t l m over h (inr made) =
-    let p = passing s.hub t.hub s.streams t.streams l m s.asynchronous t.asynchronous over made.made.answer made.made.polled made.made.hands in
-    marked s.trace t.trace (record { turn = turn; delivered = t.streams.delivered }) s.streams.delivered t.streams.delivered made.made.trace
-    (rises s.streams.delivered t.streams.delivered (length (delivered_by p.events)) p.passes.delivered_count) (omega arith) h
-
-marked-all : (scripts : List (List Command)) (turns : List ℕ) (s : SessionState) (l : LinkView) (t : SessionState) (m : LinkView) → IsMarked s → MakesAll scripts turns s l t m → IsMarked t
-marked-all scripts [] s l t m h made = subst IsMarked (sym made.0) h
-marked-all scripts (turn ∷ turns) s l t m h made =
-    marked-all scripts turns made.1 made.2 t m (marked-turn scripts turn s made.1 made.0 made.2 _ h made.4) made.5
-
--- no mark of a session tells more than the last one
-pub all-marked : (scripts : List (List Command)) (turns : List ℕ) (last : ℕ) (s : SessionState) (l : LinkView) (mid : SessionState) (k : LinkView) (t : SessionState) (m : LinkView) →
-    s.trace ≡ [] → MakesAll scripts turns s l mid k → (over : _) → Makes scripts last mid t k m over → IsMarked t
-all-marked scripts turns last s l mid k t m none made over final =
-    marked-turn scripts last mid t k m over
-    (marked-all scripts turns s l mid k (subst (λ (x : List TurnMark). NoneAbove x s.streams.delivered) (sym none) (λ place. omega arith)) made) final
 
 not-more : (n : ℕ) → risen 0 n ≤ n
 not-more n = omega arith
@@ -77,3 +52,29 @@ front-delivered opening first base l hub s asides h more =
     let some : length (sync_of h.read) ≡ length (delivered_by h.events) + length (waiting s.held) = ap length h.delivered ∙ length-append (delivered_by h.events) (waiting s.held) in
     let count : s.delivered ≡ risen 0 (length (delivered_by h.events)) = h.counted in
     omega (arith, all, some, count, not-more (length (delivered_by h.events)))
+
+module _ {C T A E : Type 0} (speech : Speech C T A E) where
+  -- what a session's trace tells
+  abbrev pub IsMarked : SessionState T A E → Type 0
+  IsMarked s = NoneAbove s.trace s.streams.delivered
+
+  marked-turn : (scripts : List (List C)) (turn : ℕ) (s t : SessionState T A E) (l m : LinkView) (over : _) → IsMarked s → Makes speech scripts turn s t l m over → IsMarked t
+  marked-turn scripts turn s t l m over h (inl made) =
+      let same : t.streams.delivered ≡ s.streams.delivered = ap (λ (x : Streams). x.delivered) made.made.streams in
+      marked s.trace t.trace (record { turn = turn; delivered = s.streams.delivered }) s.streams.delivered t.streams.delivered made.made.trace (omega (arith, same)) (omega (arith, same)) h
+  marked-turn scripts turn s t l m over h (inr made) =
+      let p = passing s.hub t.hub s.streams t.streams l m s.asynchronous t.asynchronous over made.made.answer made.made.polled made.made.hands in
+      marked s.trace t.trace (record { turn = turn; delivered = t.streams.delivered }) s.streams.delivered t.streams.delivered made.made.trace
+      (rises s.streams.delivered t.streams.delivered (length (delivered_by p.events)) p.passes.delivered_count) (omega arith) h
+
+  marked-all : (scripts : List (List C)) (turns : List ℕ) (s : SessionState T A E) (l : LinkView) (t : SessionState T A E) (m : LinkView) → IsMarked s → MakesAll speech scripts turns s l t m → IsMarked t
+  marked-all scripts [] s l t m h made = subst IsMarked (sym made.0) h
+  marked-all scripts (turn ∷ turns) s l t m h made =
+      marked-all scripts turns made.1 made.2 t m (marked-turn scripts turn s made.1 made.0 made.2 _ h made.4) made.5
+
+  -- no mark of a session tells more than the last one
+  pub all-marked : (scripts : List (List C)) (turns : List ℕ) (last : ℕ) (s : SessionState T A E) (l : LinkView) (mid : SessionState T A E) (k : LinkView) (t : SessionState T A E) (m : LinkView) →
+      s.trace ≡ [] → MakesAll speech scripts turns s l mid k → (over : _) → Makes speech scripts last mid t k m over → IsMarked t
+  all-marked scripts turns last s l mid k t m none made over final =
+      marked-turn scripts last mid t k m over
+      (marked-all scripts turns s l mid k (subst (λ (x : List TurnMark). NoneAbove x s.streams.delivered) (sym none) (λ place. omega arith)) made) final

@@ -1,5 +1,5 @@
 -- Sums over places, and what is left of scripts and parts.
-use Rattle.std.proofs.Common.{◌≡◌, ◌≢◌, ℕ, zero, suc, ◌+◌, ◌-◌, ◌<◌, ◌≤◌, List, [], ◌∷◌, ◌++◌, length, drop, Bool, true, false, ◌||◌, Some, refl, ap, ◌∙◌, subst, arith}
+use Rattle.std.proofs.Common.{◌≡◌, ◌≢◌, ℕ, zero, suc, ◌+◌, ◌-◌, ◌<◌, ◌≤◌, List, [], ◌∷◌, ◌++◌, length, drop, Bool, Some, refl, ap, ◌∙◌, subst, arith}
 use Rattle.std.specs.Prelude.{slice_get, slice_set}
 use Rattle.pg_hub.specs.declared.mailbox.Mailbox.{Mailbox}
 use Rattle.pg_hub.specs.Mail.{waits, at}
@@ -7,14 +7,8 @@ use Rattle.pg_desk.specs.declared.event.Booking.{Booking}
 use Rattle.pg_desk.specs.History.{rest_flags, wire}
 use Rattle.pg_hub.specs.Rests.{rests, weight_in, weight_of}
 use Rattle.pg_hub.specs.Waiting.{undelivered_in}
-use Rattle.pg_text.specs.declared.command.Command.{Command}
-use Rattle.pg_session.specs.Measure.{one_if, part_left, command_left, commands_left, script_left, scripts_left, RunReads, AllRead}
-use Rattle.pg_session.specs.States.{HandleState}
-
--- one of two things moved
-pub one-or : (a b : Bool) → one_if (a || b) ≤ one_if a + one_if b
-one-or true b = omega arith
-one-or false b = omega arith
+use Rattle.pg_session.specs.Measure.{script_left, scripts_left, RunReads, AllRead}
+use Rattle.pg_turns.specs.Handles.{HandleState}
 
 -- ---- sums over places
 
@@ -63,6 +57,10 @@ undelivered-total (m ∷ mail) f h =
 
 -- ---- parts
 
+-- a part that is to go out: its bytes, and one more
+abbrev pub part_left : List ℕ → ℕ
+part_left part = suc (length part)
+
 -- parts that are to go out
 abbrev pub parts_left : List (List ℕ) → ℕ
 parts_left [] = 0
@@ -91,50 +89,32 @@ weight-rests n (b ∷ bs) cs =
     let both = ap parts_left (drop-both n b.parts (wire bs)) ∙ parts-joined (drop n b.parts) (drop (n - length b.parts) (wire bs)) in
     omega (arith, here, later, both)
 
--- what is left behind the first ones grows by the parts that come behind, at most
-pub parts-behind : (n : ℕ) (ps qs : List (List ℕ)) → parts_left (drop n (ps ++ qs)) ≤ parts_left (drop n ps) + parts_left qs
-parts-behind zero ps qs = omega (arith, parts-joined ps qs)
-parts-behind (suc n) [] qs = let h = parts-dropped (suc n) qs in omega (arith, h)
-  where
-    parts-dropped : (n : ℕ) (ps : List (List ℕ)) → parts_left (drop n ps) ≤ parts_left ps
-    parts-dropped zero ps = omega arith
-    parts-dropped (suc n) [] = omega arith
-    parts-dropped (suc n) (p ∷ ps) = let h = parts-dropped n ps in omega (arith, h)
-parts-behind (suc n) (p ∷ ps) qs = parts-behind n ps qs
-
 -- ---- scripts
 
--- the next command, and those behind it
-pub commands-next : (script : List Command) (answered : ℕ) (next : Command) → slice_get script answered ≡ Some next →
-    commands_left (drop answered script) ≡ command_left next + commands_left (drop (suc answered) script)
-commands-next [] answered next h = absurd cc
-commands-next (command ∷ script) zero next h = let same : command ≡ next = cc in ap (λ (c : Command). command_left c + commands_left script) same
-commands-next (command ∷ script) (suc answered) next h = commands-next script answered next h
-
 -- a handle's share changes, and with it all
-pub scripts-changed : (scripts : List (List Command)) (handles : List HandleState) (turn : ℕ) (script : List Command) (old new : HandleState) →
+pub scripts-changed : {C T A E : Type 0} (scripts : List (List C)) (handles : List (HandleState T A E)) (turn : ℕ) (script : List C) (old new : HandleState T A E) →
     slice_get scripts turn ≡ Some script → slice_get handles turn ≡ Some old →
     scripts_left scripts (slice_set handles turn new) + script_left script old.running (length old.answers)
     ≡ scripts_left scripts handles + script_left script new.running (length new.answers)
 scripts-changed [] handles turn script old new is at = absurd cc
 scripts-changed (x ∷ scripts) [] turn script old new is at = absurd cc
-scripts-changed (x ∷ scripts) (h ∷ handles) zero script old new is at =
+scripts-changed {C} {T} {A} {E} (x ∷ scripts) (h ∷ handles) zero script old new is at =
     let same : x ≡ script = cc in
     let here : h ≡ old = cc in
-    let there = ap (λ (s : List Command). script_left s new.running (length new.answers)) same in
-    let before = ap (λ (s : List Command). script_left s h.running (length h.answers)) same ∙ ap (λ (g : HandleState). script_left script g.running (length g.answers)) here in
+    let there = ap (λ (s : List C). script_left s new.running (length new.answers)) same in
+    let before = ap (λ (s : List C). script_left s h.running (length h.answers)) same ∙ ap (λ (g : HandleState T A E). script_left script g.running (length g.answers)) here in
     omega (arith, there, before)
 scripts-changed (x ∷ scripts) (h ∷ handles) (suc turn) script old new is at =
     let more = scripts-changed scripts handles turn script old new is at in omega (arith, more)
 
 -- ---- what runs
 
-pub read-at : (handles : List HandleState) (i : ℕ) (h : HandleState) → AllRead handles → slice_get handles i ≡ Some h → RunReads h.running
+pub read-at : {T A E : Type 0} (handles : List (HandleState T A E)) (i : ℕ) (h : HandleState T A E) → AllRead handles → slice_get handles i ≡ Some h → RunReads h.running
 read-at [] i h all e = absurd cc
-read-at (x ∷ handles) zero h all e = let same : x ≡ h = cc in subst (λ (g : HandleState). RunReads g.running) same all.0
+read-at {T} {A} {E} (x ∷ handles) zero h all e = let same : x ≡ h = cc in subst (λ (g : HandleState T A E). RunReads g.running) same all.0
 read-at (x ∷ handles) (suc i) h all e = read-at handles i h all.1 e
 
-pub read-set : (handles : List HandleState) (i : ℕ) (h : HandleState) → AllRead handles → RunReads h.running → AllRead (slice_set handles i h)
+pub read-set : {T A E : Type 0} (handles : List (HandleState T A E)) (i : ℕ) (h : HandleState T A E) → AllRead handles → RunReads h.running → AllRead (slice_set handles i h)
 read-set [] i h all q = tt
 read-set (x ∷ handles) zero h all q = (q, all.1)
 read-set (x ∷ handles) (suc i) h all q = (all.0, read-set handles i h all.1 q)

@@ -9,8 +9,8 @@ use Rattle.pg_spec.specs.Messages as said
 use Rattle.pg_spec.specs.Messages.{Message, message_of}
 use Rattle.pg_spec.specs.RawMessages.{RawMessage, async_of, is_async, is_parameter, is_aside}
 use Rattle.pg_spec.specs.Report.{AsyncMessage, async_message, async_of_raw}
-use Rattle.pg_spec.specs.Startup.{Login, Phase, First, Continue, Final, Accepted, Info, Move, Writes, Ends, Refuses, Startup, Outcome, Done, Refused, More, startup_message, startup_move, moved_by, dialogue, used_of}
-use Rattle.pg_connect.proofs.Sorting.{kind, aside_kind, calm_readable, sorted_handed}
+use Rattle.pg_spec.specs.Startup.{Login, Phase, First, Continue, Final, Accepted, Info, Move, Writes, Ends, Refuses, Outcome, Done, Refused, More, startup_message, startup_move, moved_by, dialogue, used_of}
+use Rattle.pg_connect.proofs.Sorting.{aside_kind, calm_readable, sorted_handed}
 use Rattle.pg_session.proofs.Crossing.Groups.{both-true}
 
 -- a message that isn't refused can be read, but for a notice

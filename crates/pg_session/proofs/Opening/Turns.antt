@@ -1,5 +1,5 @@
 -- The turns that a startup's frames, and more behind them, give the server.
-use Rattle.std.proofs.Common.{◌≡◌, ◌≤◌, ◌<◌, ◌+◌, ◌^◌, ℕ, List, [], ◌∷◌, ◌++◌, length, map, drop, Bool, true, false, ◌==◌, Option, Some, None, Ok, ◌⊎◌, inl, inr, refl, sym, ap, ◌∙◌, append_assoc, append-nil, arith, if◌then◌else◌}
+use Rattle.std.proofs.Common.{◌≡◌, ◌≤◌, ◌<◌, ◌+◌, ◌^◌, ℕ, List, [], ◌∷◌, ◌++◌, length, map, drop, Bool, true, false, ◌==◌, Option, Some, None, Ok, inl, inr, refl, sym, ap, ◌∙◌, append_assoc, append-nil, arith, if◌then◌else◌}
 use Rattle.std.specs.Prelude.{count_by}
 use Rattle.std.specs.List.{concat}
 use Rattle.std.specs.Int.{w32, byte_at, to_be_bytes}
@@ -14,7 +14,7 @@ use Rattle.pg_spec.specs.Settings.{Settings, startup_parameters}
 use Rattle.pg_spec.proofs.Readers.{number_at-Reader, number_at_front}
 use Rattle.pg_login.specs.Steps.{frame_of}
 use Rattle.pg_session.proofs.Caused.Frames.{Written, written, sent-behind}
-use Rattle.pg_session.proofs.Opening.Passwords.{ArePasswords, each-turn, few-turns-in, front-passwords, passwords-in, reads-passwords}
+use Rattle.pg_session.proofs.Opening.Passwords.{ArePasswords, each-turn, few-turns-in, front-passwords, reads-passwords}
 use Rattle.pg_session.proofs.Opening.Sent.{cut-front}
 
 -- ---- before a frame is whole

@@ -20,13 +20,14 @@ use Rattle.pg_desk.specs.History.{State, waiting, is_hung_up, has_begun, has_end
 use Rattle.pg_desk.proofs.Soundness.{owner-is-oldest}
 use Rattle.pg_hub.specs.Fits.{Fits, HubBecomes}
 use Rattle.pg_hub.specs.Standing.{Standing}
-use Rattle.pg_text.specs.declared.command.Command.{Command}
-use Rattle.pg_session.proofs.LivesBook.{left}
-use Rattle.pg_session.proofs.LivesTakes.{took-empty}
+use Rattle.pg_lives.specs.SessionKept.{left}
+use Rattle.pg_query.specs.Meaning.{Place}
+use Rattle.pg_turns.proofs.Takes.{took-empty}
 use Rattle.pg_session.proofs.Quiet.Handles.{IsQuiet, Done, Awaits}
 use Rattle.pg_session.proofs.Readers.LetGo.{IsLetGo}
-use Rattle.pg_session.proofs.Readers.Polls.{CommandPlace, AreRead, IsReadIn, one-there, none-some}
-use Rattle.pg_session.specs.States.{HandleState}
+use Rattle.pg_session.proofs.Readers.Polls.{AreRead, IsReadIn, one-there, none-some}
+use Rattle.pg_turns.specs.Handles.{HandleState}
+use Rattle.pg_turns.specs.Speeches.{Speech}
 
 -- ---- nothing moves the hub
 
@@ -105,46 +106,11 @@ full-none s (e ∷ es) room calls none exact =
     let rest = full-none s es room calls.1 n.1 (subst (λ (x : State). IsExact x es) same exact.2) in
     ap (λ (b : Bool). b || some_is is_full es) (full-not s e room exact.0) ∙ rest
 
--- all handles are quiet
-abbrev pub AllQuiet : List (List Command) → List HandleState → State → Type 0
-AllQuiet scripts handles s = (i : ℕ) (h : HandleState) → slice_get handles i ≡ Some h →
-    (script : List Command) × (slice_get scripts i ≡ Some script) × IsQuiet script s h
-
--- what the reader of an open request that runs takes is nothing
-read-room : (s : State) (k : ℕ) (script : List Command) (h : HandleState) (place : CommandPlace) → h.running ≡ Some place → place.reads ≡ k → IsQuiet script s h →
-    waiting s k ≡ []
-read-room s k script h place runs reads (Done none whole) = absurd (none-some h.running place none runs)
-read-room s k script h place runs reads (Awaits at e empty) =
-    let same : place ≡ at = one-there h.running at place e runs in
-    let id : at.reads ≡ k = ap (λ (p : CommandPlace). p.reads) (sym same) ∙ reads in
-    took-empty s k (empty ∙ ap (take_answer s) id)
-
 -- a request that is open hasn't ended
 open-unended : (b c : Bool) → (b && not c) ≡ true → c ≡ true → ⊥
 open-unended true true h e = absurd cc
 open-unended false c h e = absurd cc
 open-unended true false h e = absurd cc
-
-has-room : (scripts : List (List Command)) (handles : List HandleState) (s : State) (a : Standing) → Fits s a → AreRead handles s → AllQuiet scripts handles s → HasRoom s
-has-room scripts handles s a f are quiet open_ there two = by (are.read (next_owner s) oldest.booked)
-  where
-    oldest : IsOldestOpen s (next_owner s)
-    oldest = owner-is-oldest s open_
-
-    by : IsLetGo s (next_owner s) ⊎ IsReadIn handles (next_owner s) → ⊥
-    by (inl (inl hung)) = absurd (let no_way : true ≡ false = sym hung ∙ there in cc)
-    by (inl (inr over)) = open-unended (has_begun s (next_owner s)) (has_ended (next_owner s) s.deliveries) oldest.open_ over
-    by (inr r) =
-        let q = quiet r.handle r.state r.at in
-        omega (arith, two, ap length (read-room s (next_owner s) q.0 r.state r.place r.runs r.reads q.2))
-
--- no delivery of the poll met a full mailbox
-pub not-full : (scripts : List (List Command)) (handles : List HandleState) (s : State) (a b : Standing) (old new : Streams) (l m : LinkView) (end : TurnEnd) (over : Bool) →
-    Fits s a → AreRead handles s → AllQuiet scripts handles s → (polled : Turned HubBecomes a b old new l m end over) → new.moved ≡ false →
-    some_is is_full polled.turns.goes.events ≡ false
-not-full scripts handles s a b old new l m end over f are quiet polled unmoved =
-    let goes = polled.turns.goes in
-    full-none s goes.events (has-room scripts handles s a f are quiet) goes.calls (none-moved a b old new l m end over polled unmoved) (goes.became.stands s f).0
 
 -- the hub's state is as it was
 pub fits-behind : (s : State) (a b : Standing) (old new : Streams) (l m : LinkView) (end : TurnEnd) (over : Bool) → Fits s a →
@@ -152,20 +118,6 @@ pub fits-behind : (s : State) (a b : Standing) (old new : Streams) (l m : LinkVi
 fits-behind s a b old new l m end over f polled unmoved =
     let goes = polled.turns.goes in
     subst (λ (x : State). Fits x b) (still-all s goes.events goes.calls (none-moved a b old new l m end over polled unmoved)) (goes.became.stands s f).1
-
--- ---- something is awaited, or all is done
-
--- a command that runs has taken all that came of its request, and the request's group hasn't ended
-pub record IsAwaited (handles : List HandleState) (s : State) : Type 0 where
-  pub handle : ℕ
-  pub state : HandleState
-  pub place : CommandPlace
-  pub at : slice_get handles handle ≡ Some state
-  pub runs : state.running ≡ Some place
-  pub booked : place.reads < length s.book
-  pub there : is_hung_up s place.reads ≡ false
-  pub taken : waiting s place.reads ≡ []
-  pub unended : has_ended place.reads s.deliveries ≡ false
 
 -- what a take that gave nothing tells
 record TookNone (s : State) (k : ℕ) : Type 0 where
@@ -195,64 +147,114 @@ took-none s k h = by (nat_lt k (length s.book)) refl (is_hung_up s k) refl h
     by true is false hung h =
         record { booked = less k (length s.book) is; there = hung; unended = none-waits s k (waiting s k) h }
 
--- some command runs, or none does
-record SomeRuns (handles : List HandleState) : Type 0 where
-  handle : ℕ
-  state : HandleState
-  place : CommandPlace
-  at : slice_get handles handle ≡ Some state
-  runs : state.running ≡ Some place
+module _ {C T A E : Type 0} (speech : Speech C T A E) where
+  -- all handles are quiet
+  abbrev pub AllQuiet : List (List C) → List (HandleState T A E) → State → Type 0
+  AllQuiet scripts handles s = (i : ℕ) (h : HandleState T A E) → slice_get handles i ≡ Some h →
+      (script : List C) × (slice_get scripts i ≡ Some script) × IsQuiet speech script s h
 
-abbrev NoneRuns : List HandleState → Type 0
-NoneRuns handles = (i : ℕ) (h : HandleState) → slice_get handles i ≡ Some h → h.running ≡ None
+  -- what the reader of an open request that runs takes is nothing
+  read-room : (s : State) (k : ℕ) (script : List C) (h : HandleState T A E) (place : Place T) → h.running ≡ Some place → place.reads ≡ k → IsQuiet speech script s h →
+      waiting s k ≡ []
+  read-room s k script h place runs reads (Done none whole) = absurd (none-some h.running place none runs)
+  read-room s k script h place runs reads (Awaits at e empty) =
+      let same : place ≡ at = one-there h.running at place e runs in
+      let id : at.reads ≡ k = ap (λ (p : Place T). p.reads) (sym same) ∙ reads in
+      took-empty s k (empty ∙ ap (take_answer s) id)
 
-some-or-none : (handles : List HandleState) → SomeRuns handles ⊎ NoneRuns handles
-some-or-none [] = inr (λ i h at. absurd (let no_way : None ≡ Some h = at in cc))
-some-or-none (g ∷ handles) = by g.running refl (some-or-none handles)
-  where
-    by : (o : Option CommandPlace) → g.running ≡ o → SomeRuns handles ⊎ NoneRuns handles → SomeRuns (g ∷ handles) ⊎ NoneRuns (g ∷ handles)
-    by (Some place) is rest = inl (record { handle = zero; state = g; place = place; at = refl; runs = is })
-    by None is (inl r) = inl (record { handle = suc r.handle; state = r.state; place = r.place; at = r.at; runs = r.runs })
-    by None is (inr none) = inr each
-      where
-        each : NoneRuns (g ∷ handles)
-        each zero h at = let same : g ≡ h = cc in ap (λ (x : HandleState). x.running) (sym same) ∙ is
-        each (suc i) h at = none i h at
+  has-room : (scripts : List (List C)) (handles : List (HandleState T A E)) (s : State) (a : Standing) → Fits s a → AreRead handles s → AllQuiet scripts handles s → HasRoom s
+  has-room scripts handles s a f are quiet open_ there two = by (are.read (next_owner s) oldest.booked)
+    where
+      oldest : IsOldestOpen s (next_owner s)
+      oldest = owner-is-oldest s open_
 
-awaited-by : (handles : List HandleState) (s : State) (script : List Command) (r : SomeRuns handles) → IsQuiet script s r.state → IsAwaited handles s
-awaited-by handles s script r (Done none whole) = absurd (none-some r.state.running r.place none r.runs)
-awaited-by handles s script r (Awaits place runs empty) =
-    let took = took-none s place.reads empty in
-    record {
-      handle = r.handle;
-      state = r.state;
-      place = place;
-      at = r.at;
-      runs = runs;
-      booked = took.booked;
-      there = took.there;
-      taken = took-empty s place.reads empty;
-      unended = took.unended;
-    }
+      by : IsLetGo s (next_owner s) ⊎ IsReadIn are.holds handles (next_owner s) → ⊥
+      by (inl (inl hung)) = absurd (let no_way : true ≡ false = sym hung ∙ there in cc)
+      by (inl (inr over)) = open-unended (has_begun s (next_owner s)) (has_ended (next_owner s) s.deliveries) oldest.open_ over
+      by (inr r) =
+          let q = quiet r.handle r.state r.at in
+          omega (arith, two, ap length (read-room s (next_owner s) q.0 r.state r.place r.runs r.reads q.2))
 
-left-none : (scripts : List (List Command)) (handles : List HandleState) →
-    ((i : ℕ) (script : List Command) (h : HandleState) → slice_get scripts i ≡ Some script → slice_get handles i ≡ Some h → length h.answers ≡ length script) →
-    left scripts handles ≡ 0
-left-none [] handles h = refl
-left-none (script ∷ scripts) [] h = refl
-left-none (script ∷ scripts) (g ∷ handles) h = omega (arith, h zero script g refl refl, left-none scripts handles (λ i x y e f. h (suc i) x y e f))
+  -- no delivery of the poll met a full mailbox
+  pub not-full : (scripts : List (List C)) (handles : List (HandleState T A E)) (s : State) (a b : Standing) (old new : Streams) (l m : LinkView) (end : TurnEnd) (over : Bool) →
+      Fits s a → AreRead handles s → AllQuiet scripts handles s → (polled : Turned HubBecomes a b old new l m end over) → new.moved ≡ false →
+      some_is is_full polled.turns.goes.events ≡ false
+  not-full scripts handles s a b old new l m end over f are quiet polled unmoved =
+      let goes = polled.turns.goes in
+      full-none s goes.events (has-room scripts handles s a f are quiet) goes.calls (none-moved a b old new l m end over polled unmoved) (goes.became.stands s f).0
 
-whole-by : (script : List Command) (s : State) (h : HandleState) → h.running ≡ None → IsQuiet script s h → length h.answers ≡ length script
-whole-by script s h none (Done e whole) = whole
-whole-by script s h none (Awaits place runs empty) = absurd (none-some h.running place none runs)
+  -- ---- something is awaited, or all is done
 
--- a command awaits something of its request, or no command is left
-pub awaited-or-done : (scripts : List (List Command)) (handles : List HandleState) (s : State) → AllQuiet scripts handles s → IsAwaited handles s ⊎ (left scripts handles ≡ 0)
-awaited-or-done scripts handles s quiet = by (some-or-none handles)
-  where
-    by : SomeRuns handles ⊎ NoneRuns handles → IsAwaited handles s ⊎ (left scripts handles ≡ 0)
-    by (inl r) = let q = quiet r.handle r.state r.at in inl (awaited-by handles s q.0 r q.2)
-    by (inr none) = inr (left-none scripts handles (λ i script h e f.
-        let q = quiet i h f in
-        let same : q.0 ≡ script = (let k : Some q.0 ≡ Some script = sym q.1 ∙ e in cc) in
-        whole-by script s h (none i h f) (subst (λ (x : List Command). IsQuiet x s h) same q.2)))
+  -- a command that runs has taken all that came of its request, and the request's group hasn't ended
+  pub record IsAwaited (handles : List (HandleState T A E)) (s : State) : Type 0 where
+    pub handle : ℕ
+    pub state : HandleState T A E
+    pub place : Place T
+    pub at : slice_get handles handle ≡ Some state
+    pub runs : state.running ≡ Some place
+    pub booked : place.reads < length s.book
+    pub there : is_hung_up s place.reads ≡ false
+    pub taken : waiting s place.reads ≡ []
+    pub unended : has_ended place.reads s.deliveries ≡ false
+
+  -- some command runs, or none does
+  record SomeRuns (handles : List (HandleState T A E)) : Type 0 where
+    handle : ℕ
+    state : HandleState T A E
+    place : Place T
+    at : slice_get handles handle ≡ Some state
+    runs : state.running ≡ Some place
+
+  abbrev NoneRuns : List (HandleState T A E) → Type 0
+  NoneRuns handles = (i : ℕ) (h : HandleState T A E) → slice_get handles i ≡ Some h → h.running ≡ None
+
+  some-or-none : (handles : List (HandleState T A E)) → SomeRuns handles ⊎ NoneRuns handles
+  some-or-none [] = inr (λ i h at. absurd (let no_way : None ≡ Some h = at in cc))
+  some-or-none (g ∷ handles) = by g.running refl (some-or-none handles)
+    where
+      by : (o : Option (Place T)) → g.running ≡ o → SomeRuns handles ⊎ NoneRuns handles → SomeRuns (g ∷ handles) ⊎ NoneRuns (g ∷ handles)
+      by (Some place) is rest = inl (record { handle = zero; state = g; place = place; at = refl; runs = is })
+      by None is (inl r) = inl (record { handle = suc r.handle; state = r.state; place = r.place; at = r.at; runs = r.runs })
+      by None is (inr none) = inr each
+        where
+          each : NoneRuns (g ∷ handles)
+          each zero h at = let same : g ≡ h = cc in ap (λ (x : HandleState T A E). x.running) (sym same) ∙ is
+          each (suc i) h at = none i h at
+
+  awaited-by : (handles : List (HandleState T A E)) (s : State) (script : List C) (r : SomeRuns handles) → IsQuiet speech script s r.state → IsAwaited handles s
+  awaited-by handles s script r (Done none whole) = absurd (none-some r.state.running r.place none r.runs)
+  awaited-by handles s script r (Awaits place runs empty) =
+      let took = took-none s place.reads empty in
+      record {
+        handle = r.handle;
+        state = r.state;
+        place = place;
+        at = r.at;
+        runs = runs;
+        booked = took.booked;
+        there = took.there;
+        taken = took-empty s place.reads empty;
+        unended = took.unended;
+      }
+
+  left-none : (scripts : List (List C)) (handles : List (HandleState T A E)) →
+      ((i : ℕ) (script : List C) (h : HandleState T A E) → slice_get scripts i ≡ Some script → slice_get handles i ≡ Some h → length h.answers ≡ length script) →
+      left scripts handles ≡ 0
+  left-none [] handles h = refl
+  left-none (script ∷ scripts) [] h = refl
+  left-none (script ∷ scripts) (g ∷ handles) h = omega (arith, h zero script g refl refl, left-none scripts handles (λ i x y e f. h (suc i) x y e f))
+
+  whole-by : (script : List C) (s : State) (h : HandleState T A E) → h.running ≡ None → IsQuiet speech script s h → length h.answers ≡ length script
+  whole-by script s h none (Done e whole) = whole
+  whole-by script s h none (Awaits place runs empty) = absurd (none-some h.running place none runs)
+
+  -- a command awaits something of its request, or no command is left
+  pub awaited-or-done : (scripts : List (List C)) (handles : List (HandleState T A E)) (s : State) → AllQuiet scripts handles s → IsAwaited handles s ⊎ (left scripts handles ≡ 0)
+  awaited-or-done scripts handles s quiet = by (some-or-none handles)
+    where
+      by : SomeRuns handles ⊎ NoneRuns handles → IsAwaited handles s ⊎ (left scripts handles ≡ 0)
+      by (inl r) = let q = quiet r.handle r.state r.at in inl (awaited-by handles s q.0 r q.2)
+      by (inr none) = inr (left-none scripts handles (λ i script h e f.
+          let q = quiet i h f in
+          let same : q.0 ≡ script = (let k : Some q.0 ≡ Some script = sym q.1 ∙ e in cc) in
+          whole-by script s h (none i h f) (subst (λ (x : List C). IsQuiet speech x s h) same q.2)))

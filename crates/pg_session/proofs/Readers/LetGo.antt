@@ -12,7 +12,6 @@ use Rattle.pg_desk.specs.declared.event.Event.TheVariants.{Book, Put as PutEvent
 use Rattle.pg_desk.specs.declared.event.Out.TheVariants as out
 use Rattle.pg_desk.specs.declared.event.Take.TheVariants as taking
 use Rattle.pg_desk.specs.History.{State, Delivery, given, has_ended, next_owner, may_let_go, taken, is_in, is_hung_up, after, after_all, take_answer}
-use Rattle.pg_session.proofs.LivesTakes.{never-gone}
 
 -- the reader of request k hung up, or its group has ended
 abbrev pub IsLetGo : State → ℕ → Type 0
@@ -25,7 +24,7 @@ pub record StaysLetGo (s t : State) : Type 0 where
   pub let_go : (k : ℕ) → IsLetGo s k → IsLetGo t k
   pub closed : s.closed ≡ true → t.closed ≡ true
 
-pub stays-here : (s : State) → StaysLetGo s s
+stays-here : (s : State) → StaysLetGo s s
 stays-here s = record { let_go = λ k h. h; closed = λ h. h }
 
 in-more : (k x : ℕ) (xs : List ℕ) → is_in k xs ≡ true → is_in k (xs ++ x ∷ []) ≡ true
@@ -121,14 +120,6 @@ hung-now s which k same lt = subst (λ (n : ℕ). is_in k (if may_let_go s n the
     by true true e hung = hung
     by true false e hung = in-now k s.hung_up
     by false c e hung = absurd cc
-
--- nothing comes any more of a request that is booked
-pub gone-hung : (s : State) (k : ℕ) → taking.Gone ≡ take_answer s k → k < length s.book → s.failed ≡ false → is_hung_up s k ≡ true
-gone-hung s k gone lt whole = by (is_hung_up s k) refl
-  where
-    by : (b : Bool) → is_hung_up s k ≡ b → b ≡ true
-    by true e = refl
-    by false e = absurd (never-gone s k gone lt e whole)
 
 -- a batch with a ReadyForQuery among its messages is the last of its group
 ready-complete : (b : Bool) (ms : List RawMessage) → is_batch b ms ≡ true → list_any is_ready ms ≡ true → b ≡ true

@@ -1,18 +1,17 @@
 -- How many requests were sent whole, and how many groups came whole.
-use Rattle.std.proofs.Common.{◌≡◌, ℕ, ◌+◌, suc, List, [], ◌∷◌, ◌++◌, length, Bool, true, false, not, cond, ◌==◌, if◌then◌else◌, Ok, refl, sym, ap, ◌∙◌, arith}
-use Rattle.std.specs.Prelude.{count_by, filter}
-use Rattle.std.specs.List.{list_all, onto_first}
-use Rattle.std.specs.Str.{byte}
-use Rattle.std.proofs.lemmas.Bool.{eqb-true}
+use Rattle.std.proofs.Common.{◌≡◌, ℕ, ◌+◌, suc, List, [], ◌∷◌, ◌++◌, length, map, Bool, true, false, cond, if◌then◌else◌, refl, sym, ap, ◌∙◌, arith}
+use Rattle.std.specs.Prelude.{count_by}
+use Rattle.std.specs.List.{onto_first}
+use Rattle.std.proofs.lemmas.List.{length-map}
 use Rattle.std.proofs.lemmas.List.Sums.{sum_by-append, sum_by-cons}
 use Rattle.pg_spec.specs.Batches.{is_batch}
 use Rattle.pg_spec.specs.RawMessages.{RawMessage, messages, is_ready, cut_after, ends_in, is_whole_group}
-use Rattle.pg_spec.specs.Sent.{is_password, ends_unit, whole_units}
+use Rattle.pg_spec.specs.Sent.{ends_unit, whole_units}
 use Rattle.pg_desk.specs.History.{Delivery, finished, joined, received}
 use Rattle.pg_desk.proofs.Soundness.{AllCut}
 use Rattle.pg_spec.specs.Settings.{Settings}
-use Rattle.pg_session.proofs.Crossing.Groups.{both-true, first-of, First, GoesOn, Last}
-use Rattle.pg_session.proofs.Caused.Frames.{AreQueries, is_query, reads-queries}
+use Rattle.pg_session.proofs.Crossing.Groups.{first-of, First, GoesOn, Last}
+use Rattle.pg_session.proofs.Caused.Frames.{AllEndAlone, AreRequests, each-ends, ends-alone, units-of}
 use Rattle.pg_session.proofs.Opening.{IsOpening}
 use Rattle.pg_session.proofs.Opening.Sent.{opening-units}
 
@@ -27,24 +26,16 @@ no-more p x xs is = let e = counted p x xs false is in omega (arith, e)
 
 -- ---- requests
 
--- a Query ends its unit, and is no password
-count-queries : (ms : List RawMessage) → list_all is_query ms ≡ true → count_by (ends_in ends_unit) (cut_after ends_unit (filter (λ frame. not (is_password frame)) ms)) ≡ length ms
-count-queries [] e = refl
-count-queries (m ∷ ms) e =
-    let b = both-true (is_query m) (list_all is_query ms) e in
-    let tag : m.tag ≡ byte "Q" = eqb-true m.tag (byte "Q") b.0 in
-    let ends : ends_unit m ≡ true = ap (λ (x : ℕ). ends_unit (record { tag = x; body = m.body })) tag in
-    let rest = filter (λ frame. not (is_password frame)) ms in
-    ap (λ (x : ℕ). count_by (ends_in ends_unit) (cut_after ends_unit (if not (x == byte "p") then m ∷ rest else rest))) tag
-    ∙ ap (λ (c : Bool). count_by (ends_in ends_unit) (if c then (m ∷ []) ∷ cut_after ends_unit rest else onto_first m (cut_after ends_unit rest))) ends
-    ∙ one-more (ends_in ends_unit) (m ∷ []) (cut_after ends_unit rest) (length ms) ends (count-queries ms b.1)
+-- each request ends its piece
+count-requests : (gs : List (List RawMessage)) → AllEndAlone gs → count_by (ends_in ends_unit) gs ≡ length gs
+count-requests [] h = refl
+count-requests (g ∷ gs) h = one-more (ends_in ends_unit) g gs (length gs) (ends-alone g h.0) (count-requests gs h.1)
 
 -- behind the startup's frames each part is a unit
-pub units-sent : (settings : Settings) (opening : List ℕ) (parts : List (List ℕ)) → IsOpening settings opening → AreQueries parts → whole_units (opening ++ joined parts) ≡ length parts
-units-sent settings opening parts o queries =
-    let r = reads-queries parts queries in
-    ap (λ (us : List (List RawMessage)). count_by (ends_in ends_unit) us) (opening-units settings opening o (joined parts))
-    ∙ count-queries (messages (joined parts)) r.all ∙ r.count
+pub units-sent : (settings : Settings) (opening : List ℕ) (parts : List (List ℕ)) → IsOpening settings opening → AreRequests parts → whole_units (opening ++ joined parts) ≡ length parts
+units-sent settings opening parts o requests =
+    ap (λ (us : List (List RawMessage)). count_by (ends_in ends_unit) us) (opening-units settings opening o (joined parts) ∙ units-of parts requests)
+    ∙ count-requests (map messages parts) (each-ends parts requests) ∙ length-map parts messages
 
 -- ---- groups
 

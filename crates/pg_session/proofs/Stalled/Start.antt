@@ -1,5 +1,5 @@
 -- Why a startup may be stalled.
-use Rattle.std.proofs.Common.{◌≡◌, ◌≤◌, ◌<◌, ◌+◌, ◌-◌, ◌^◌, ℕ, Bool, true, false, List, [], ◌++◌, length, Option, Some, None, inl, inr, append-nil, refl, sym, ◌∙◌, ap, subst, arith}
+use Rattle.std.proofs.Common.{◌≡◌, ◌≤◌, ◌<◌, ◌+◌, ◌-◌, ◌^◌, ℕ, Bool, true, false, List, [], ◌++◌, Option, Some, None, inl, inr, append-nil, sym, ◌∙◌, ap, subst, arith}
 use Rattle.std.specs.Prelude.{IsTrue}
 use Rattle.std.specs.List.{concat}
 use Rattle.pg_promises.specs.Causes.{Call, IsAwaited, IsStalled, NeedsNoTls}
@@ -15,8 +15,8 @@ use Rattle.pg_startup.specs.declared.startup.Startup.{Startup}
 use Rattle.pg_startup.specs.Startups.{IsAt, Leads, Opening, Reaches}
 use Rattle.pg_connect.proofs.Joining.{rose_later}
 use Rattle.pg_session.specs.Failures.{GivesUp, StopsOpening}
-use Rattle.pg_session.specs.Sessions.{Rests}
-use Rattle.pg_session.proofs.Order.{rests_none}
+use Rattle.pg_turns.specs.Sessions.{Rests}
+use Rattle.pg_turns.proofs.Order.{rests_none}
 use Rattle.pg_session.proofs.Opening.{leads-frames, leads-waits}
 use Rattle.pg_session.proofs.Caused.Start.{of_grown}
 

@@ -5,9 +5,9 @@ use Rattle.pg_session.specs.Events.{turn_events, ReadsItsReply}
 use Rattle.pg_session.proofs.events.each_request_reads_its_reply.Goals as goal
 
 pub returns-clause-events : goal.returns-clause-events
-returns-clause-events c = are-events
+returns-clause-events g c = are-events
 
 pub returns-clause-reads : goal.returns-clause-reads
-returns-clause-reads c settings nonce scripts given before after report p =
-    of-bytes before after (λ g t. ReadsItsReply scripts (session_of settings nonce scripts given report g) (turn_events scripts given p.new p.link p.last after p.plays))
-    (λ g t e d. reads-so settings nonce scripts given before after report p g t e d)
+returns-clause-reads g c speech settings nonce scripts given before after report p =
+    of-bytes before after (λ g t. ReadsItsReply scripts (session_of settings nonce scripts given report g) (turn_events speech scripts given p.new p.link p.last after p.plays))
+    (λ g t e d. reads-so speech settings nonce scripts given before after report p g t e d)

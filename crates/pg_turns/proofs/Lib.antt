@@ -1,0 +1,5 @@
+pub mod Lists
+pub mod Books
+pub mod Takes
+pub mod Came
+pub mod Order
