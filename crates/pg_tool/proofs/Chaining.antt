@@ -4,10 +4,10 @@ use Rattle.std.proofs.Math.ListN.{get_or}
 use Rattle.std.proofs.Math.Seq.{take-suc}
 use Rattle.pg_faults.specs.declared.error.Error.{Error}
 use Rattle.pg_spec.specs.Links.{LinkView}
-use Rattle.pg_session.specs.Sessions.{EndsWith, MakesAll, Plays, Rests, StaysAll, numbers, rounds}
-use Rattle.pg_session.specs.States.{SessionState}
-use Rattle.pg_session.specs.Turns.{Makes, Turns}
-use Rattle.pg_session.proofs.Order.{makes_all_one, makes_all_then, makes_none, rests_none}
+use Rattle.pg_turns.specs.Sessions.{EndsWith, MakesAll, Plays, Rests, StaysAll, numbers, rounds}
+use Rattle.pg_table.specs.Table.{TableSession, table}
+use Rattle.pg_turns.specs.Turns.{Makes, Turns}
+use Rattle.pg_turns.proofs.Order.{makes_all_one, makes_all_then, makes_none, rests_none}
 use Rattle.pg_text.specs.declared.command.Command.{Command}
 use Rattle.pg_tool.specs.Plays.{RoundsEnd, RoundsMade}
 
@@ -15,64 +15,64 @@ numbers_next : (n : ℕ) → numbers (n + 1) ≡ numbers n ++ n ∷ []
 numbers_next n = let next : n + 1 ≡ suc n = omega arith in ap numbers next
 
 -- one turn more of a round
-pub round_more : (scripts : List (List Command)) (n : ℕ) (s : SessionState) (l : LinkView) (mid : SessionState) (k : LinkView) (t : SessionState) (m : LinkView) →
-    MakesAll scripts (numbers n) s l mid k → Makes scripts n mid t k m false → MakesAll scripts (numbers (n + 1)) s l t m
+pub round_more : (scripts : List (List Command)) (n : ℕ) (s : TableSession) (l : LinkView) (mid : TableSession) (k : LinkView) (t : TableSession) (m : LinkView) →
+    MakesAll table scripts (numbers n) s l mid k → Makes table scripts n mid t k m false → MakesAll table scripts (numbers (n + 1)) s l t m
 round_more scripts n s l mid k t m before made =
-    subst (λ turns. MakesAll scripts turns s l t m) (sym (numbers_next n))
-    (makes_all_one scripts (numbers n) n s l mid k k t m before (rests_none k) made)
+    subst (λ turns. MakesAll table scripts turns s l t m) (sym (numbers_next n))
+    (makes_all_one table scripts (numbers n) n s l mid k k t m before (rests_none k) made)
 
-stays_one : (scripts : List (List Command)) (turns : List ℕ) (turn : ℕ) (s : SessionState) (l : LinkView) (mid : SessionState) (k : LinkView) (t : SessionState) (m : LinkView) →
-    StaysAll scripts turns s l mid k → Turns scripts turn mid t k m (Some false) → StaysAll scripts (turns ++ turn ∷ []) s l t m
+stays_one : (scripts : List (List Command)) (turns : List ℕ) (turn : ℕ) (s : TableSession) (l : LinkView) (mid : TableSession) (k : LinkView) (t : TableSession) (m : LinkView) →
+    StaysAll table scripts turns s l mid k → Turns table scripts turn mid t k m (Some false) → StaysAll table scripts (turns ++ turn ∷ []) s l t m
 stays_one scripts [] turn s l mid k t m before stays =
-    (t, m, subst (λ (x : SessionState). Turns scripts turn x t l m (Some false)) before.0 (subst (λ (y : LinkView). Turns scripts turn mid t y m (Some false)) before.1 stays), (refl, refl))
+    (t, m, subst (λ (x : TableSession). Turns table scripts turn x t l m (Some false)) before.0 (subst (λ (y : LinkView). Turns table scripts turn mid t y m (Some false)) before.1 stays), (refl, refl))
 stays_one scripts (x ∷ xs) turn s l mid k t m before stays = (before.0, before.1, before.2, stays_one scripts xs turn before.0 before.1 mid k t m before.3 stays)
 
 -- nothing moved in a round up to one of its turns, nor in that
-pub stays_more : (scripts : List (List Command)) (n : ℕ) (before more : Bool) (s : SessionState) (l : LinkView) (mid : SessionState) (k : LinkView) (t : SessionState) (m : LinkView) →
-    (before ≡ false → StaysAll scripts (numbers n) s l mid k) → Turns scripts n mid t k m (Some more) → (before || more) ≡ false → StaysAll scripts (numbers (n + 1)) s l t m
+pub stays_more : (scripts : List (List Command)) (n : ℕ) (before more : Bool) (s : TableSession) (l : LinkView) (mid : TableSession) (k : LinkView) (t : TableSession) (m : LinkView) →
+    (before ≡ false → StaysAll table scripts (numbers n) s l mid k) → Turns table scripts n mid t k m (Some more) → (before || more) ≡ false → StaysAll table scripts (numbers (n + 1)) s l t m
 stays_more scripts n true more s l mid k t m stays turns none = absurd (let no : true ≡ false = none in cc)
 stays_more scripts n false more s l mid k t m stays turns none =
-    subst (λ turns. StaysAll scripts turns s l t m) (sym (numbers_next n))
-    (stays_one scripts (numbers n) n s l mid k t m (stays refl) (subst (λ (b : Bool). Turns scripts n mid t k m (Some b)) none turns))
+    subst (λ turns. StaysAll table scripts turns s l t m) (sym (numbers_next n))
+    (stays_one scripts (numbers n) n s l mid k t m (stays refl) (subst (λ (b : Bool). Turns table scripts n mid t k m (Some b)) none turns))
 
 -- one of the given turns more
-pub given_more : (scripts : List (List Command)) (given : List ℕ) (i turn d : ℕ) (s : SessionState) (l : LinkView) (mid : SessionState) (k : LinkView) (t : SessionState) (m : LinkView) →
+pub given_more : (scripts : List (List Command)) (given : List ℕ) (i turn d : ℕ) (s : TableSession) (l : LinkView) (mid : TableSession) (k : LinkView) (t : TableSession) (m : LinkView) →
     i < length given → turn ≡ get_or given i d →
-    MakesAll scripts (take i given) s l mid k → Makes scripts turn mid t k m false → MakesAll scripts (take (i + 1) given) s l t m
+    MakesAll table scripts (take i given) s l mid k → Makes table scripts turn mid t k m false → MakesAll table scripts (take (i + 1) given) s l t m
 given_more scripts given i turn d s l mid k t m within is before made =
     let next : i + 1 ≡ suc i = omega arith in
-    subst (λ turns. MakesAll scripts turns s l t m)
+    subst (λ turns. MakesAll table scripts turns s l t m)
     (sym (ap (λ j. take j given) next ∙ take-suc given i d within ∙ ap (λ x. take i given ++ x ∷ []) (sym is)))
-    (makes_all_one scripts (take i given) turn s l mid k k t m before (rests_none k) made)
+    (makes_all_one table scripts (take i given) turn s l mid k k t m before (rests_none k) made)
 
 -- no round was made
-pub no_round : (scripts : List (List Command)) (s : SessionState) (l : LinkView) → RoundsMade scripts s l s l
-no_round scripts s l = record { count = 0; made = makes_none scripts s l l (rests_none l) }
+pub no_round : (scripts : List (List Command)) (s : TableSession) (l : LinkView) → RoundsMade scripts s l s l
+no_round scripts s l = record { count = 0; made = makes_none table scripts s l l (rests_none l) }
 
 -- one round more, and a pause of the link behind it
-pub rounds_more : (scripts : List (List Command)) (s : SessionState) (l : LinkView) (mid : SessionState) (k : LinkView) (t : SessionState) (m r : LinkView) →
-    RoundsMade scripts s l mid k → MakesAll scripts (numbers (length scripts + 1)) mid k t m → Rests m r → RoundsMade scripts s l t r
+pub rounds_more : (scripts : List (List Command)) (s : TableSession) (l : LinkView) (mid : TableSession) (k : LinkView) (t : TableSession) (m r : LinkView) →
+    RoundsMade scripts s l mid k → MakesAll table scripts (numbers (length scripts + 1)) mid k t m → Rests m r → RoundsMade scripts s l t r
 rounds_more scripts s l mid k t m r before round rests = record {
   count = suc before.count;
-  made = subst (λ turns. MakesAll scripts turns s l t r) (append-nil (rounds (length scripts) (suc before.count)))
-      (makes_all_then scripts (rounds (length scripts) (suc before.count)) [] s l t m t r
-      (makes_all_then scripts (rounds (length scripts) before.count) (numbers (length scripts + 1)) s l mid k t m before.made round)
-      (makes_none scripts t m r rests));
+  made = subst (λ turns. MakesAll table scripts turns s l t r) (append-nil (rounds (length scripts) (suc before.count)))
+      (makes_all_then table scripts (rounds (length scripts) (suc before.count)) [] s l t m t r
+      (makes_all_then table scripts (rounds (length scripts) before.count) (numbers (length scripts + 1)) s l mid k t m before.made round)
+      (makes_none table scripts t m r rests));
 }
 
 -- turns before, and then an end
-pub ends_behind : (scripts : List (List Command)) (xs ys : List ℕ) (last : ℕ) (s : SessionState) (l : LinkView) (mid : SessionState) (k : LinkView) (t : SessionState) (m : LinkView) →
-    MakesAll scripts xs s l mid k → EndsWith scripts ys last mid k t m → EndsWith scripts (xs ++ ys) last s l t m
+pub ends_behind : (scripts : List (List Command)) (xs ys : List ℕ) (last : ℕ) (s : TableSession) (l : LinkView) (mid : TableSession) (k : LinkView) (t : TableSession) (m : LinkView) →
+    MakesAll table scripts xs s l mid k → EndsWith table scripts ys last mid k t m → EndsWith table scripts (xs ++ ys) last s l t m
 ends_behind scripts xs ys last s l mid k t m before ends = record {
   state = ends.state;
   link = ends.link;
-  before = makes_all_then scripts xs ys s l mid k ends.state ends.link before ends.before;
+  before = makes_all_then table scripts xs ys s l mid k ends.state ends.link before ends.before;
   over = ends.over;
 }
 
 -- whole rounds, and then the end in one more
-pub rounds_end : (scripts : List (List Command)) (last : ℕ) (s : SessionState) (l : LinkView) (mid : SessionState) (k : LinkView) (t : SessionState) (m : LinkView) →
-    RoundsMade scripts s l mid k → last ≤ length scripts → EndsWith scripts (numbers last) last mid k t m → RoundsEnd scripts s l t m
+pub rounds_end : (scripts : List (List Command)) (last : ℕ) (s : TableSession) (l : LinkView) (mid : TableSession) (k : LinkView) (t : TableSession) (m : LinkView) →
+    RoundsMade scripts s l mid k → last ≤ length scripts → EndsWith table scripts (numbers last) last mid k t m → RoundsEnd scripts s l t m
 rounds_end scripts last s l mid k t m before within ends = record {
   count = before.count;
   last = last;
@@ -81,9 +81,9 @@ rounds_end scripts last s l mid k t m before within ends = record {
 }
 
 -- the end came in one of the given turns
-pub plays_given : (scripts : List (List Command)) (given : List ℕ) (i turn d : ℕ) (s : SessionState) (l : LinkView) (mid : SessionState) (k : LinkView) (t : SessionState) (m : LinkView) →
+pub plays_given : (scripts : List (List Command)) (given : List ℕ) (i turn d : ℕ) (s : TableSession) (l : LinkView) (mid : TableSession) (k : LinkView) (t : TableSession) (m : LinkView) →
     i < length given → turn ≡ get_or given i d →
-    MakesAll scripts (take i given) s l mid k → Makes scripts turn mid t k m true → Plays scripts given s l t m
+    MakesAll table scripts (take i given) s l mid k → Makes table scripts turn mid t k m true → Plays table scripts given s l t m
 plays_given scripts given i turn d s l mid k t m within is before over = record {
   turns = take i given;
   last = turn;
@@ -96,8 +96,8 @@ plays_given scripts given i turn d s l mid k t m within is before over = record 
 }
 
 -- the end came in a round behind them
-pub plays_rounds : (scripts : List (List Command)) (given : List ℕ) (s : SessionState) (l : LinkView) (mid : SessionState) (k : LinkView) (t : SessionState) (m : LinkView) →
-    MakesAll scripts given s l mid k → RoundsEnd scripts mid k t m → Plays scripts given s l t m
+pub plays_rounds : (scripts : List (List Command)) (given : List ℕ) (s : TableSession) (l : LinkView) (mid : TableSession) (k : LinkView) (t : TableSession) (m : LinkView) →
+    MakesAll table scripts given s l mid k → RoundsEnd scripts mid k t m → Plays table scripts given s l t m
 plays_rounds scripts given s l mid k t m before ends = record {
   turns = given ++ (rounds (length scripts) ends.count ++ numbers ends.last);
   last = ends.last;
@@ -106,8 +106,8 @@ plays_rounds scripts given s l mid k t m before ends = record {
 }
 
 -- the rounds ended behind all of the given turns, or failed
-pub plays_after : (scripts : List (List Command)) (given : List ℕ) (i : ℕ) (s : SessionState) (l : LinkView) (mid : SessionState) (k : LinkView) (t : SessionState) (m : LinkView) (r : Result (Unit {0}) Error) →
-    length given ≤ i → MakesAll scripts (take i given) s l mid k → OnOk r (RoundsEnd scripts mid k t m) → OnOk r (Plays scripts given s l t m)
+pub plays_after : (scripts : List (List Command)) (given : List ℕ) (i : ℕ) (s : TableSession) (l : LinkView) (mid : TableSession) (k : LinkView) (t : TableSession) (m : LinkView) (r : Result (Unit {0}) Error) →
+    length given ≤ i → MakesAll table scripts (take i given) s l mid k → OnOk r (RoundsEnd scripts mid k t m) → OnOk r (Plays table scripts given s l t m)
 plays_after scripts given i s l mid k t m (Err e) all before ends = ends
 plays_after scripts given i s l mid k t m (Ok x) all before ends =
-    plays_rounds scripts given s l mid k t m (subst (λ turns. MakesAll scripts turns s l mid k) (take_all i given all) before) ends
+    plays_rounds scripts given s l mid k t m (subst (λ turns. MakesAll table scripts turns s l mid k) (take_all i given all) before) ends

@@ -1,22 +1,33 @@
 -- A session that must end well does so, and so does the program that plays it.
 use Rattle.std.proofs.Common.{◌≡◌, ◌≤◌, ◌+◌, ◌⊎◌, ℕ, inl, inr, List, [], ◌∷◌, length, codes, Option, Some, None, Result, Ok, Err, IfErr, refl, sym, ◌∙◌, ap, subst, arith}
 use Rattle.std.specs.Prelude.{IfSome}
-use Rattle.pg_promises.specs.Causes.{Call, HasCause, startup_after}
+use Rattle.pg_promises.specs.Causes.{HasCause, startup_after}
 use Rattle.pg_spec.specs.Faults.{Failure, OutOfMemory}
-use Rattle.pg_spec.specs.Links.{LinkView, Plan, Rose, added}
+use Rattle.pg_spec.specs.Links.{LinkView, OfBytes, Plan, Rose, added}
 use Rattle.pg_promises.specs.Promises.{AnswersStartup, EndsWell, IsValid, MustEndWell, SentInOrder, requests_in}
 use Rattle.pg_spec.specs.ReportText.{report_text}
 use Rattle.pg_spec.specs.Sent.{turns_given}
 use Rattle.pg_spec.specs.SessionText.{SessionText, IsSessionText}
 use Rattle.pg_spec.specs.Settings.{Settings}
 use Rattle.pg_promises.proofs.Strings.{means_one}
-use Rattle.pg_wire.specs.LinkCalls.{Continues, Tells}
+use Rattle.pg_wire.specs.LinkCalls.{Continues, Extends, Tells}
 use Rattle.pg_wire.specs.Streams.{SinkView}
 use Rattle.pg_faults.specs.declared.error.Error.{Error}
 use Rattle.pg_text.specs.declared.report.Report.{Report}
 use Rattle.pg_text.proofs.ReadLaws.{one_session, refused_is_none}
-use Rattle.pg_session.proofs.Complete.Course.{few-frames, in-plan, must-end-well, of-some}
-use Rattle.pg_session.proofs.SentSoFar.TurnsAsked.{few-turns}
+use Rattle.pg_session.proofs.Complete.Course.{few-frames, in-plan, of-some}
+use Rattle.pg_failed.specs.Calls as any
+use Rattle.pg_failed.specs.Completeness as must
+use Rattle.pg_failed.proofs.NoFlush.{answers}
+use Rattle.pg_text.specs.declared.command.Command.{Command}
+use Rattle.pg_table.specs.Headlines.{in_words}
+use Rattle.pg_tool.proofs.AskedFew.{asks-few}
+use Rattle.pg_failed.specs.Sent as orders
+use Rattle.pg_turns.specs.Speeches.{meaning_of}
+use Rattle.pg_table.specs.Table.{table}
+use Rattle.pg_tool.proofs.AtTable.{must-end-well, no-flush}
+use Rattle.pg_tool.specs.TableContract as by_table
+use Rattle.pg_tool.specs.TableContract.{table_result}
 use Rattle.pg_tool.specs.Reading.{longest_text, ReadWhole}
 use Rattle.pg_tool.specs.RunContract.{EndsWith, IsOver, SummedUp, WritesSummary, IsPlayed, IsWellMade, MustPlay, PlayedSession, PlayedText, Run, SaysResult, call_of, new_link}
 use Rattle.pg_gen.specs.Generated.{IsCount, generated}
@@ -29,10 +40,50 @@ use Rattle.pg_tool.specs.declared.over.Over.TheVariants as over
 use Rattle.pg_tool.specs.SessionContract.{SendsInOrder, SessionResult, result_of}
 
 -- by what a session answered
-pub must_all : (call : Call) (r : Result Report Error) → Tells call.before → Tells call.after → Continues call.before call.after → SendsInOrder call (result_of r) →
-    IfErr r (λ e. HasCause call e) → MustEndWell call (result_of r)
+pub must_all : (call : any.Call Command) (r : Result Report Error) → Tells call.before → Tells call.after → Continues call.before call.after → by_table.SendsInOrder call (table_result r) →
+    IfErr r (HasCause (any.apart call)) → must.MustEndWell call (table_result r)
 must_all call (Ok report) before after goes sent causes = λ plan s taken none_given none_taken planned told means valid conforms. tt
 must_all call (Err e) before after goes sent causes = must-end-well call e before after goes sent causes
+
+-- the bytes of a call that are told, where it gave and took none before
+told_bytes : (before after : LinkView) (taken : List ℕ) (P : List ℕ → List ℕ → Type 0) → Continues before after → before.given ≡ Some [] → before.taken ≡ Some [] → after.taken ≡ Some taken →
+    OfBytes before after P → (given : List ℕ) × P given taken
+told_bytes before after taken P goes none_given none_taken told h =
+    let given = subst (λ (o : Option (List ℕ)). Extends o after.given) none_given goes.given in
+    let g : added before.given after.given ≡ Some given.0 = ap (λ o. added o after.given) none_given ∙ ap (λ o. added (Some []) o) given.1 in
+    let t : added before.taken after.taken ≡ Some taken = ap (λ o. added o after.taken) none_taken ∙ ap (λ o. added (Some []) o) told in (
+      given.0,
+      of-some (added before.taken after.taken) taken (λ t. P given.0 t) t (of-some (added before.given after.given) given.0 (λ g. IfSome (added before.taken after.taken) (λ t. P g t)) g h),
+    )
+
+ends_simply : (r : Result Report Error) → must.EndsWell (table_result r) → EndsWell (result_of r)
+ends_simply (Ok report) h = tt
+ends_simply (Err OutOfMemory) h = tt
+ends_simply (Err _) h = h
+
+-- and so by simple queries, which send no Flush
+pub must_simply : (call : any.Call Command) (r : Result Report Error) → Continues call.before call.after → must.MustEndWell call (table_result r) → by_table.SendsInOrder call (table_result r) → MustEndWell (in_words call) (result_of r)
+must_simply call (Ok report) goes ends sent = λ plan s taken none_given none_taken planned told means valid conforms. tt
+must_simply call (Err e) goes ends sent = λ plan s taken none_given none_taken planned told means valid conforms.
+    let crossed = sent (s, means, tt) in
+    let bytes = told_bytes call.before call.after taken (λ g t. orders.SentInOrder (meaning_of table) call crossed.0 g t) goes none_given none_taken told crossed.2 in
+    let in_order : orders.SentInOrder (meaning_of table) call s bytes.0 taken =
+    subst (λ (x : Settings). orders.SentInOrder (meaning_of table) call x bytes.0 taken) (means_one call.config crossed.0 s crossed.1 means) bytes.1 in
+    let none = no-flush call s bytes.0 taken valid.no_tls in_order in
+    ends_simply (Err e) (ends plan s taken none_given none_taken planned told means
+    (record { user = valid.user; nonce = valid.nonce; frame = valid.frame; no_tls = valid.no_tls; no_binding = valid.no_binding; limit = valid.limit })
+    (record {
+      opens = record {
+        untroubled = conforms.opens.untroubled;
+        whole = conforms.opens.whole;
+        frames = conforms.opens.frames;
+        started = conforms.opens.started;
+        each_frame = conforms.opens.each_frame;
+        all_frames = conforms.opens.all_frames;
+        readable = conforms.opens.readable;
+      };
+      later = answers plan conforms.opens.frames taken none conforms.later;
+    }))
 
 -- ---- the program
 
@@ -68,7 +119,7 @@ few_turns text result failure p is made =
     let took : added (Some []) p.after.taken ≡ Some p.taken = ap (λ o. added (Some []) o) p.told_taken in
     let t = of-some (added (Some []) p.after.taken) p.taken (λ t. SentInOrder call crossed.0 p.given t) took
     (of-some (added (Some []) p.after.given) p.given (λ g. IfSome (added (Some []) p.after.taken) (λ t. SentInOrder call crossed.0 g t)) gave crossed.2) in
-    let few = (few-turns call made.settings p.given p.taken made.valid.no_tls (subst (λ (x : Settings). SentInOrder call x p.given p.taken) same t)).requests in
+    let few = asks-few call made.settings p.given p.taken made.valid.no_tls (subst (λ (x : Settings). SentInOrder call x p.given p.taken) same t) in
     let most : length (startup_after call made.settings p.given).frames ≤ made.opens.frames =
     few-frames call made.settings (plan_of text) p.taken p.given (same_startup text (new_link text) p.after made.settings (plan_of text) made.opens)
     (in-plan call (plan_of text) p.taken p.session.link refl refl refl p.told_taken p.given p.told_given) in

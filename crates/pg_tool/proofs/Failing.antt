@@ -1,5 +1,5 @@
 -- Turns one after another, the next of which fails.
-use Rattle.std.proofs.Common.{◌≡◌, ◌≤◌, ℕ, Bool, true, false, List, ◌++◌, length, Option, Some, None, Result, Ok, Err, IfErr, inl, inr, refl}
+use Rattle.std.proofs.Common.{◌≡◌, ◌<◌, ◌≤◌, ◌^◌, ℕ, Bool, true, false, List, ◌++◌, length, Option, Some, None, Result, Ok, Err, IfErr, inl, inr, refl}
 use Rattle.std.specs.Prelude.{IsTrue}
 use Rattle.futures.specs.declared.task.Poll.{Poll}
 use Rattle.futures.specs.declared.task.Poll.TheVariants.{Ready, Pending}
@@ -11,63 +11,65 @@ use Rattle.pg_wire.specs.LinkCalls.{SameBytes, SameWriting}
 use Rattle.pg_connect.proofs.Calm.{calm_then}
 use Rattle.pg_connect.specs.Calm.{StaysCalm}
 use Rattle.pg_session.specs.Failures.{BreaksOff, GivesOut, HasFailed, IsFine, PauseFails, RunsShort, TurnFails}
-use Rattle.pg_session.specs.Sessions.{MakesAll, rounds}
-use Rattle.pg_session.specs.States.{SessionState}
-use Rattle.pg_session.specs.Turns.{HandsOn}
-use Rattle.pg_session.proofs.Order.{makes_all_then}
+use Rattle.pg_turns.specs.Sessions.{MakesAll, rounds}
+use Rattle.pg_table.specs.Table.{TableSession, table}
+use Rattle.pg_turns.specs.Turns.{HandsOn}
+use Rattle.pg_turns.proofs.Order.{makes_all_then}
 use Rattle.pg_text.specs.declared.command.Command.{Command}
 use Rattle.pg_tool.specs.Plays.{ConnectionPolled, RoundFails, RoundWhole, RoundsMade, is_over}
 
 -- the next turn of a round failed
-pub round_fails : (scripts : List (List Command)) (turns : List ℕ) (s : SessionState) (l : LinkView) (mid : SessionState) (k m : LinkView) (e : Error) →
-    MakesAll scripts turns s l mid k → TurnFails mid k m e → RoundFails scripts s l m e
-round_fails scripts turns s l mid k m e before fails = elim fails [
-  | inl lacks ↦ inl (record { turns = turns; state = mid; link = k; before = before; lacks = lacks })
-  | inr poll ↦ inr (record { turns = turns; state = mid; link = k; before = before; fails = poll })
+pub round_fails : (scripts : List (List Command)) (turns : List ℕ) (s : TableSession) (l : LinkView) (mid : TableSession) (k m : LinkView) (e : Error) →
+    MakesAll table scripts turns s l mid k → mid.streams.given < 2 ^ 64 → TurnFails mid k m e → RoundFails scripts s l m e
+round_fails scripts turns s l mid k m e before counted fails = elim fails [
+  | inl lacks ↦ inl (record { turns = turns; state = mid; link = k; before = before; counted = counted; lacks = lacks })
+  | inr poll ↦ inr (record { turns = turns; state = mid; link = k; before = before; counted = counted; fails = poll })
 ]
 
 -- and in the given turns
-pub given_fails : (scripts : List (List Command)) (turns : List ℕ) (s : SessionState) (l : LinkView) (mid : SessionState) (k m : LinkView) (e : Error) →
-    MakesAll scripts turns s l mid k → TurnFails mid k m e → HasFailed scripts s l m e
-given_fails scripts turns s l mid k m e before fails = elim fails [
-  | inl lacks ↦ inl (record { turns = turns; state = mid; link = k; before = before; lacks = lacks })
-  | inr poll ↦ inr (inl (record { turns = turns; state = mid; link = k; before = before; fails = poll }))
+pub given_fails : (scripts : List (List Command)) (turns : List ℕ) (s : TableSession) (l : LinkView) (mid : TableSession) (k m : LinkView) (e : Error) →
+    MakesAll table scripts turns s l mid k → mid.streams.given < 2 ^ 64 → TurnFails mid k m e → HasFailed table scripts s l m e
+given_fails scripts turns s l mid k m e before counted fails = elim fails [
+  | inl lacks ↦ inl (record { turns = turns; state = mid; link = k; before = before; counted = counted; lacks = lacks })
+  | inr poll ↦ inr (inl (record { turns = turns; state = mid; link = k; before = before; counted = counted; fails = poll }))
 ]
 
 -- where memory lacked in it
-short_behind : (scripts : List (List Command)) (turns : List ℕ) (s : SessionState) (l : LinkView) (mid : SessionState) (k m : LinkView) (e : Error) →
-    MakesAll scripts turns s l mid k → RunsShort scripts mid k m e → RunsShort scripts s l m e
+short_behind : (scripts : List (List Command)) (turns : List ℕ) (s : TableSession) (l : LinkView) (mid : TableSession) (k m : LinkView) (e : Error) →
+    MakesAll table scripts turns s l mid k → RunsShort table scripts mid k m e → RunsShort table scripts s l m e
 short_behind scripts turns s l mid k m e before b = record {
   turns = turns ++ b.turns;
   state = b.state;
   link = b.link;
-  before = makes_all_then scripts turns b.turns s l mid k b.state b.link before b.before;
+  before = makes_all_then table scripts turns b.turns s l mid k b.state b.link before b.before;
+  counted = b.counted;
   lacks = b.lacks;
 }
 
-breaks_behind : (scripts : List (List Command)) (turns : List ℕ) (s : SessionState) (l : LinkView) (mid : SessionState) (k m : LinkView) (e : Error) →
-    MakesAll scripts turns s l mid k → BreaksOff scripts mid k m e → BreaksOff scripts s l m e
+breaks_behind : (scripts : List (List Command)) (turns : List ℕ) (s : TableSession) (l : LinkView) (mid : TableSession) (k m : LinkView) (e : Error) →
+    MakesAll table scripts turns s l mid k → BreaksOff table scripts mid k m e → BreaksOff table scripts s l m e
 breaks_behind scripts turns s l mid k m e before b = record {
   turns = turns ++ b.turns;
   state = b.state;
   link = b.link;
-  before = makes_all_then scripts turns b.turns s l mid k b.state b.link before b.before;
+  before = makes_all_then table scripts turns b.turns s l mid k b.state b.link before b.before;
+  counted = b.counted;
   fails = b.fails;
 }
 
 -- a round failed behind whole ones
-pub rounds_fail : (scripts : List (List Command)) (s : SessionState) (l : LinkView) (mid : SessionState) (k m : LinkView) (e : Error) →
-    RoundsMade scripts s l mid k → RoundFails scripts mid k m e → HasFailed scripts s l m e
+pub rounds_fail : (scripts : List (List Command)) (s : TableSession) (l : LinkView) (mid : TableSession) (k m : LinkView) (e : Error) →
+    RoundsMade scripts s l mid k → RoundFails scripts mid k m e → HasFailed table scripts s l m e
 rounds_fail scripts s l mid k m e before fails = elim fails [
   | inl short ↦ inl (short_behind scripts (rounds (length scripts) before.count) s l mid k m e before.made short)
   | inr breaks ↦ inr (inl (breaks_behind scripts (rounds (length scripts) before.count) s l mid k m e before.made breaks))
 ]
 
 -- the pause behind a round in which nothing moved failed
-pub pause_fails : (scripts : List (List Command)) (s : SessionState) (l : LinkView) (mid : SessionState) (k : LinkView) (t : SessionState) (n m : LinkView) (moved waited : Bool) (e : Error) →
-    RoundsMade scripts s l mid k → RoundWhole scripts mid k t n moved → StaysCalm l n → t.streams.given ≤ t.streams.max_bytes → SameBytes n m → SameWriting n m → moved ≡ false → (waited ≡ true → IsTrue k.promised) → PauseFails k.quiet n.quiet waited n m e →
-    HasFailed scripts s l m e
-pause_fails scripts s l mid k t n m moved waited e before round calm within bytes writing none promised fails = inr (inr (record {
+pub pause_fails : (scripts : List (List Command)) (s : TableSession) (l : LinkView) (mid : TableSession) (k : LinkView) (t : TableSession) (n m : LinkView) (moved waited : Bool) (e : Error) →
+    RoundsMade scripts s l mid k → RoundWhole scripts mid k t n moved → StaysCalm l n → t.streams.given ≤ t.streams.max_bytes → t.streams.given < 2 ^ 64 → SameBytes n m → SameWriting n m → moved ≡ false → (waited ≡ true → IsTrue k.promised) → PauseFails k.quiet n.quiet waited n m e →
+    HasFailed table scripts s l m e
+pause_fails scripts s l mid k t n m moved waited e before round calm within counted bytes writing none promised fails = inr (inr (record {
   turns = rounds (length scripts) before.count;
   state = mid;
   link = k;
@@ -77,6 +79,7 @@ pause_fails scripts s l mid k t n m moved waited e before round calm within byte
   round = round.stays none;
   calm = calm;
   within = within;
+  counted = counted;
   bytes = bytes;
   writing = writing;
   waited = waited;
@@ -84,18 +87,19 @@ pause_fails scripts s l mid k t n m moved waited e before round calm within byte
   fails = fails;
 }))
 
-gives_behind : (scripts : List (List Command)) (turns : List ℕ) (s : SessionState) (l : LinkView) (mid : SessionState) (k m : LinkView) (e : Error) →
-    MakesAll scripts turns s l mid k → StaysCalm l k → GivesOut scripts mid k m e → GivesOut scripts s l m e
+gives_behind : (scripts : List (List Command)) (turns : List ℕ) (s : TableSession) (l : LinkView) (mid : TableSession) (k m : LinkView) (e : Error) →
+    MakesAll table scripts turns s l mid k → StaysCalm l k → GivesOut table scripts mid k m e → GivesOut table scripts s l m e
 gives_behind scripts turns s l mid k m e before calm b = record {
   turns = turns ++ b.turns;
   state = b.state;
   link = b.link;
-  before = makes_all_then scripts turns b.turns s l mid k b.state b.link before b.before;
+  before = makes_all_then table scripts turns b.turns s l mid k b.state b.link before b.before;
   last = b.last;
   passed = b.passed;
   round = b.round;
   calm = calm_then l k b.passed calm b.calm;
   within = b.within;
+  counted = b.counted;
   bytes = b.bytes;
   writing = b.writing;
   waited = b.waited;
@@ -103,8 +107,8 @@ gives_behind scripts turns s l mid k m e before calm b = record {
   fails = b.fails;
 }
 
-fails_behind : (scripts : List (List Command)) (turns : List ℕ) (s : SessionState) (l : LinkView) (mid : SessionState) (k m : LinkView) (e : Error) →
-    MakesAll scripts turns s l mid k → StaysCalm l k → HasFailed scripts mid k m e → HasFailed scripts s l m e
+fails_behind : (scripts : List (List Command)) (turns : List ℕ) (s : TableSession) (l : LinkView) (mid : TableSession) (k m : LinkView) (e : Error) →
+    MakesAll table scripts turns s l mid k → StaysCalm l k → HasFailed table scripts mid k m e → HasFailed table scripts s l m e
 fails_behind scripts turns s l mid k m e before calm fails = elim fails [
   | inl short ↦ inl (short_behind scripts turns s l mid k m e before short)
   | inr other ↦ elim other [
@@ -114,15 +118,15 @@ fails_behind scripts turns s l mid k m e before calm fails = elim fails [
 ]
 
 -- the rounds failed behind the given turns
-pub run_fails : (scripts : List (List Command)) (turns : List ℕ) (s : SessionState) (l : LinkView) (mid : SessionState) (k m : LinkView) (r : Result (Unit {0}) Error) →
-    MakesAll scripts turns s l mid k → StaysCalm l k → IfErr r (HasFailed scripts mid k m) → IfErr r (HasFailed scripts s l m)
+pub run_fails : (scripts : List (List Command)) (turns : List ℕ) (s : TableSession) (l : LinkView) (mid : TableSession) (k m : LinkView) (r : Result (Unit {0}) Error) →
+    MakesAll table scripts turns s l mid k → StaysCalm l k → IfErr r (HasFailed table scripts mid k m) → IfErr r (HasFailed table scripts s l m)
 run_fails scripts turns s l mid k m (Ok x) before calm fails = tt
 run_fails scripts turns s l mid k m (Err e) before calm fails = fails_behind scripts turns s l mid k m e before calm fails
 
 -- ---- want of memory
 
 -- in a handle's turn
-pub handle_lacks : (s : SessionState) (l : LinkView) (r : Result (Option Bool) Error) → IfErr r (λ e. e ≡ error.OutOfMemory) → IfErr r (TurnFails s l l)
+pub handle_lacks : (s : TableSession) (l : LinkView) (r : Result (Option Bool) Error) → IfErr r (λ e. e ≡ error.OutOfMemory) → IfErr r (TurnFails s l l)
 handle_lacks s l (Ok moved) h = tt
 handle_lacks s l (Err e) h = inl (record { memory = h; crossed = inl refl })
 
@@ -133,7 +137,7 @@ fine_so (Ready (Some (Ok message))) old new over h = tt
 fine_so (Ready (Some (Err e))) old new over h = h
 
 -- behind a poll of the connection
-pub mark_lacks : (s t : SessionState) (l m : LinkView) (moved : Option Bool) (r : Result (Option Bool) Error) → ConnectionPolled s t l m moved → IfErr r (λ e. e ≡ error.OutOfMemory) → IfErr r (TurnFails s l m)
+pub mark_lacks : (s t : TableSession) (l m : LinkView) (moved : Option Bool) (r : Result (Option Bool) Error) → ConnectionPolled s t l m moved → IfErr r (λ e. e ≡ error.OutOfMemory) → IfErr r (TurnFails s l m)
 mark_lacks s t l m moved (Ok passed) p h = tt
 mark_lacks s t l m moved (Err e) p h = inl (record {
   memory = h;

@@ -12,10 +12,11 @@ use Rattle.pg_hub.specs.Fits.{HubBecomes}
 use Rattle.pg_hub.specs.Standing.{Standing}
 use Rattle.pg_text.specs.declared.command.Command.{Command}
 use Rattle.pg_session.specs.Measure.{IsNearer}
-use Rattle.pg_session.specs.States.{SessionState}
-use Rattle.pg_session.specs.Turns.{HandsOn, Makes, Turns}
-use Rattle.pg_session.proofs.Nearer.{answered-nearer}
+use Rattle.pg_table.specs.Table.{TableSession, table}
+use Rattle.pg_turns.specs.Turns.{HandsOn, Makes, Turns}
+use Rattle.pg_session.proofs.Nearer.{answered-nearer, nearer-so}
 use Rattle.pg_tool.specs.declared.play.Play.{Play}
+use Rattle.pg_tool.proofs.OnScripts.{next_on}
 use Rattle.pg_tool.specs.Plays.{ConnectionPolled, HandlePolled, IsGoing, IsLimited, Leaves, is_over, state_of}
 
 first_false : (a b : Bool) → (a || b) ≡ false → a ≡ false
@@ -31,7 +32,7 @@ left_so a b old new l m (Ready (Some (Ok message))) was now p hands = first_fals
 left_so a b old new l m (Ready (Some (Err e))) was now p hands = absurd hands
 
 -- the link gave no more than it may, up to the end of a turn that ends nothing
-within_so : (scripts : List (List Command)) (turn : ℕ) (s t : SessionState) (l m : LinkView) → Makes scripts turn s t l m false → s.streams.given ≤ s.streams.max_bytes →
+within_so : (scripts : List (List Command)) (turn : ℕ) (s t : TableSession) (l m : LinkView) → Makes table scripts turn s t l m false → s.streams.given ≤ s.streams.max_bytes →
     (t.streams.ended ≡ false → t.streams.given ≤ t.streams.max_bytes) → t.streams.given ≤ t.streams.max_bytes
 within_so scripts turn s t l m (inl handle) was open_ = subst (λ (x : Streams). x.given ≤ x.max_bytes) (sym handle.made.streams) was
 within_so scripts turn s t l m (inr connection) was open_ =
@@ -39,24 +40,26 @@ within_so scripts turn s t l m (inr connection) was open_ =
 
 -- the session goes on, and less is left to do where something moved
 pub record GoesOn (scripts : List (List Command)) (p u : Play) (moved : Bool) : Type 0 where
-  pub going : IsGoing u
+  pub going : IsGoing scripts u
   pub nearer : IsNearer scripts moved (state_of p) (state_of u)
 
-goes_so : (scripts : List (List Command)) (turn : ℕ) (p u : Play) (l m : LinkView) (moved : Option Bool) → IsGoing p →
-    (u.streams.ended ≡ false → u.streams.given ≤ u.streams.max_bytes) → Turns scripts turn (state_of p) (state_of u) l m moved → IfSome moved (GoesOn scripts p u)
+goes_so : (scripts : List (List Command)) (turn : ℕ) (p u : Play) (l m : LinkView) (moved : Option Bool) → IsGoing scripts p →
+    (u.streams.ended ≡ false → u.streams.given ≤ u.streams.max_bytes) → Turns table scripts turn (state_of p) (state_of u) l m moved → IfSome moved (GoesOn scripts p u)
 goes_so scripts turn p u l m None going within turns = tt
 goes_so scripts turn p u l m (Some moved) going within turns =
     let limited = within_so scripts turn (state_of p) (state_of u) l m turns.0 going.within within in
-    let so = answered-nearer scripts turn (state_of p) (state_of u) l m moved turns going.under_way limited in
-    record { going = record { under_way = so.under_way; within = limited }; nearer = so.nearer }
+    let so = answered-nearer table scripts turn (state_of p) (state_of u) l m moved turns going.under_way limited in
+    record {
+      going = record { under_way = so.under_way; on_scripts = next_on scripts turn (state_of p) (state_of u) l m false turns.0 going.on_scripts; within = limited };
+      nearer = nearer-so scripts moved (state_of p) (state_of u) so.falls;
+    }
 
 -- the same by what the turn answered
-pub turn_goes : (scripts : List (List Command)) (turn : ℕ) (p u : Play) (l m : LinkView) (r : Result (Option Bool) Error) → IsGoing p →
-    (u.streams.ended ≡ false → u.streams.given ≤ u.streams.max_bytes) → IfOk r (Turns scripts turn (state_of p) (state_of u) l m) → IfOk r (λ moved. IfSome moved (GoesOn scripts p u))
+pub turn_goes : (scripts : List (List Command)) (turn : ℕ) (p u : Play) (l m : LinkView) (r : Result (Option Bool) Error) → IsGoing scripts p →
+    (u.streams.ended ≡ false → u.streams.given ≤ u.streams.max_bytes) → IfOk r (Turns table scripts turn (state_of p) (state_of u) l m) → IfOk r (λ moved. IfSome moved (GoesOn scripts p u))
 turn_goes scripts turn p u l m (Err e) going within turns = tt
 turn_goes scripts turn p u l m (Ok moved) going within turns = goes_so scripts turn p u l m moved going within turns
 
--- its two parts
 -- ---- the limit
 
 -- a poll that didn't fail gave no more than it may
@@ -75,12 +78,12 @@ connection_limited p q u l m moved (Ok x) polled limit same =
     subst (λ (y : Play). IsLimited p y) (sym same)
     (kept_so p.hub q.hub p.streams q.streams l m polled.answer p.asynchronous.items q.asynchronous.items (is_over moved) polled.polled polled.hands polled.kept, limit)
 
-handle_so : (scripts : List (List Command)) (turn : ℕ) (p u : Play) (moved : Option Bool) → IsGoing p → HandlePolled scripts turn (state_of p) (state_of u) moved → IsLimited p u
+handle_so : (scripts : List (List Command)) (turn : ℕ) (p u : Play) (moved : Option Bool) → IsGoing scripts p → HandlePolled scripts turn (state_of p) (state_of u) moved → IsLimited p u
 handle_so scripts turn p u moved going polled =
     (subst (λ (x : Streams). x.given ≤ x.max_bytes) (sym polled.made.streams) going.within, ap (λ (x : Streams). x.max_bytes) polled.made.streams)
 
 -- a handle's turn
-pub handle_limited : (scripts : List (List Command)) (turn : ℕ) (p u : Play) (r : Result (Option Bool) Error) → IsGoing p → IfOk r (HandlePolled scripts turn (state_of p) (state_of u)) →
+pub handle_limited : (scripts : List (List Command)) (turn : ℕ) (p u : Play) (r : Result (Option Bool) Error) → IsGoing scripts p → IfOk r (HandlePolled scripts turn (state_of p) (state_of u)) →
     IfOk r (λ x. IsLimited p u)
 handle_limited scripts turn p u (Err e) going polled = tt
 handle_limited scripts turn p u (Ok moved) going polled = handle_so scripts turn p u moved going polled

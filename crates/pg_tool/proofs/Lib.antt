@@ -1,4 +1,6 @@
 pub mod Growing
+pub mod AtTable
+pub mod AskedFew
 pub mod Limits
 pub mod Playing
 pub mod Telling
@@ -12,6 +14,7 @@ pub mod Chaining
 pub mod Played
 pub mod Promised
 pub mod Failing
+pub mod OnScripts
 pub mod Going
 pub mod Causing
 pub mod Limiting
@@ -22,3 +25,4 @@ pub mod Completing
 pub mod WellMade
 pub mod Neither
 pub mod Requiring
+pub mod Numbering

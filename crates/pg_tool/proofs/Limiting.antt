@@ -10,21 +10,21 @@ use Rattle.pg_spec.specs.Report as told
 use Rattle.pg_faults.specs.declared.error.Error.{Error}
 use Rattle.pg_faults.specs.declared.error.Error.TheVariants as error
 use Rattle.pg_startup.specs.declared.startup.Startup.{Startup}
-use Rattle.pg_session.proofs.Caused.{broken-limit}
-use Rattle.pg_session.proofs.LimitsKept.{HoldsLimit, holds-ended, holds-failed, holds-stopped, holds-untouched}
+use Rattle.pg_session.proofs.LimitsKept.{HoldsLimit, holds-failed, holds-stopped, holds-untouched}
 use Rattle.pg_text.specs.declared.command.Command.{Command}
 use Rattle.pg_text.specs.declared.report.Report.{Report}
-use Rattle.pg_tool.specs.Asked.{call_of}
+use Rattle.pg_table.specs.Headlines.{told_in}
 use Rattle.pg_tool.specs.Fails.{PlaysWithin, SessionFails}
 use Rattle.pg_tool.specs.Openings.{OpenEnds}
 use Rattle.pg_tool.specs.SessionContract.{KeepsLimit, SessionResult, result_of}
+use Rattle.pg_tool.proofs.AtTable.{broken-limit, holds-ended}
 
 -- what follows of told bytes
 map_some : {X : Type 0} (o : Option X) (P Q : X → Type 0) → ((x : X) → P x → Q x) → IfSome o P → IfSome o Q
 map_some None P Q f p = tt
 map_some (Some x) P Q f p = f x p
 
-map_bytes : (a b : LinkView) (P Q : List ℕ → List ℕ → Type 0) → ((g t : List ℕ) → P g t → Q g t) → OfBytes a b P → OfBytes a b Q
+pub map_bytes : (a b : LinkView) (P Q : List ℕ → List ℕ → Type 0) → ((g t : List ℕ) → P g t → Q g t) → OfBytes a b P → OfBytes a b Q
 map_bytes a b P Q f p =
     map_some (added a.given b.given) (λ g. IfSome (added a.taken b.taken) (λ t. P g t)) (λ g. IfSome (added a.taken b.taken) (λ t. Q g t))
     (λ g. map_some (added a.taken b.taken) (λ t. P g t) (λ t. Q g t) (f g)) p
@@ -65,7 +65,7 @@ keeps_limit call (Err e) ended holds causes = failed_so call e holds causes
 pub ended_within : (settings : Settings) (nonce : List ℕ) (scripts : List (List Command)) (given : List ℕ) (limit : ℕ) (before after : LinkView) (r : Result Report Error) →
     IfOk r (PlaysWithin settings nonce scripts given limit before after) → IfOk r (λ report. OfBytes before after (λ g t. length g ≤ limit))
 ended_within settings nonce scripts given limit before after (Err e) played = tt
-ended_within settings nonce scripts given limit before after (Ok report) played = holds-ended settings nonce scripts given before after report limit played.0 played.1
+ended_within settings nonce scripts given limit before after (Ok report) played = holds-ended settings nonce scripts given before after (told_in report) limit played.0 played.1
 
 -- ---- a session that failed
 
@@ -73,17 +73,13 @@ start_holds : (call : Call) (settings : Settings) (s : Startup) (e : Error) → 
 start_holds call settings s (error.Stalled before after) limit ends = holds-stopped call settings s before after limit ends
 start_holds call settings s _ limit ends = holds-failed call settings s _ limit ends
 
-holds_by : (config : List ℕ) (settings : Settings) (nonce : List ℕ) (scripts : List (List Command)) (turns : List ℕ) (limit : ℕ) (before after : LinkView) (e : Error) → Means config settings →
-    SessionFails settings nonce scripts limit before after e → HoldsLimit (call_of config nonce scripts turns limit before after) e
-holds_by config settings nonce scripts turns limit before after e means (inl lacks) =
-    subst (λ (x : Error). HoldsLimit (call_of config nonce scripts turns limit before after) x) (sym lacks.memory) tt
-holds_by config settings nonce scripts turns limit before after e means (inr (inl made)) = holds-untouched (call_of config nonce scripts turns limit before after) e made.1
-holds_by config settings nonce scripts turns limit before after e means (inr (inr (inl start))) =
-    start_holds (call_of config nonce scripts turns limit before after) settings start.startup e start.limited start.ends
-holds_by config settings nonce scripts turns limit before after e means (inr (inr (inr later))) =
-    broken-limit (call_of config nonce scripts turns limit before after) settings scripts e means later.broken later.limited
+holds_by : (call : Call) (settings : Settings) (scripts : List (List Command)) (e : Error) → Means call.config settings → SessionFails settings call.nonce scripts call.limit call.before call.after e → HoldsLimit call e
+holds_by call settings scripts e means (inl lacks) = subst (λ (x : Error). HoldsLimit call x) (sym lacks.memory) tt
+holds_by call settings scripts e means (inr (inl made)) = holds-untouched call e made.1
+holds_by call settings scripts e means (inr (inr (inl start))) = start_holds call settings start.startup e start.limited start.ends
+holds_by call settings scripts e means (inr (inr (inr later))) = broken-limit call settings scripts e means later.broken later.limited
 
-pub holds_all : (config : List ℕ) (settings : Settings) (nonce : List ℕ) (scripts : List (List Command)) (turns : List ℕ) (limit : ℕ) (before after : LinkView) (r : Result Report Error) → Means config settings →
-    IfErr r (SessionFails settings nonce scripts limit before after) → IfErr r (HoldsLimit (call_of config nonce scripts turns limit before after))
-holds_all config settings nonce scripts turns limit before after (Ok report) means fails = tt
-holds_all config settings nonce scripts turns limit before after (Err e) means fails = holds_by config settings nonce scripts turns limit before after e means fails
+pub holds_all : (call : Call) (settings : Settings) (scripts : List (List Command)) (r : Result Report Error) → Means call.config settings →
+    IfErr r (SessionFails settings call.nonce scripts call.limit call.before call.after) → IfErr r (HoldsLimit call)
+holds_all call settings scripts (Ok report) means fails = tt
+holds_all call settings scripts (Err e) means fails = holds_by call settings scripts e means fails

@@ -5,16 +5,18 @@ use Rattle.std.specs.List.{All}
 use Rattle.pg_faults.specs.declared.error.Error.{Error}
 use Rattle.pg_hub.specs.Fits.{HubBecomes}
 use Rattle.pg_hub.specs.Standing.{Standing}
-use Rattle.pg_session.specs.HandleTurns.{HandleTurns}
+use Rattle.pg_turns.specs.Turns.{HandleTurns}
 use Rattle.pg_connect.specs.Answers.{PollAnswers}
 use Rattle.pg_spec.specs.Links.{LinkView}
-use Rattle.pg_session.specs.Turns.{ClosesBehind, ConnectionTurn, HandsOn, Turns, left_behind, moved_by, moved_in_poll, untouched}
-use Rattle.pg_session.specs.declared.handle_turn.Polling.{Polling}
+use Rattle.pg_turns.specs.Turns.{ClosesBehind, ConnectionTurn, HandsOn, Turns, left_behind, moved_by, moved_in_poll, untouched}
+use Rattle.pg_turns.specs.declared.handle_turn.Polling.{Polling}
 use Rattle.pg_text.specs.declared.command.Command.{Command}
 use Rattle.pg_tool.specs.declared.handle.Handle.{Handle}
 use Rattle.pg_tool.specs.declared.play.Play.{Play}
 use Rattle.pg_client.specs.Queries.{place_of_query}
-use Rattle.pg_session.specs.States.{SessionState, idle_handle, new_handles}
+use Rattle.pg_turns.specs.States.{new_handles}
+use Rattle.pg_turns.specs.Handles.{idle_handle}
+use Rattle.pg_table.specs.Table.{TableSession, table}
 use Rattle.pg_tool.specs.Handles.{IsIdleHandle, OneTurned, view_of}
 use Rattle.pg_tool.specs.Plays.{ConnectionPolled, HandlePolled, is_over, state_of}
 
@@ -23,17 +25,17 @@ pub written_back : {X : Type 0} (n : ℕ) (xs ys : List X) → n ≡ length xs �
 written_back n xs ys is = ap (λ k. take k (xs ++ ys)) is ∙ take-append_seam xs ys
 
 -- handles that have begun no command
-pub idle_views : (handles : List Handle) (scripts : List (List Command)) → length handles ≡ length scripts → All IsIdleHandle handles → map view_of handles ≡ new_handles scripts
+pub idle_views : (handles : List Handle) (scripts : List (List Command)) → length handles ≡ length scripts → All IsIdleHandle handles → map view_of handles ≡ new_handles table.begins scripts
 idle_views [] [] count idle = refl
 idle_views [] (script ∷ scripts) count idle = absurd (omega (arith, count))
 idle_views (h ∷ hs) [] count idle = absurd (omega (arith, count))
 idle_views (h ∷ hs) (script ∷ scripts) count idle =
     let first : IsIdleHandle h = idle 0 h (omega arith) in
-    let views : view_of h ≡ idle_handle =
-    ap (λ r. record { running = option_map (λ state. place_of_query state.value) r; answers = h.answers.items }) first.running
-    ∙ ap (λ items. record { running = None; answers = items }) first.answers in
+    let views : view_of h ≡ idle_handle table.begins =
+    ap (λ r. record { running = option_map (λ state. place_of_query state.value) r; answers = h.answers.items; own = tt }) first.running
+    ∙ ap (λ items. record { running = None; answers = items; own = tt }) first.answers in
     ap (λ v. v ∷ map view_of hs) views
-    ∙ ap (λ vs. idle_handle ∷ vs) (idle_views hs scripts (omega (arith, count)) (λ k d within. idle (suc k) d (omega (arith, within))))
+    ∙ ap (λ vs. idle_handle table.begins ∷ vs) (idle_views hs scripts (omega (arith, count)) (λ k d within. idle (suc k) d (omega (arith, within))))
 
 -- the handle was polled, requests were closed behind it, and the turn was noted
 pub handle_made : (scripts : List (List Command)) (turn turns : ℕ) (p q u : Play) (script : List Command) (first hub : Standing) (olds news : List Handle) (did : Polling) (r : Result (Option Bool) Error) →
@@ -56,8 +58,8 @@ handle_made scripts turn turns p q u script first hub olds news did (Ok passed) 
     old_at = subst (λ hs. slice_get (map view_of hs) turn ≡ Some turned.old) old turned.old_at;
     new = turned.new;
     hub = hub;
-    turns = subst (λ n. HandleTurns HubBecomes script (record { owner = turn; command = length turned.old.answers; turn = n }) (untouched p.hub) turned.old hub turned.new did) count
-        (subst (λ h. HandleTurns HubBecomes script (record { owner = turn; command = length turned.old.answers; turn = turns }) h turned.old hub turned.new did) touched turned.turns);
+    turns = subst (λ n. HandleTurns HubBecomes table script (record { owner = turn; command = length turned.old.answers; turn = n }) (untouched p.hub) turned.old hub turned.new did) count
+        (subst (λ h. HandleTurns HubBecomes table script (record { owner = turn; command = length turned.old.answers; turn = turns }) h turned.old hub turned.new did) touched turned.turns);
     closes = subst (λ h. ClosesBehind did p.unanswered hub h) (sym (ap (λ (x : Play). x.hub) same)) closes;
     handles = ap (λ (x : Play). map view_of x.handles.items) same ∙ ap (map view_of) handles ∙ turned.handles ∙ ap (λ hs. slice_set (map view_of hs) turn turned.new) old;
     unanswered = ap (λ (x : Play). x.unanswered) same ∙ unanswered;
@@ -77,8 +79,8 @@ some_is : (x y : Bool) → Some x ≡ Some y → y ≡ x
 some_is x y e = cc
 
 -- a handle's turn, by what it answers
-pub handle_turns : (scripts : List (List Command)) (turn : ℕ) (s t : SessionState) (l : LinkView) (r : Result (Option Bool) Error) → turn < length scripts →
-    IfOk r (HandlePolled scripts turn s t) → IfOk r (Turns scripts turn s t l l)
+pub handle_turns : (scripts : List (List Command)) (turn : ℕ) (s t : TableSession) (l : LinkView) (r : Result (Option Bool) Error) → turn < length scripts →
+    IfOk r (HandlePolled scripts turn s t) → IfOk r (Turns table scripts turn s t l l)
 handle_turns scripts turn s t l (Err e) own polled = tt
 handle_turns scripts turn s t l (Ok None) own polled = absurd (let no : None ≡ Some (moved_by polled.did polled.made.hub) = polled.says in cc)
 handle_turns scripts turn s t l (Ok (Some moved)) own polled = (
@@ -105,7 +107,7 @@ made_so scripts turn p q u l m moved other polled same marks = record {
 
 turns_so : (scripts : List (List Command)) (turn : ℕ) (p q u : Play) (l m : LinkView) (moved : Option Bool) → length scripts ≤ turn →
     ConnectionPolled (state_of p) (state_of q) l m moved → u ≡ record q { trace = u.trace } →
-    u.trace.items ≡ q.trace.items ++ record { turn = turn; delivered = q.streams.delivered } ∷ [] → Turns scripts turn (state_of p) (state_of u) l m moved
+    u.trace.items ≡ q.trace.items ++ record { turn = turn; delivered = q.streams.delivered } ∷ [] → Turns table scripts turn (state_of p) (state_of u) l m moved
 turns_so scripts turn p q u l m None other polled same marks = inr (made_so scripts turn p q u l m None other polled same marks)
 turns_so scripts turn p q u l m (Some moved) other polled same marks = (
   inr (made_so scripts turn p q u l m (Some moved) other polled same marks),
@@ -115,7 +117,7 @@ turns_so scripts turn p q u l m (Some moved) other polled same marks = (
 -- the connection's turn, by what it answers
 pub connection_turns : (scripts : List (List Command)) (turn : ℕ) (p q u : Play) (l m : LinkView) (moved : Option Bool) (r : Result (Option Bool) Error) → length scripts ≤ turn →
     ConnectionPolled (state_of p) (state_of q) l m moved → u ≡ record q { trace = u.trace } → IfOk r (λ passed. passed ≡ moved) →
-    OnOk r (u.trace.items ≡ q.trace.items ++ record { turn = turn; delivered = q.streams.delivered } ∷ []) → IfOk r (Turns scripts turn (state_of p) (state_of u) l m)
+    OnOk r (u.trace.items ≡ q.trace.items ++ record { turn = turn; delivered = q.streams.delivered } ∷ []) → IfOk r (Turns table scripts turn (state_of p) (state_of u) l m)
 connection_turns scripts turn p q u l m moved (Err e) other polled same passes marks = tt
 connection_turns scripts turn p q u l m moved (Ok passed) other polled same passes marks =
-    subst (λ x. Turns scripts turn (state_of p) (state_of u) l m x) (sym passes) (turns_so scripts turn p q u l m moved other polled same marks)
+    subst (λ x. Turns table scripts turn (state_of p) (state_of u) l m x) (sym passes) (turns_so scripts turn p q u l m moved other polled same marks)

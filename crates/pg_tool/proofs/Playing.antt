@@ -12,11 +12,14 @@ use Rattle.pg_text.specs.Sessions.{IsNew, session_of}
 use Rattle.pg_text.specs.Views.{scripts_of}
 use Rattle.pg_faults.specs.declared.error.Error.{Error}
 use Rattle.pg_promises.specs.ConnectionStrings.{Means}
-use Rattle.pg_session.specs.Sessions.{HasPlayed}
+use Rattle.pg_turns.specs.Sessions.{HasPlayed}
 use Rattle.pg_spec.specs.Settings.{Settings}
 use Rattle.pg_text.specs.declared.report.Report.{Report}
-use Rattle.pg_tool.specs.RunContract.{IsPiped, IsPlayed, WasPlayed, call_of, call_over, new_link}
+use Rattle.pg_tool.specs.RunContract.{IsPiped, IsPlayed, KeepsTable, WasPlayed, call_of, call_over, new_link}
 use Rattle.pg_tool.specs.SessionContract.{SessionContract, result_of}
+use Rattle.pg_table.specs.Headlines.{told_in}
+use Rattle.pg_table.specs.Table.{table}
+use Rattle.pg_tool.specs.TableContract.{TableContract, table_call, table_result}
 
 -- the bytes before a place are a front of the plan's
 front_of : (entries : List (List ℕ)) (entry at : ℕ) → (rest : List ℕ) × (bytes_before entries entry at ++ rest ≡ concat entries)
@@ -75,30 +78,44 @@ asked_is config nonce turns s after new config_is nonce_is turns_is =
     ∙ ap (λ (v : List ℕ). asked s.config s.nonce v s after) turns_is
     ∙ ap (λ (l : LinkView). record (call_of (session_of s) after) { before = l }) (link_is s new)
 
+-- by the table, of the text
+keeps_table : (config nonce turns : List ℕ) (s : Session) (before after : LinkView) (r : Result Report Error) → config ≡ s.config → nonce ≡ s.nonce → turns ≡ s.turns →
+    TableContract (table_call config nonce s.scripts turns s.max_bytes before after) (table_result r) → KeepsTable (session_of s) before after (result_of r)
+keeps_table config nonce turns s before after r config_is nonce_is turns_is kept = (
+  s.scripts,
+  refl,
+  r,
+  refl,
+  subst (λ (v : List ℕ). TableContract (table_call v s.nonce s.scripts s.turns s.max_bytes before after) (table_result r)) config_is
+      (subst (λ (v : List ℕ). TableContract (table_call config v s.scripts s.turns s.max_bytes before after) (table_result r)) nonce_is
+      (subst (λ (v : List ℕ). TableContract (table_call config nonce s.scripts v s.max_bytes before after) (table_result r)) turns_is kept)),
+)
+
 -- it was played turn by turn, of the text
 was_played : (config nonce turns : List ℕ) (s : Session) (m : Memory) (r : Result Report Error) → IsNew s → config ≡ s.config → nonce ≡ s.nonce → turns ≡ s.turns →
-    IfOk r (λ told. (settings : Settings) × Means config settings × HasPlayed settings nonce s.scripts turns (link_of s.link) (link_of m) told) →
+    IfOk r (λ told. (settings : Settings) × Means config settings × HasPlayed table settings nonce s.scripts turns (link_of s.link) (link_of m) (told_in told)) →
     WasPlayed (session_of s) (new_link (session_of s)) (link_of m) (result_of r)
 was_played config nonce turns s m (Err e) new config_is nonce_is turns_is played = tt
 was_played config nonce turns s m (Ok told) new config_is nonce_is turns_is played =
-    let named : HasPlayed played.0 s.nonce s.scripts turns (link_of s.link) (link_of m) told =
-    subst (λ (v : List ℕ). HasPlayed played.0 v s.scripts turns (link_of s.link) (link_of m) told) nonce_is played.2 in
-    let turned : HasPlayed played.0 s.nonce s.scripts s.turns (link_of s.link) (link_of m) told =
-    subst (λ (v : List ℕ). HasPlayed played.0 s.nonce s.scripts v (link_of s.link) (link_of m) told) turns_is named in (
+    let named : HasPlayed table played.0 s.nonce s.scripts turns (link_of s.link) (link_of m) (told_in told) =
+    subst (λ (v : List ℕ). HasPlayed table played.0 v s.scripts turns (link_of s.link) (link_of m) (told_in told)) nonce_is played.2 in
+    let turned : HasPlayed table played.0 s.nonce s.scripts s.turns (link_of s.link) (link_of m) (told_in told) =
+    subst (λ (v : List ℕ). HasPlayed table played.0 s.nonce s.scripts v (link_of s.link) (link_of m) (told_in told)) turns_is named in (
       played.0,
       subst (λ (v : List ℕ). Means v played.0) config_is played.1,
       s.scripts,
       refl,
       told,
       refl,
-      subst (λ (v : LinkView). HasPlayed played.0 s.nonce s.scripts s.turns v (link_of m) told) (link_is s new) turned,
+      subst (λ (v : LinkView). HasPlayed table played.0 s.nonce s.scripts s.turns v (link_of m) (told_in told)) (link_is s new) turned,
     )
 
 pub played_over : (config nonce turns : List ℕ) (s : Session) (m : Memory) (r : Result Report Error) → IsNew s →
     config ≡ s.config → nonce ≡ s.nonce → turns ≡ s.turns → SessionContract (asked config nonce turns s (link_of m)) (result_of r) →
-    IfOk r (λ told. (settings : Settings) × Means config settings × HasPlayed settings nonce s.scripts turns (link_of s.link) (link_of m) told) →
+    TableContract (table_call config nonce s.scripts turns s.max_bytes (link_of s.link) (link_of m)) (table_result r) →
+    IfOk r (λ told. (settings : Settings) × Means config settings × HasPlayed table settings nonce s.scripts turns (link_of s.link) (link_of m) (told_in told)) →
     (rest : List ℕ) × (m.given ++ rest ≡ concat m.entries) → IsPlayed (session_of s) (result_of r)
-played_over config nonce turns s m r new config_is nonce_is turns_is promised played front = record {
+played_over config nonce turns s m r new config_is nonce_is turns_is promised kept played front = record {
   after = link_of m;
   given = m.given;
   taken = m.taken;
@@ -109,6 +126,7 @@ played_over config nonce turns s m r new config_is nonce_is turns_is promised pl
   front = front.1 ∙ ap (λ (plan : Option Plan). concat (told_entries plan)) session.link.keeps.plan;
   no_fault = refl;
   session = session;
+  by_table = subst (λ (l : LinkView). KeepsTable (session_of s) l (link_of m) (result_of r)) (link_is s new) (keeps_table config nonce turns s (link_of s.link) (link_of m) r config_is nonce_is turns_is kept);
   turns = was_played config nonce turns s m r new config_is nonce_is turns_is played;
 }
   where
@@ -119,18 +137,18 @@ played_over config nonce turns s m r new config_is nonce_is turns_is promised pl
 
 -- it was played turn by turn, of the text
 was_piped : (config nonce turns : List ℕ) (s : Session) (before after : LinkView) (r : Result Report Error) → config ≡ s.config → nonce ≡ s.nonce → turns ≡ s.turns →
-    IfOk r (λ told. (settings : Settings) × Means config settings × HasPlayed settings nonce s.scripts turns before after told) →
+    IfOk r (λ told. (settings : Settings) × Means config settings × HasPlayed table settings nonce s.scripts turns before after (told_in told)) →
     WasPlayed (session_of s) before after (result_of r)
 was_piped config nonce turns s before after (Err e) config_is nonce_is turns_is played = tt
 was_piped config nonce turns s before after (Ok told) config_is nonce_is turns_is played =
-    let named : HasPlayed played.0 s.nonce s.scripts turns before after told = subst (λ (v : List ℕ). HasPlayed played.0 v s.scripts turns before after told) nonce_is played.2 in (
+    let named : HasPlayed table played.0 s.nonce s.scripts turns before after (told_in told) = subst (λ (v : List ℕ). HasPlayed table played.0 v s.scripts turns before after (told_in told)) nonce_is played.2 in (
       played.0,
       subst (λ (v : List ℕ). Means v played.0) config_is played.1,
       s.scripts,
       refl,
       told,
       refl,
-      subst (λ (v : List ℕ). HasPlayed played.0 s.nonce s.scripts v before after told) turns_is named,
+      subst (λ (v : List ℕ). HasPlayed table played.0 s.nonce s.scripts v before after (told_in told)) turns_is named,
     )
 
 piped_is : (config nonce turns : List ℕ) (s : Session) (before after : LinkView) → config ≡ s.config → nonce ≡ s.nonce → turns ≡ s.turns →
@@ -142,9 +160,11 @@ piped_is config nonce turns s before after config_is nonce_is turns_is =
 
 pub piped_over : (config nonce turns : List ℕ) (s : Session) (before after : LinkView) (r : Result Report Error) →
     config ≡ s.config → nonce ≡ s.nonce → turns ≡ s.turns → SessionContract (record (asked config nonce turns s after) { before = before }) (result_of r) →
-    IfOk r (λ told. (settings : Settings) × Means config settings × HasPlayed settings nonce s.scripts turns before after told) →
+    TableContract (table_call config nonce s.scripts turns s.max_bytes before after) (table_result r) →
+    IfOk r (λ told. (settings : Settings) × Means config settings × HasPlayed table settings nonce s.scripts turns before after (told_in told)) →
     IsPiped before after (session_of s) (result_of r)
-piped_over config nonce turns s before after r config_is nonce_is turns_is promised played = record {
+piped_over config nonce turns s before after r config_is nonce_is turns_is promised kept played = record {
   session = subst (λ (call : Call). SessionContract call (result_of r)) (piped_is config nonce turns s before after config_is nonce_is turns_is) promised;
+  by_table = keeps_table config nonce turns s before after r config_is nonce_is turns_is kept;
   turns = was_piped config nonce turns s before after r config_is nonce_is turns_is played;
 }

@@ -3,8 +3,11 @@ use Rattle.std.proofs.Common.{◌≡◌, ◌<◌, ℕ, List, length, Option, Som
 use Rattle.std.specs.Prelude.{OnOk, IsSome}
 use Rattle.std.proofs.lemmas.Bool.{true≢false}
 use Rattle.std.proofs.lemmas.List.{length-drop}
+use Rattle.pg_headline.specs.Endings as ending
+use Rattle.pg_text.specs.declared.command.Answer.{Answer}
+use Rattle.pg_failed.specs.Calls as any
+use Rattle.pg_failed.specs.Kept.{NoneKeptBack}
 use Rattle.pg_promises.specs.Causes.{Call, HasCause, MustAskForTls, MustRefuse, NeedsNoTls, RefusedFor}
-use Rattle.pg_promises.specs.Promises.{NoneKeptBack}
 use Rattle.pg_promises.proofs.Strings.{means_one, no_fault}
 use Rattle.pg_config.specs.ConnectionStrings.{ConnectionStringMeans}
 use Rattle.pg_config.specs.Outcomes.{HasFault}
@@ -21,25 +24,73 @@ use Rattle.pg_connect.specs.Calm.{StaysCalm}
 use Rattle.pg_faults.specs.declared.cause.Cause.TheVariants as cause
 use Rattle.pg_faults.specs.declared.error.Error.{Error}
 use Rattle.pg_faults.specs.declared.error.Error.TheVariants as error
-use Rattle.pg_text.specs.Views.{report_of}
 use Rattle.pg_text.specs.declared.command.Command.{Command}
 use Rattle.pg_text.specs.declared.report.Report.{Report}
-use Rattle.pg_session.proofs.Closing.{is-closed}
-use Rattle.pg_session.proofs.SentSoFar.{sent-untouched}
-use Rattle.pg_session.specs.WholeSession.{IsClosed}
+use Rattle.pg_turns.specs.Speeches.{meaning_of}
+use Rattle.pg_session.specs.WholeSession.{IsClosed, LeavesOpen}
+use Rattle.pg_table.specs.Headlines.{in_words, told_in}
+use Rattle.pg_table.specs.Table.{table}
 use Rattle.pg_tool.specs.Asked.{call_of, MayStart}
 use Rattle.pg_tool.specs.Fails.{PlaysWithin, SessionFails}
 use Rattle.pg_startup.specs.declared.ssl_request.SslRequest.{SslRequest}
 use Rattle.pg_tls.specs.declared.choice.TlsChoice.TheVariants.{Asks, Shakes}
 use Rattle.pg_tool.specs.Required.{AsksInVain, AsksWithin, choice_of}
-use Rattle.pg_tool.specs.SessionContract.{IsEndedWell, IsRun, SendsInOrder, SessionContract, result_of}
-use Rattle.pg_tool.proofs.Causing.{caused}
-use Rattle.pg_tool.proofs.Completing.{must_all}
+use Rattle.pg_tool.specs.SessionContract.{KeepsLimit, SessionContract, result_of}
+use Rattle.pg_headline.specs.Endings.{IsRun}
+use Rattle.pg_tool.specs.TableContract.{IsEndedWell, SendsInOrder, TableContract, table_call, table_result}
+use Rattle.pg_tool.proofs.AtTable.{is-closed, sent-untouched}
+use Rattle.pg_tool.proofs.Causing.{caused, causes_apart}
+use Rattle.pg_tool.proofs.Completing.{must_all, must_simply}
 use Rattle.pg_tool.proofs.Following.{continues_same}
 use Rattle.pg_tool.proofs.Limiting.{ended_within, holds_all, keeps_limit}
-use Rattle.pg_tool.proofs.Played.{ended_well, has_run}
+use Rattle.pg_tool.proofs.Played.{ended_simply, ended_well, has_run, run_simply}
 use Rattle.pg_tool.proofs.Requiring.{asks_so, shakes_cause, shakes_so, vain_cause, vain_goes, vain_holds, vain_kept, vain_open, vain_sent}
-use Rattle.pg_tool.proofs.Sending.{asks_all, leaves_all, sends_all}
+use Rattle.pg_tool.proofs.Sending.{asks_all, kept_simply, leaves_all, sends_all, sends_simply}
+
+-- ---- both contracts
+
+-- what a call promises by the table, and by simple queries
+pub record Promises (call : any.Call Command) (r : Result Report Error) : Type 0 where
+  pub session : SessionContract (in_words call) (result_of r)
+  pub by_table : TableContract call (table_result r)
+
+-- what only today's words say
+record Beside (call : any.Call Command) (r : Result Report Error) : Type 0 where
+  pub told : Tells call.before
+  pub tells : Tells call.after
+  pub closed : IfOk (result_of r) (λ report. IsClosed call.before call.after)
+  pub stays_open : IfErr (result_of r) (LeavesOpen call.before call.after)
+  pub link : Continues call.before call.after
+  pub cause : IfErr r (HasCause (in_words call))
+  pub limit : KeepsLimit (in_words call) (result_of r)
+  pub must_refuse : MustRefuse {R = said.Report} (in_words call) (result_of r)
+
+in_error : (call : Call) (r : Result Report Error) → IfErr r (HasCause call) → IfErr (result_of r) (HasCause call)
+in_error call (Ok report) h = tt
+in_error call (Err e) h = h
+
+-- the one follows from the other, and from what stands beside it
+both : (call : any.Call Command) (r : Result Report Error) → Beside call r → IfOk (table_result r) (IsEndedWell call) → IfOk (table_result r) (IsRun (meaning_of table) call.scripts call.turns) → SendsInOrder call (table_result r) →
+    NoneKeptBack (meaning_of table) call (table_result r) → Promises call r
+both call r beside ended run sent kept =
+    let must = must_all call r beside.told beside.tells beside.link sent (causes_apart call r beside.cause) in
+    let simply = sends_simply call r sent in
+    record {
+      session = record {
+        ended_well = ended_simply call r ended;
+        has_run = run_simply call r run;
+        closed = beside.closed;
+        stays_open = beside.stays_open;
+        link = beside.link;
+        cause = in_error (in_words call) r beside.cause;
+        limit = beside.limit;
+        sent = simply;
+        none_kept_back = kept_simply call r kept;
+        must_end_well = must_simply call r beside.link must sent;
+        must_refuse = beside.must_refuse;
+      };
+      by_table = record { ended_well = ended; has_run = run; sent = sent; none_kept_back = kept; must_end_well = must };
+    }
 
 -- ---- what was asked is refused
 
@@ -58,7 +109,7 @@ IsEarly (error.Tls c) = Unit {0}
 IsEarly error.OutOfMemory = Unit {0}
 IsEarly _ = ⊥
 
-early_kept : (call : Call) (e : Error) → call.after ≡ call.before → IsEarly e → NoneKeptBack call (Err e)
+early_kept : (call : any.Call Command) (e : Error) → call.after ≡ call.before → IsEarly e → NoneKeptBack {T = ending.Report Answer} (meaning_of table) call (Err e)
 early_kept call (error.Stalled a b) same early = absurd early
 early_kept call (error.Tls c) same early = λ steady. ap (λ (l : LinkView). l.lulls) same
 early_kept call _ same early = tt
@@ -66,23 +117,21 @@ early_kept call _ same early = tt
 -- it is answered over a link that is left alone, where it has its cause and all that must be refused is
 pub refuses : (config nonce : List ℕ) (scripts : List (List Command)) (turns : List ℕ) (limit : ℕ) (link : LinkView) (e : Error) → Tells link → IsEarly e →
     HasCause (call_of config nonce scripts turns limit link link) e → MustRefuse {R = said.Report} (call_of config nonce scripts turns limit link link) (Err e) →
-    SessionContract (call_of config nonce scripts turns limit link link) (Err e)
+    Promises (table_call config nonce scripts turns limit link link) (Err e)
 refuses config nonce scripts turns limit link e tells early has must =
-    let call = call_of config nonce scripts turns limit link link in
-    let sent : SendsInOrder call (Err e) = λ w. sent-untouched call w.0 w.1 refl in
-    record {
-      ended_well = tt;
-      has_run = tt;
+    let call = table_call config nonce scripts turns limit link link in
+    both call (Err e)
+    (record {
+      told = tells;
+      tells = tells;
       closed = tt;
       stays_open = inl refl;
       link = continues_same link;
       cause = has;
       limit = none_given link.given link.taken limit _;
-      sent = sent;
-      none_kept_back = early_kept call e refl early;
-      must_end_well = must_all call (Err e) tells tells (continues_same link) sent has;
       must_refuse = must;
-    }
+    })
+    tt tt (λ w. sent-untouched call w.0 w.1 refl) (early_kept call e refl early)
 
 -- ---- the connection string has a fault, or memory lacked for its settings
 
@@ -114,7 +163,7 @@ faulty config nonce scripts turns limit link c fault = record {
 
 -- by what reading the settings answered
 pub text_refused : (config nonce : List ℕ) (scripts : List (List Command)) (turns : List ℕ) (limit : ℕ) (link : LinkView) (said : Result Settled Cause) (e : Error) →
-    Tells link → ConnectionStringMeans config said → HasFault said e → SessionContract (call_of config nonce scripts turns limit link link) (Err e)
+    Tells link → ConnectionStringMeans config said → HasFault said e → Promises (table_call config nonce scripts turns limit link link) (Err e)
 text_refused config nonce scripts turns limit link said (error.ConfigParse c) tells means is =
     let fault : ConnectionStringMeans config (Err c) = subst (ConnectionStringMeans config) is means in
     refuses config nonce scripts turns limit link (error.ConfigParse c) tells tt fault (faulty config nonce scripts turns limit link c fault)
@@ -124,9 +173,9 @@ text_refused config nonce scripts turns limit link said _ tells means is = absur
 
 -- and where it was handed on
 pub text_fails : (config nonce : List ℕ) (scripts : List (List Command)) (turns : List ℕ) (limit : ℕ) (link : LinkView) (said : Result Settled Cause) (r : Result Report Error) (told e : Error) →
-    r ≡ Err told → told ≡ e → Tells link → ConnectionStringMeans config said → HasFault said e → SessionContract (call_of config nonce scripts turns limit link link) (result_of r)
+    r ≡ Err told → told ≡ e → Tells link → ConnectionStringMeans config said → HasFault said e → Promises (table_call config nonce scripts turns limit link link) r
 text_fails config nonce scripts turns limit link said r told e is same tells means fault =
-    subst (λ (x : Result Report Error). SessionContract (call_of config nonce scripts turns limit link link) (result_of x)) (sym (is ∙ ap (λ (x : Error). Err x) same))
+    subst (λ (x : Result Report Error). Promises (table_call config nonce scripts turns limit link link) x) (sym (is ∙ ap (λ (x : Error). Err x) same))
     (text_refused config nonce scripts turns limit link said e tells means fault)
 
 -- ---- the settings or the nonce are refused
@@ -144,7 +193,7 @@ user_of_said : (config : List ℕ) (s t : Settings) → Means config s → Means
 user_of_said config s t a b = ap (λ (x : Settings). x.user) (means_one config s t a b)
 
 pub start_refused : (config nonce : List ℕ) (scripts : List (List Command)) (turns : List ℕ) (limit : ℕ) (link : LinkView) (s : Settings) (c : Cause) →
-    Tells link → Means config s → MayStart s nonce (Err c) → SessionContract (call_of config nonce scripts turns limit link link) (Err (error.Config c))
+    Tells link → Means config s → MayStart s nonce (Err c) → Promises (table_call config nonce scripts turns limit link link) (Err (error.Config c))
 start_refused config nonce scripts turns limit link s cause.NoUser tells means none =
     refuses config nonce scripts turns limit link (error.Config cause.NoUser) tells tt (s, means, none) (record {
       text = λ d fault. absurd (no_fault config s d means fault);
@@ -182,7 +231,7 @@ starts config settings nonce scripts turns limit before after r means may direct
 -- the handshake fails at once
 pub shakes : (config : List ℕ) (settings : Settings) (nonce : List ℕ) (scripts : List (List Command)) (turns : List ℕ) (limit : ℕ) (link : LinkView) →
     Means config settings → MayStart settings nonce (Ok tt) → choice_of settings ≡ Shakes → Tells link →
-    SessionContract (call_of config nonce scripts turns limit link link) (Err (error.Tls cause.Handshake))
+    Promises (table_call config nonce scripts turns limit link link) (Err (error.Tls cause.Handshake))
 shakes config settings nonce scripts turns limit link means may choice tells =
     refuses config nonce scripts turns limit link (error.Tls cause.Handshake) tells tt
     (shakes_cause (call_of config nonce scripts turns limit link link) settings means (shakes_so settings choice) refl)
@@ -191,52 +240,39 @@ shakes config settings nonce scripts turns limit link means may choice tells =
 -- the server was asked
 asks-in : (config : List ℕ) (settings : Settings) (nonce : List ℕ) (scripts : List (List Command)) (turns : List ℕ) (limit : ℕ) (before after : LinkView) (e : Error) (s : SslRequest) →
     Means config settings → MayStart settings nonce (Ok tt) → MustAskForTls settings → Tells before → Tells after → s.bytes.max_bytes ≡ limit → AsksInVain before after s e →
-    SessionContract (call_of config nonce scripts turns limit before after) (Err e)
+    Promises (table_call config nonce scripts turns limit before after) (Err e)
 asks-in config settings nonce scripts turns limit before after e s means may must told tells is vain =
-    let call = call_of config nonce scripts turns limit before after in
-    let causes = vain_cause call settings s e means must is vain in
-    let sent : SendsInOrder call (Err e) = λ w. vain_sent call settings s e means must vain in
-    let link = vain_goes before after s e vain in
-    record {
-      ended_well = tt;
-      has_run = tt;
+    let call = table_call config nonce scripts turns limit before after in
+    let causes = vain_cause (in_words call) settings s e means must is vain in
+    both call (Err e)
+    (record {
+      told = told;
+      tells = tells;
       closed = tt;
       stays_open = vain_open before after s e vain;
-      link = link;
+      link = vain_goes before after s e vain;
       cause = causes;
-      limit = keeps_limit call (Err e) tt (vain_holds call s e is vain) causes;
-      sent = sent;
-      none_kept_back = vain_kept call settings s e means vain;
-      must_end_well = must_all call (Err e) told tells link sent causes;
+      limit = keeps_limit (in_words call) (Err e) tt (vain_holds (in_words call) s e is vain) causes;
       must_refuse = starts {R = said.Report} config settings nonce scripts turns limit before after (Err e) means may (λ direct. absurd (let no : Direct ≡ Postgres = sym direct.1 ∙ must.1 in cc));
-    }
+    })
+    tt tt (λ w. vain_sent call settings s e means must vain) (vain_kept call settings s e means vain)
 
 lacks-in : (config : List ℕ) (nonce : List ℕ) (scripts : List (List Command)) (turns : List ℕ) (limit : ℕ) (before after : LinkView) (e : Error) → e ≡ error.OutOfMemory → after ≡ before → Tells before →
-    SessionContract (call_of config nonce scripts turns limit before after) (Err e)
+    Promises (table_call config nonce scripts turns limit before after) (Err e)
 lacks-in config nonce scripts turns limit before after e memory same tells =
-    subst (λ (x : LinkView). SessionContract (call_of config nonce scripts turns limit before x) (Err e)) (sym same)
-    (subst (λ (x : Error). SessionContract (call_of config nonce scripts turns limit before before) (Err x)) (sym memory)
+    subst (λ (x : LinkView). Promises (table_call config nonce scripts turns limit before x) (Err e)) (sym same)
+    (subst (λ (x : Error). Promises (table_call config nonce scripts turns limit before before) (Err x)) (sym memory)
     (refuses config nonce scripts turns limit before error.OutOfMemory tells tt tt (lacks config nonce scripts turns limit before)))
 
 pub asks : (config : List ℕ) (settings : Settings) (nonce : List ℕ) (scripts : List (List Command)) (turns : List ℕ) (limit : ℕ) (before after : LinkView) (e : Error) →
     Means config settings → MayStart settings nonce (Ok tt) → choice_of settings ≡ Asks → Tells before → Tells after → AsksWithin limit before after e →
-    SessionContract (call_of config nonce scripts turns limit before after) (Err e)
+    Promises (table_call config nonce scripts turns limit before after) (Err e)
 asks config settings nonce scripts turns limit before after e means may choice told tells (inl short) =
     lacks-in config nonce scripts turns limit before after e short.0 short.1 told
 asks config settings nonce scripts turns limit before after e means may choice told tells (inr w) =
     asks-in config settings nonce scripts turns limit before after e w.0 means may (asks_so settings choice) told tells w.1 w.2
 
 -- ---- it was played
-
--- what holds of a report that was answered, in the words of reports
-of_answer : (r : Result Report Error) (P : said.Report → Type 0) → IfOk r (λ report. P (report_of report)) → IfOk (result_of r) P
-of_answer (Ok report) P h = h
-of_answer (Err e) P h = tt
-
--- and of an error
-of_error : (call : Call) (r : Result Report Error) → IfErr r (λ e. HasCause call e) → IfErr (result_of r) (HasCause call)
-of_error call (Ok report) h = tt
-of_error call (Err e) h = h
 
 -- what a report that was answered says of the link
 closed_so : (r : Result Report Error) (P : Report → Type 0) (Q : Type 0) → ((report : Report) → P report → Q) → IfOk r P → IfOk (result_of r) (λ report. Q)
@@ -246,22 +282,20 @@ closed_so (Err e) P Q f h = tt
 pub plays : (config : List ℕ) (settings : Settings) (nonce : List ℕ) (scripts : List (List Command)) (turns : List ℕ) (limit : ℕ) (before after : LinkView) (r : Result Report Error) →
     Means config settings → MayStart settings nonce (Ok tt) → NeedsNoTls settings → Tells before → Tells after → Continues before after →
     IfErr r (SessionFails settings nonce scripts limit before after) → IfOk r (PlaysWithin settings nonce scripts turns limit before after) → OnOk r (StaysCalm before after) →
-    SessionContract (call_of config nonce scripts turns limit before after) (result_of r)
+    Promises (table_call config nonce scripts turns limit before after) r
 plays config settings nonce scripts turns limit before after r means may plain told tells link fails played calm =
-    let call = call_of config nonce scripts turns limit before after in
-    let causes = caused config settings nonce scripts turns limit before after r means plain fails in
-    let sent = sends_all config settings nonce scripts turns limit before after r means plain fails in
-    record {
-      ended_well = of_answer r (IsEndedWell call) (ended_well config settings nonce scripts turns limit before after r means played);
-      has_run = of_answer r (IsRun call) (has_run config settings nonce scripts turns limit before after r played);
-      closed = closed_so r (PlaysWithin settings nonce scripts turns limit before after) (IsClosed before after) (λ report h. is-closed settings nonce scripts turns before after report h.0) played;
+    let call = table_call config nonce scripts turns limit before after in
+    let causes = caused (in_words call) settings scripts r means plain fails in
+    both call r
+    (record {
+      told = told;
+      tells = tells;
+      closed = closed_so r (PlaysWithin settings nonce scripts turns limit before after) (IsClosed before after) (λ report h. is-closed settings nonce scripts turns before after (told_in report) h.0) played;
       stays_open = leaves_all settings nonce scripts limit before after r fails;
       link = link;
-      cause = of_error call r causes;
-      limit = keeps_limit call r (ended_within settings nonce scripts turns limit before after r played)
-          (holds_all config settings nonce scripts turns limit before after r means fails) causes;
-      sent = sent;
-      none_kept_back = asks_all config settings nonce scripts turns limit before after r means plain calm causes fails;
-      must_end_well = must_all call r told tells link sent causes;
+      cause = causes;
+      limit = keeps_limit (in_words call) r (ended_within settings nonce scripts turns limit before after r played) (holds_all (in_words call) settings scripts r means fails) causes;
       must_refuse = starts {R = said.Report} config settings nonce scripts turns limit before after (result_of r) means may (λ direct. absurd (plain direct.0));
-    }
+    })
+    (ended_well call settings r means played) (has_run call settings r played) (sends_all call settings r means plain fails)
+    (asks_all call settings r means plain calm (causes_apart call r causes) fails)

@@ -2,14 +2,18 @@
 use Rattle.std.proofs.Common.{◌≡◌, ◌≢◌, ◌==◌, ◌<◌, ◌≤◌, ℕ, Bool, true, false, if◌then◌else◌, List, [], ◌∷◌, ◌++◌, length, Result, Ok, Err, inl, inr, append-nil, refl, sym, ap, subst, ◌∙◌, arith}
 use Rattle.std.specs.Prelude.{IsTrue}
 use Rattle.std.specs.Str.{byte}
-use Rattle.std.proofs.lemmas.List.Elements.{All-nil}
+use Rattle.pg_headline.specs.Endings as ending
+use Rattle.pg_text.specs.declared.command.Answer.{Answer}
 use Rattle.pg_config.specs.Views.{settings_of, ssl_mode, ssl_negotiation}
 use Rattle.pg_config.specs.declared.config.Config.{Config}
 use Rattle.pg_config.specs.declared.modes.SslMode.{SslMode}
 use Rattle.pg_config.specs.declared.modes.SslNegotiation.{SslNegotiation}
-use Rattle.pg_promises.specs.Causes.{Call, HasCause, IsAwaited, IsOfTls, IsStalled, MustAskForTls, NeedsNoTls, NoTlsFor, OfDialogue}
+use Rattle.pg_failed.specs.Calls as any
+use Rattle.pg_failed.specs.Kept.{NoneKeptBack}
+use Rattle.pg_failed.specs.Sent.{SentInOrder}
+use Rattle.pg_promises.specs.Causes.{Call, HasCause, IsAwaited, IsOfTls, IsStalled, MustAskForTls, NeedsNoTls, NoTlsFor}
 use Rattle.pg_promises.specs.ConnectionStrings.{Means}
-use Rattle.pg_promises.specs.Promises.{IsFront, NoneKeptBack, SentInOrder}
+use Rattle.pg_promises.specs.Promises.{IsFront}
 use Rattle.pg_spec.specs.Faults.{Cause, FrameFault, Handshake, Refused}
 use Rattle.pg_spec.specs.Frames.{ssl_request, startup_frame}
 use Rattle.pg_spec.specs.Links.{LinkView, Grew, OfBytes, Rose, next_count}
@@ -32,8 +36,11 @@ use Rattle.pg_session.specs.Failures.{PauseFails}
 use Rattle.pg_session.specs.WholeSession.{LeavesOpen}
 use Rattle.pg_session.proofs.Caused.Start.{of_grown}
 use Rattle.pg_session.proofs.LimitsKept.{HoldsLimit}
-use Rattle.pg_session.proofs.SentSoFar.{none-order}
 use Rattle.pg_session.proofs.Stalled.Start.{exact-so, last-so, lulls-so, rests-so}
+use Rattle.pg_text.specs.declared.command.Command.{Command}
+use Rattle.pg_turns.specs.Speeches.{meaning_of}
+use Rattle.pg_table.specs.Table.{table}
+use Rattle.pg_tool.proofs.AtTable.{IsInOrder, none-in-order}
 use Rattle.pg_tool.specs.Required.{AskEnds, AsksInVain, StopsAsking, choice_behind, choice_of, tls_error}
 use Rattle.pg_tool.proofs.Following.{continues_grown, continues_still, continues_then}
 
@@ -254,14 +261,13 @@ vain_holds call s e limit (inr ends) = holds-ends call s e limit ends
 
 -- ---- what was sent
 
-pub vain_sent : (call : Call) (settings : Settings) (s : SslRequest) (e : Error) → Means call.config settings → MustAskForTls settings → AsksInVain call.before call.after s e →
-    OfDialogue call (λ s g t. SentInOrder call s g t)
+pub vain_sent : (call : any.Call Command) (settings : Settings) (s : SslRequest) (e : Error) → Means call.config settings → MustAskForTls settings → AsksInVain call.before call.after s e → IsInOrder call
 vain_sent call settings s e means must h =
     let ended = vain-ended call.before call.after s e h in (
       settings,
       means,
-      grown call ended.got ended.sent (λ g t. SentInOrder call settings g t) ended.given ended.taken
-          (record { book = []; owners = All-nil (λ b. b.stamp.owner < length call.scripts); order = none-order call.scripts; front = inr (inl (must, ended.front, ended.one)) }),
+      grown (any.apart call) ended.got ended.sent (λ g t. SentInOrder (meaning_of table) call settings g t) ended.given ended.taken
+          (record { book = []; asked = []; order = none-in-order call settings ended.got; front = inr (inl (must, ended.front, ended.one)) }),
     )
 
 pub vain_open : (begin now : LinkView) (s : SslRequest) (e : Error) → AsksInVain begin now s e → LeavesOpen begin now e
@@ -284,11 +290,16 @@ not-stalled Raw a b is = absurd cc
 not-stalled Shakes a b is = absurd cc
 not-stalled Asks a b is = absurd cc
 
-pub vain_kept : (call : Call) (settings : Settings) (s : SslRequest) (e : Error) → Means call.config settings → AsksInVain call.before call.after s e → NoneKeptBack call (Err e)
+pub vain_kept : (call : any.Call Command) (settings : Settings) (s : SslRequest) (e : Error) → Means call.config settings → AsksInVain call.before call.after s e →
+    NoneKeptBack {T = ending.Report Answer} (meaning_of table) call (Err e)
 vain_kept call settings s (error.Stalled a b) means (inl h) = absurd (not-stalled (choice_behind h.0) a b h.3)
-vain_kept call settings s (error.Stalled a b) means (inr h) = λ steady plain.
-    let grew = stopped-grew call.before call.after s a b h in
-    (settings, means, grown call [] h.asking.sent _ grew.0 grew.1 (λ started. absurd (not-done (startup_frame (startup_parameters settings)) started.0 (dialogue (plain_login settings call.nonce) First (messages [])) refl started.1)))
+vain_kept call settings s (error.Stalled a b) means (inr h) = λ steady all.
+    let grew = stopped-grew call.before call.after s a b h in (
+      settings,
+      means,
+      grown (any.apart call) [] h.asking.sent _ grew.0 grew.1
+          (λ started. absurd (not-done (startup_frame (startup_parameters settings)) started.0 (dialogue (plain_login settings call.nonce) First (messages [])) refl started.1)),
+    )
 vain_kept call settings s (error.Tls c) means (inl h) = h.2.no_lull
 vain_kept call settings s (error.Tls c) means (inr h) = absurd h.fails
 vain_kept call settings s _ means h = tt

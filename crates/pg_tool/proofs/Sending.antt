@@ -1,83 +1,100 @@
 -- What was sent where a session failed, and how the link stands then.
-use Rattle.std.proofs.Common.{◌≡◌, ℕ, List, IfErr, Result, Ok, Err, inl, inr, refl, ap, ◌∙◌}
+use Rattle.std.proofs.Common.{◌≡◌, ℕ, List, IfErr, Result, Ok, Err, inl, inr, ap, ◌∙◌}
 use Rattle.std.specs.Prelude.{OnOk}
-use Rattle.pg_promises.specs.Causes.{Call, HasCause, NeedsNoTls, OfDialogue}
+use Rattle.pg_headline.specs.Endings as ending
+use Rattle.pg_text.specs.declared.command.Answer.{Answer}
+use Rattle.pg_spec.specs.Report as said
+use Rattle.pg_failed.specs.Calls.{Call, apart}
+use Rattle.pg_failed.specs.Kept as any
+use Rattle.pg_failed.specs.Sent as orders
+use Rattle.pg_promises.specs.Causes.{HasCause, NeedsNoTls}
 use Rattle.pg_promises.specs.ConnectionStrings.{Means}
 use Rattle.pg_promises.proofs.Strings.{means_one}
+use Rattle.pg_promises.specs.Promises.{NoneKeptBack, SentInOrder}
 use Rattle.pg_spec.specs.Faults.{Cause}
 use Rattle.pg_spec.specs.Settings.{Settings}
 use Rattle.pg_spec.specs.Links.{LinkView}
-use Rattle.pg_promises.specs.Promises.{NoneKeptBack, SentInOrder}
 use Rattle.pg_connect.specs.Calm.{StaysCalm}
 use Rattle.pg_startup.specs.declared.startup.Startup.{Startup}
 use Rattle.pg_faults.specs.declared.error.Error.{Error}
 use Rattle.pg_faults.specs.declared.error.Error.TheVariants as error
-use Rattle.pg_session.proofs.Caused.{broken-kept, broken-sent}
-use Rattle.pg_session.proofs.Closing.{broken-open, over-closed}
-use Rattle.pg_session.proofs.SentSoFar.NoneKept.{stopped-kept}
-use Rattle.pg_session.proofs.SentSoFar.{sent-failed, sent-opened, sent-over, sent-stopped, sent-untouched}
 use Rattle.pg_session.proofs.Stalled.Start.{rests-so}
 use Rattle.pg_session.specs.WholeSession.{LeavesOpen}
 use Rattle.pg_text.specs.declared.command.Command.{Command}
 use Rattle.pg_text.specs.declared.report.Report.{Report}
-use Rattle.pg_tool.specs.Asked.{call_of}
+use Rattle.pg_turns.specs.Speeches.{meaning_of}
+use Rattle.pg_table.specs.Headlines.{in_words}
+use Rattle.pg_table.specs.Table.{table}
+use Rattle.pg_table.proofs.Headlines.{kept-as-before, sent-as-before}
 use Rattle.pg_tool.specs.Fails.{SessionFails}
 use Rattle.pg_tool.specs.Openings.{OpenEnds}
 use Rattle.pg_tool.specs.SessionContract.{SendsInOrder, result_of}
+use Rattle.pg_tool.specs.TableContract as by_table
+use Rattle.pg_tool.specs.TableContract.{table_result}
+use Rattle.pg_tool.proofs.AtTable.{IsInOrder, broken-kept, broken-open, broken-sent, over-closed, sent-failed, sent-opened, sent-over, sent-stopped, sent-untouched, stopped-kept}
+use Rattle.pg_tool.proofs.Limiting.{map_bytes}
 
--- what was sent is in order
-abbrev IsInOrder : Call → Type 0
-IsInOrder call = OfDialogue call (λ s g t. SentInOrder call s g t)
-
-sent_then : (call : Call) (e : Error) → IsInOrder call → SendsInOrder call (Err e)
-sent_then call e sent = λ w. sent
-
-start_sent : (call : Call) (settings : Settings) (s : Startup) (e : Error) → Means call.config settings → NeedsNoTls settings → OpenEnds settings call.nonce call.before call.after s (Err e) → IsInOrder call
+start_sent : (call : Call Command) (settings : Settings) (s : Startup) (e : Error) → Means call.config settings → NeedsNoTls settings → OpenEnds settings call.nonce call.before call.after s (Err e) → IsInOrder call
 start_sent call settings s (error.Stalled a b) means plain ends = sent-stopped call settings s a b means ends
 start_sent call settings s _ means plain ends = sent-failed call settings s _ means plain ends
 
-sent_by : (config : List ℕ) (settings : Settings) (nonce : List ℕ) (scripts : List (List Command)) (turns : List ℕ) (limit : ℕ) (before after : LinkView) (e : Error) → Means config settings → NeedsNoTls settings →
-    SessionFails settings nonce scripts limit before after e → IsInOrder (call_of config nonce scripts turns limit before after)
-sent_by config settings nonce scripts turns limit before after e means plain (inl lacks) = elim lacks.crossed [
-  | inl opened ↦ sent-opened (call_of config nonce scripts turns limit before after) settings means opened
-  | inr over ↦ sent-over (call_of config nonce scripts turns limit before after) settings scripts means refl over
+sent_by : (call : Call Command) (settings : Settings) (e : Error) → Means call.config settings → NeedsNoTls settings →
+    SessionFails settings call.nonce call.scripts call.limit call.before call.after e → IsInOrder call
+sent_by call settings e means plain (inl lacks) = elim lacks.crossed [
+  | inl opened ↦ sent-opened call settings means opened
+  | inr over ↦ sent-over call settings means over
 ]
-sent_by config settings nonce scripts turns limit before after e means plain (inr (inl made)) = sent-untouched (call_of config nonce scripts turns limit before after) settings means made.1
-sent_by config settings nonce scripts turns limit before after e means plain (inr (inr (inl start))) =
-    start_sent (call_of config nonce scripts turns limit before after) settings start.startup e means plain start.ends
-sent_by config settings nonce scripts turns limit before after e means plain (inr (inr (inr later))) =
-    broken-sent (call_of config nonce scripts turns limit before after) settings scripts e means later.broken later.limited refl
+sent_by call settings e means plain (inr (inl made)) = sent-untouched call settings means made.1
+sent_by call settings e means plain (inr (inr (inl start))) = start_sent call settings start.startup e means plain start.ends
+sent_by call settings e means plain (inr (inr (inr later))) = broken-sent call settings e means later.broken later.limited
 
 -- by what a session answered
-pub sends_all : (config : List ℕ) (settings : Settings) (nonce : List ℕ) (scripts : List (List Command)) (turns : List ℕ) (limit : ℕ) (before after : LinkView) (r : Result Report Error) → Means config settings → NeedsNoTls settings →
-    IfErr r (SessionFails settings nonce scripts limit before after) → SendsInOrder (call_of config nonce scripts turns limit before after) (result_of r)
-sends_all config settings nonce scripts turns limit before after (Ok report) means plain fails = tt
-sends_all config settings nonce scripts turns limit before after (Err e) means plain fails =
-    sent_then (call_of config nonce scripts turns limit before after) e (sent_by config settings nonce scripts turns limit before after e means plain fails)
+pub sends_all : (call : Call Command) (settings : Settings) (r : Result Report Error) → Means call.config settings → NeedsNoTls settings →
+    IfErr r (SessionFails settings call.nonce call.scripts call.limit call.before call.after) → by_table.SendsInOrder call (table_result r)
+sends_all call settings (Ok report) means plain fails = tt
+sends_all call settings (Err e) means plain fails = λ w. sent_by call settings e means plain fails
+
+-- and so in the words of simple queries
+pub sends_simply : (call : Call Command) (r : Result Report Error) → by_table.SendsInOrder call (table_result r) → SendsInOrder (in_words call) (result_of r)
+sends_simply call (Ok report) sends = tt
+sends_simply call (Err e) sends = λ w.
+    let d = sends w in (
+      d.0,
+      d.1,
+      map_bytes call.before call.after (λ g t. orders.SentInOrder (meaning_of table) call d.0 g t) (λ g t. SentInOrder (in_words call) d.0 g t)
+          (λ g t sent. sent-as-before call d.0 g t sent) d.2,
+    )
 
 -- ---- where it ended well or stalled
 
 -- settings that need no TLS give no error of it
-not_tls : (call : Call) (settings : Settings) (c : Cause) → Means call.config settings → NeedsNoTls settings → HasCause call (error.Tls c) → ⊥
+not_tls : (call : Call Command) (settings : Settings) (c : Cause) → Means call.config settings → NeedsNoTls settings → HasCause (apart call) (error.Tls c) → ⊥
 not_tls call settings c means plain h = plain (ap (λ (x : Settings). x.ssl_mode) (means_one call.config settings h.1.0 means h.1.1) ∙ h.1.2.0)
 
-asks_by : (config : List ℕ) (settings : Settings) (nonce : List ℕ) (scripts : List (List Command)) (turns : List ℕ) (limit : ℕ) (before after : LinkView) (e : Error) → Means config settings → NeedsNoTls settings →
-    HasCause (call_of config nonce scripts turns limit before after) e → SessionFails settings nonce scripts limit before after e → NoneKeptBack (call_of config nonce scripts turns limit before after) (Err e)
-asks_by config settings nonce scripts turns limit before after (error.Stalled a b) means plain has (inl lacks) = absurd (let no : error.Stalled a b ≡ error.OutOfMemory = lacks.memory in cc)
-asks_by config settings nonce scripts turns limit before after (error.Stalled a b) means plain has (inr (inl made)) = absurd made.0
-asks_by config settings nonce scripts turns limit before after (error.Stalled a b) means plain has (inr (inr (inl start))) =
-    stopped-kept (call_of config nonce scripts turns limit before after) settings start.startup a b means start.ends
-asks_by config settings nonce scripts turns limit before after (error.Stalled a b) means plain has (inr (inr (inr later))) =
-    broken-kept (call_of config nonce scripts turns limit before after) settings scripts (error.Stalled a b) means later.broken later.limited a b refl refl
-asks_by config settings nonce scripts turns limit before after (error.Tls c) means plain has fails =
-    absurd (not_tls (call_of config nonce scripts turns limit before after) settings c means plain has)
-asks_by config settings nonce scripts turns limit before after _ means plain has fails = tt
+asks_by : (call : Call Command) (settings : Settings) (e : Error) → Means call.config settings → NeedsNoTls settings → HasCause (apart call) e →
+    SessionFails settings call.nonce call.scripts call.limit call.before call.after e → any.NoneKeptBack {T = ending.Report Answer} (meaning_of table) call (Err e)
+asks_by call settings (error.Stalled a b) means plain has (inl lacks) = absurd (let no : error.Stalled a b ≡ error.OutOfMemory = lacks.memory in cc)
+asks_by call settings (error.Stalled a b) means plain has (inr (inl made)) = absurd made.0
+asks_by call settings (error.Stalled a b) means plain has (inr (inr (inl start))) = stopped-kept call settings start.startup a b means start.ends
+asks_by call settings (error.Stalled a b) means plain has (inr (inr (inr later))) = broken-kept call settings a b means later.broken later.limited
+asks_by call settings (error.Tls c) means plain has fails = absurd (not_tls call settings c means plain has)
+asks_by call settings _ means plain has fails = tt
 
-pub asks_all : (config : List ℕ) (settings : Settings) (nonce : List ℕ) (scripts : List (List Command)) (turns : List ℕ) (limit : ℕ) (before after : LinkView) (r : Result Report Error) → Means config settings → NeedsNoTls settings →
-    OnOk r (StaysCalm before after) → IfErr r (λ e. HasCause (call_of config nonce scripts turns limit before after) e) → IfErr r (SessionFails settings nonce scripts limit before after) →
-    NoneKeptBack (call_of config nonce scripts turns limit before after) (result_of r)
-asks_all config settings nonce scripts turns limit before after (Ok report) means plain calm has fails = calm.no_lull
-asks_all config settings nonce scripts turns limit before after (Err e) means plain calm has fails = asks_by config settings nonce scripts turns limit before after e means plain has fails
+pub asks_all : (call : Call Command) (settings : Settings) (r : Result Report Error) → Means call.config settings → NeedsNoTls settings → OnOk r (StaysCalm call.before call.after) →
+    IfErr r (HasCause (apart call)) → IfErr r (SessionFails settings call.nonce call.scripts call.limit call.before call.after) → any.NoneKeptBack (meaning_of table) call (table_result r)
+asks_all call settings (Ok report) means plain calm has fails = calm.no_lull
+asks_all call settings (Err e) means plain calm has fails = asks_by call settings e means plain has fails
+
+-- the same of the answer in other words
+kept_told : (call : Call Command) (e : Error) → any.NoneKeptBack {T = ending.Report Answer} (meaning_of table) call (Err e) → any.NoneKeptBack {T = said.Report} (meaning_of table) call (Err e)
+kept_told call (error.Stalled a b) h = h
+kept_told call (error.Tls c) h = h
+kept_told call _ h = tt
+
+-- and so in the words of simple queries
+pub kept_simply : (call : Call Command) (r : Result Report Error) → any.NoneKeptBack (meaning_of table) call (table_result r) → NoneKeptBack (in_words call) (result_of r)
+kept_simply call (Ok report) kept = kept-as-before call (result_of (Ok report)) kept
+kept_simply call (Err e) kept = kept-as-before call (result_of (Err e)) (kept_told call e kept)
 
 -- ---- the writing side
 

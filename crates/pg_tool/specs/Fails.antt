@@ -9,7 +9,9 @@ use Rattle.pg_faults.specs.declared.error.Error.TheVariants.{OutOfMemory}
 use Rattle.pg_session.specs.Failures.{HasBroken, WasOpened, WasOver}
 use Rattle.pg_text.specs.declared.command.Command.{Command}
 use Rattle.pg_text.specs.declared.report.Report.{Report}
-use Rattle.pg_session.specs.Sessions.{HasPlayed}
+use Rattle.pg_turns.specs.Sessions.{HasPlayed}
+use Rattle.pg_table.specs.Headlines.{told_in}
+use Rattle.pg_table.specs.Table.{table}
 use Rattle.pg_tool.specs.Openings.{OpenEnds}
 
 -- its startup failed, over a link that may give so many bytes
@@ -20,13 +22,13 @@ pub record StartFails (settings : Settings) (nonce : List ℕ) (limit : ℕ) (be
 
 -- or it was opened, and failed later
 pub record BreaksLater (settings : Settings) (nonce : List ℕ) (scripts : List (List Command)) (limit : ℕ) (before after : LinkView) (e : Error) : Type 0 where
-  pub broken : HasBroken settings nonce scripts before after e
+  pub broken : HasBroken table settings nonce scripts before after e
   pub limited : broken.startup.bytes.max_bytes ≡ limit
 
 -- or memory lacked between its startup and its first turn, or behind its last
 pub record LacksAround (settings : Settings) (nonce : List ℕ) (scripts : List (List Command)) (before after : LinkView) (e : Error) : Type 0 where
   pub memory : e ≡ OutOfMemory
-  pub crossed : WasOpened settings nonce before after ⊎ WasOver settings nonce scripts before after
+  pub crossed : WasOpened settings nonce before after ⊎ WasOver table settings nonce scripts before after
 
 -- one of these, or the startup's frame can't be made
 abbrev pub SessionFails : (settings : Settings) (nonce : List ℕ) (scripts : List (List Command)) (limit : ℕ) (before after : LinkView) → Error → Type 0
@@ -35,4 +37,4 @@ SessionFails settings nonce scripts limit before after e =
 
 -- it was opened under this limit, and ended well
 abbrev pub PlaysWithin : (settings : Settings) (nonce : List ℕ) (scripts : List (List Command)) (given : List ℕ) (limit : ℕ) (before after : LinkView) → Report → Type 0
-PlaysWithin settings nonce scripts given limit before after report = (p : HasPlayed settings nonce scripts given before after report) × (p.startup.bytes.max_bytes ≡ limit)
+PlaysWithin settings nonce scripts given limit before after report = (p : HasPlayed table settings nonce scripts given before after (told_in report)) × (p.startup.bytes.max_bytes ≡ limit)

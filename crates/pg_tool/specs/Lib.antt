@@ -2,10 +2,12 @@ pub mod Asked
 pub mod Reading
 pub mod Writing
 pub mod Openings
+pub mod Parameters
 pub mod Plays
 pub mod Handles
 pub mod Words
 pub mod RunContract
 pub mod Fails
 pub mod SessionContract
+pub mod TableContract
 pub mod Required

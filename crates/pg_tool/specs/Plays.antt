@@ -11,14 +11,14 @@ use Rattle.pg_hub.specs.Fits.{HubBecomes}
 use Rattle.futures.specs.declared.task.Poll.{Poll}
 use Rattle.pg_errors.specs.declared.async_message.AsyncMessage.{AsyncMessage}
 use Rattle.pg_session.specs.Failures.{BreaksOff, RunsShort}
-use Rattle.pg_session.specs.Sessions.{EndsWith, MakesAll, StaysAll, numbers, rounds}
-use Rattle.pg_session.specs.Measure.{IsNearer, IsUnderWay, left_to_do}
-use Rattle.pg_session.specs.States.{SessionState}
-use Rattle.pg_session.specs.Turns.{HandleMade, HandsOn, moved_by, moved_in_poll}
-use Rattle.pg_session.specs.declared.handle_turn.Polling.{Polling}
+use Rattle.pg_turns.specs.Sessions.{EndsWith, MakesAll, StaysAll, numbers, rounds}
+use Rattle.pg_session.specs.Measure.{IsNearer, IsUnderWay, Left, left_to_do}
+use Rattle.pg_table.specs.Table.{TableSession, table}
+use Rattle.pg_turns.specs.Turns.{HandleMade, HandsOn, moved_by, moved_in_poll}
+use Rattle.pg_turns.specs.declared.handle_turn.Polling.{Polling}
 use Rattle.pg_text.specs.declared.command.Command.{Command}
 use Rattle.pg_tool.specs.declared.play.Play.{Play}
-use Rattle.pg_tool.specs.Handles.{IsLiveHandle, view_of}
+use Rattle.pg_tool.specs.Handles.{AreOnScripts, IsLiveHandle, view_of}
 
 -- The session can go on: the link has given no more bytes than it may, unless the connection ended, each
 -- script has its handle, and no handle holds a command that answered.
@@ -29,7 +29,7 @@ pub record IsReady (scripts : List (List Command)) (p : Play) : Type 0 where
   pub live : All IsLiveHandle p.handles.items
 
 -- what a session stands for
-abbrev pub state_of : Play → SessionState
+abbrev pub state_of : Play → TableSession
 state_of p = record {
   hub = p.hub;
   streams = p.streams;
@@ -39,19 +39,29 @@ state_of p = record {
   asynchronous = p.asynchronous.items;
 }
 
--- A session in which the connection isn't over: its hub stands for what was done to it, each command that runs has
--- booked its request, and the link gave no more bytes than it may.
-pub record IsGoing (p : Play) : Type 0 where
+-- A session in which the connection isn't over: its hub stands for what was done to it, each command that runs waits for a
+-- message and is one of its script, and the link gave no more bytes than it may.
+pub record IsGoing (scripts : List (List Command)) (p : Play) : Type 0 where
   pub under_way : IsUnderWay (state_of p)
+  pub on_scripts : AreOnScripts scripts (state_of p).handles
   pub within : p.streams.given ≤ p.streams.max_bytes
 
 -- the link gave no more bytes than it may, and the limit is as before
 abbrev pub IsLimited : (old new : Play) → Type 0
 IsLimited old new = (new.streams.given ≤ new.streams.max_bytes) × (new.streams.max_bytes ≡ old.streams.max_bytes)
 
+-- what commands still do and what is still to be sent is below 2^128
+pub record IsShort (x : Left) : Type 0 where
+  pub commands : x.commands < 2 ^ 128
+  pub unsent : x.unsent < 2 ^ 128
+
+-- What is left to do as one number: where it is short then, the number falls where the first that changes does.
+abbrev pub as_number : Left → ℕ
+as_number x = (x.unread * 2 ^ 128 + x.commands) * 2 ^ 128 + x.unsent
+
 -- what is left to do, and whether a pause may come yet: the number falls with each round that ends nothing
 abbrev pub rounds_left : List (List Command) → (waited : Bool) → Play → ℕ
-rounds_left scripts waited p = 2 * left_to_do scripts (state_of p) + (if waited then 0 else 1)
+rounds_left scripts waited p = 2 * as_number (left_to_do scripts (state_of p)) + (if waited then 0 else 1)
 
 -- an error of a session behind its startup: none that speaks of what was asked for
 abbrev pub IsLater : Error → Type 0
@@ -64,13 +74,13 @@ is_over None = true
 is_over (Some moved) = false
 
 -- a handle made its turn, and says whether that moved anything
-pub record HandlePolled (scripts : List (List Command)) (turn : ℕ) (s t : SessionState) (moved : Option Bool) : Type 0 where
+pub record HandlePolled (scripts : List (List Command)) (turn : ℕ) (s t : TableSession) (moved : Option Bool) : Type 0 where
   pub did : Polling
-  pub made : HandleMade scripts turn s t did
+  pub made : HandleMade table scripts turn s t did
   pub says : moved ≡ Some (moved_by did made.hub)
 
 -- the connection was polled, and says whether that moved anything; the turn isn't noted yet
-pub record ConnectionPolled (s t : SessionState) (before after : LinkView) (moved : Option Bool) : Type 0 where
+pub record ConnectionPolled (s t : TableSession) (before after : LinkView) (moved : Option Bool) : Type 0 where
   pub answer : Poll (Option (Result AsyncMessage Error))
   pub polled : PollAnswers HubBecomes s.hub t.hub s.streams t.streams before after answer
   pub misses : MissesFew before after
@@ -82,24 +92,24 @@ pub record ConnectionPolled (s t : SessionState) (before after : LinkView) (move
   pub trace : t.trace ≡ s.trace
 
 -- a round was made whole, and where it says so nothing moved in it
-pub record RoundWhole (scripts : List (List Command)) (s : SessionState) (l : LinkView) (t : SessionState) (m : LinkView) (moved : Bool) : Type 0 where
-  pub made : MakesAll scripts (numbers (length scripts + 1)) s l t m
-  pub stays : moved ≡ false → StaysAll scripts (numbers (length scripts + 1)) s l t m
+pub record RoundWhole (scripts : List (List Command)) (s : TableSession) (l : LinkView) (t : TableSession) (m : LinkView) (moved : Bool) : Type 0 where
+  pub made : MakesAll table scripts (numbers (length scripts + 1)) s l t m
+  pub stays : moved ≡ false → StaysAll table scripts (numbers (length scripts + 1)) s l t m
 
 -- a round was made whole, or the connection was shut down in it
-abbrev pub RoundMade : (scripts : List (List Command)) (s : SessionState) (l : LinkView) (t : SessionState) (m : LinkView) → Option Bool → Type 0
+abbrev pub RoundMade : (scripts : List (List Command)) (s : TableSession) (l : LinkView) (t : TableSession) (m : LinkView) → Option Bool → Type 0
 RoundMade scripts s l t m (Some moved) = RoundWhole scripts s l t m moved
-RoundMade scripts s l t m None = (last : ℕ) × (last ≤ length scripts) × EndsWith scripts (numbers last) last s l t m
+RoundMade scripts s l t m None = (last : ℕ) × (last ≤ length scripts) × EndsWith table scripts (numbers last) last s l t m
 
 -- some turns of a round were made, and the next one failed, or memory ran out
-abbrev pub RoundFails : List (List Command) → SessionState → (before after : LinkView) → Error → Type 0
-RoundFails scripts s l m e = RunsShort scripts s l m e ⊎ BreaksOff scripts s l m e
+abbrev pub RoundFails : List (List Command) → TableSession → (before after : LinkView) → Error → Type 0
+RoundFails scripts s l m e = RunsShort table scripts s l m e ⊎ BreaksOff table scripts s l m e
 
 -- what a turn or a round leaves, where it doesn't fail
 pub record Leaves (scripts : List (List Command)) (old new : Play) (moved : Option Bool) : Type 0 where
   pub limited : IsLimited old new
   -- while the connection is open the session can go on, and less is left to do where something moved
-  pub going : IfSome moved (λ m. IsGoing new)
+  pub going : IfSome moved (λ m. IsGoing scripts new)
   pub nearer : IfSome moved (λ m. IsNearer scripts m (state_of old) (state_of new))
 
 -- What holds behind turns and rounds, whatever they answer: the link goes on from where it stood, an error doesn't
@@ -110,13 +120,13 @@ pub record Crosses {A : Type 0} (before after : LinkView) (result : Result A Err
   pub calm : OnOk result (StaysCalm before after)
 
 -- whole rounds were made
-pub record RoundsMade (scripts : List (List Command)) (s : SessionState) (l : LinkView) (t : SessionState) (m : LinkView) : Type 0 where
+pub record RoundsMade (scripts : List (List Command)) (s : TableSession) (l : LinkView) (t : TableSession) (m : LinkView) : Type 0 where
   pub count : ℕ
-  pub made : MakesAll scripts (rounds (length scripts) count) s l t m
+  pub made : MakesAll table scripts (rounds (length scripts) count) s l t m
 
 -- whole rounds were made, and a front of one more, in which the connection was shut down
-pub record RoundsEnd (scripts : List (List Command)) (s : SessionState) (l : LinkView) (t : SessionState) (m : LinkView) : Type 0 where
+pub record RoundsEnd (scripts : List (List Command)) (s : TableSession) (l : LinkView) (t : TableSession) (m : LinkView) : Type 0 where
   pub count : ℕ
   pub last : ℕ
   pub within : last ≤ length scripts
-  pub ends : EndsWith scripts (rounds (length scripts) count ++ numbers last) last s l t m
+  pub ends : EndsWith table scripts (rounds (length scripts) count ++ numbers last) last s l t m

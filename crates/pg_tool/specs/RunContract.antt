@@ -1,5 +1,5 @@
 -- The contract of the program: what it writes, and its exit status.
-use Rattle.std.specs.Prelude.{◌≡◌, ◌≢◌, ℕ, ◌<◌, ◌≤◌, ◌⊎◌, true, false, List, [], ◌++◌, length, Ok, Err, Option, Some, None, IfSome, codes, decimal, ⊤}
+use Rattle.std.specs.Prelude.{◌≡◌, ◌≢◌, ℕ, ◌<◌, ◌≤◌, ◌⊎◌, true, false, List, [], ◌++◌, length, Ok, Err, Option, Some, None, IfSome, codes, decimal, Result, ⊤}
 use Rattle.std.specs.List.{concat}
 use Rattle.pg_promises.specs.Causes.{Call}
 use Rattle.pg_spec.specs.Faults.{OutOfMemory}
@@ -10,11 +10,15 @@ use Rattle.pg_spec.specs.ReportText.{report_text, error_text}
 use Rattle.pg_spec.specs.SessionText.{SessionText, IsSessionText, IsRefusedAt}
 use Rattle.pg_wire.specs.LinkCalls.{Tells}
 use Rattle.pg_wire.specs.Streams.{SourceView, SinkView}
-use Rattle.pg_session.specs.Sessions.{HasPlayed}
+use Rattle.pg_turns.specs.Sessions.{HasPlayed}
+use Rattle.pg_faults.specs.declared.error.Error.{Error}
+use Rattle.pg_table.specs.Headlines.{told_in}
+use Rattle.pg_table.specs.Table.{table}
 use Rattle.pg_text.specs.Views.{report_of, scripts_of}
 use Rattle.pg_text.specs.declared.command.Command.{Command}
 use Rattle.pg_text.specs.declared.report.Report.{Report}
-use Rattle.pg_tool.specs.SessionContract.{SessionContract, SessionResult}
+use Rattle.pg_tool.specs.SessionContract.{SessionContract, SessionResult, result_of}
+use Rattle.pg_tool.specs.TableContract.{TableContract, table_call, table_result}
 use Rattle.pg_tool.specs.Reading.{longest_text}
 use Rattle.pg_gen.specs.Generated.{generated}
 use Rattle.pg_gen.specs.Laws as made
@@ -79,8 +83,14 @@ call_of text after = call_over text (new_link text) after
 abbrev pub WasPlayed : SessionText → (before after : LinkView) → SessionResult → Type 0
 WasPlayed text before after (Ok report) = (s : Settings) × Means text.config s
     × (scripts : List (List Command)) × (scripts_of scripts ≡ text.scripts) × (told : Report) × (report_of told ≡ report)
-    × HasPlayed s text.nonce scripts text.turns before after told
+    × HasPlayed table s text.nonce scripts text.turns before after (told_in told)
 WasPlayed text before after (Err failure) = ⊤
+
+-- The same by what the commands of the table mean: it keeps that contract with its scripts as they are run, and answered this.
+abbrev pub KeepsTable : SessionText → (before after : LinkView) → SessionResult → Type 0
+KeepsTable text before after result = (scripts : List (List Command)) × (scripts_of scripts ≡ text.scripts)
+    × (answered : Result Report Error) × (result_of answered ≡ result)
+    × TableContract (table_call text.config text.nonce scripts text.turns text.limit before after) (table_result answered)
 
 -- the result is that of the text's session over the text's own link, which tells all bytes that crossed
 -- it, gave a front of its plan, and didn't fail
@@ -96,12 +106,14 @@ pub record IsPlayed (text : SessionText) (result : SessionResult) : Type 0 where
   pub no_fault : after.faults ≡ 0
   -- all that a session promises
   pub session : SessionContract (call_of text after) result
+  pub by_table : KeepsTable text (new_link text) after result
   -- turn by turn
   pub turns : WasPlayed text (new_link text) after result
 
 -- the result is that of the text's session over the link that was handed in: all that a session promises, turn by turn
 pub record IsPiped (before after : LinkView) (text : SessionText) (result : SessionResult) : Type 0 where
   pub session : SessionContract (call_over text before after) result
+  pub by_table : KeepsTable text before after result
   pub turns : WasPlayed text before after result
 
 -- by the link that was asked for; the one handed in isn't used by a text that is played over its own

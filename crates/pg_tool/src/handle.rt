@@ -1,18 +1,20 @@
 //! A handle, which runs the commands of its script one after another.
 
-ghost use Rattle.std.specs.Prelude.{◌≡◌, ◌≢◌, ◌<◌, ◌++◌, ◌∷◌, IfOk, IfErr, OnOk, Err, MatchResult, length, map, None, []};
+ghost use Rattle.std.specs.Prelude.{◌≡◌, ◌≢◌, ◌<◌, ◌++◌, ◌∷◌, IfOk, IfErr, IfSome, OnOk, Err, MatchResult, length, map, None, slice_get, []};
 ghost use Rattle.std.specs.List.{All};
 ghost use Rattle.pg_client.specs.Queries.{IsLiveQuery, place_of_query};
-ghost use Rattle.pg_session.specs.HandleTurns.{AsksCommand, HandleTurns, kept_answer};
-ghost use Rattle.pg_tool.specs.Handles.{IsIdleHandle, IsLiveHandle, OneTurned, PollEnds, view_of};
+ghost use Rattle.pg_turns.specs.HandleTurns.{AsksCommand};
+ghost use Rattle.pg_turns.specs.Turns.{HandleTurns};
+ghost use Rattle.pg_table.specs.Table.{kept_answer, says_of, table};
+ghost use Rattle.pg_tool.specs.Handles.{IsIdleHandle, IsLiveHandle, IsOnScript, OneTurned, PollEnds, view_of};
 
 use futures::task::Poll;
 use pg_client::SimpleQueryState;
 use pg_desk::{Desk, Stamp};
 use pg_errors::Error;
 use pg_query::{Polled, SimpleMessage};
-use pg_session::Polling;
 use pg_text::{Answer, Command};
+use pg_turns::Polling;
 use pg_types::List;
 use std::alloc::Global;
 
@@ -56,19 +58,20 @@ impl Handle {
         owner: u32,
         turn: u64,
     ) -> Result<Polling, Error>
-        requires { IsLiveHandle self.old }
+        requires live { IsLiveHandle self.old }
+        requires on_script { IsOnScript script.now (view_of self.old) }
         ensures live { IsLiveHandle self.new }
-        ensures turns { IfOk result (HandleTurns D.becomes script.now (record { owner = owner; command = length self.old.answers.items; turn = turn })
+        ensures turns { IfOk result (HandleTurns D.becomes table script.now (record { owner = owner; command = length self.old.answers.items; turn = turn })
             desk.old (view_of self.old) desk.new (view_of self.new)) }
         ensures error { IfErr result (λ e. e ≡ Error.OutOfMemory) }
     {
         let stamp = Stamp::new(owner, self.answered()?, turn);
-        if let Some(state) = self.running.take() {
-            return self.poll(alloc, desk, stamp, state, Polling::Waits);
-        }
         let Some(command) = script.get(self.answers.len()) else {
             return Ok(Polling::Idle);
         };
+        if let Some(state) = self.running.take() {
+            return self.poll(alloc, desk, stamp, state, Polling::Waits);
+        }
         let state = begin(alloc, command)?;
         self.poll(alloc, desk, stamp, state, Polling::Began)
     }
@@ -146,7 +149,7 @@ fn boxed<T: Drop>(alloc: Global, value: T) -> Result<Box<T>, Error>
 /// The state of a command.
 fn begin(alloc: Global, command: &Command) -> Result<Box<SimpleQueryState>, Error>
     ensures live { IfOk result (λ state. IsLiveQuery state.value) }
-    ensures asks { IfOk result (λ state. AsksCommand command.now (place_of_query state.value).dialogue) }
+    ensures asks { IfOk result (λ state. AsksCommand (says_of command.now) (place_of_query state.value).dialogue) }
     ensures error { IfErr result (λ e. e ≡ Error.OutOfMemory) }
 {
     match command {
@@ -181,6 +184,7 @@ pub(crate) fn turn_at<D: Desk>(
 ) -> Result<Polling, Error>
     requires place { place < length handles.old }
     requires live { All IsLiveHandle handles.old }
+    requires on_script { IfSome (slice_get handles.old place) (λ handle. IsOnScript script.now (view_of handle)) }
     ensures live { All IsLiveHandle handles.new }
     ensures count { length handles.new ≡ length handles.old }
     ensures turns { IfOk result (OneTurned D.becomes script.now (λ old. record { owner = place; command = length old.answers; turn = turn })

@@ -3,12 +3,14 @@
 ghost use Rattle.std.specs.Prelude.{◌≡◌, ◌^◌, ◌<◌, ◌≤◌, ◌++◌, ◌∷◌, [], length, slice_get, Some, false, IfOk, IfErr, OnOk};
 ghost use Rattle.pg_connect.specs.Calm.{StaysCalm};
 ghost use Rattle.pg_session.specs.Failures.{HasFailed, TurnFails};
-ghost use Rattle.pg_session.specs.Sessions.{IsNewSession, Plays};
-ghost use Rattle.pg_session.specs.States.{commands_in};
-ghost use Rattle.pg_session.specs.Turns.{Closes, ClosesBehind, Turns, left_behind, moved_by};
+ghost use Rattle.pg_turns.specs.Sessions.{IsNewSession, Plays};
+ghost use Rattle.pg_turns.specs.States.{commands_in};
+ghost use Rattle.pg_turns.specs.Turns.{Closes, ClosesBehind, Turns, left_behind, moved_by};
 ghost use Rattle.pg_text.specs.Scripts.{AreScripts};
 ghost use Rattle.pg_wire.specs.LinkCalls.{Continues};
-ghost use Rattle.pg_tool.specs.Plays.{ConnectionPolled, Crosses, HandlePolled, IsGoing, IsLater, IsLimited, IsReady, Leaves, RoundFails, RoundMade, RoundsEnd, state_of};
+ghost use Rattle.pg_session.specs.Measure.{left_to_do};
+ghost use Rattle.pg_table.specs.Table.{table};
+ghost use Rattle.pg_tool.specs.Plays.{ConnectionPolled, Crosses, HandlePolled, IsGoing, IsLater, IsLimited, IsReady, IsShort, Leaves, RoundFails, RoundMade, RoundsEnd, state_of};
 
 use crate::handle::{Handle, new_handles, turn_at};
 use crate::opening::pause;
@@ -16,8 +18,8 @@ use futures::task::Poll;
 use pg_connect::Streams;
 use pg_errors::{AsyncMessage, Error};
 use pg_hub::{Engine, Hub};
-use pg_session::Polling;
 use pg_text::{Command, Scripts, TurnMark};
+use pg_turns::Polling;
 use pg_types::List;
 use pg_wire::Link;
 use std::alloc::Global;
@@ -40,9 +42,9 @@ impl Play {
         requires limit { streams.max_bytes < 2 ^ 63 }
         requires within { streams.given ≤ streams.max_bytes }
         ensures ready { IfOk result (λ p. IsReady scripts.now p) }
-        ensures fresh { IfOk result (λ p. IsNewSession scripts.now (state_of p)) }
+        ensures fresh { IfOk result (λ p. IsNewSession table scripts.now (state_of p)) }
         ensures streams { IfOk result (λ p. p.streams ≡ streams) }
-        ensures going { IfOk result IsGoing }
+        ensures going { IfOk result (λ p. IsGoing scripts.now p) }
         ensures error { IfErr result (λ e. e ≡ Error.OutOfMemory) }
     {
         let handles = new_handles(alloc, scripts.as_slice().len())?;
@@ -83,10 +85,10 @@ impl Play {
         turns: &[u32],
     ) -> Result<(), Error>
         requires ready { IsReady scripts.now self.old }
-        requires going { IsGoing self.old }
-        ensures fails { IfErr result (HasFailed scripts.now (state_of self.old) (L.view link.old) (L.view link.new)) }
+        requires going { IsGoing scripts.now self.old }
+        ensures fails { IfErr result (HasFailed table scripts.now (state_of self.old) (L.view link.old) (L.view link.new)) }
         ensures limited { OnOk result (IsLimited self.old self.new) }
-        ensures plays { OnOk result (Plays scripts.now turns.now (state_of self.old) (L.view link.old) (state_of self.new) (L.view link.new)) }
+        ensures plays { OnOk result (Plays table scripts.now turns.now (state_of self.old) (L.view link.old) (state_of self.new) (L.view link.new)) }
         ensures crosses { Crosses (L.view link.old) (L.view link.new) result }
     {
         'turns: for turn in turns {
@@ -109,8 +111,8 @@ impl Play {
         scripts: &Scripts,
     ) -> Result<(), Error>
         requires ready { IsReady scripts.now self.old }
-        requires going { IsGoing self.old }
-        ensures fails { IfErr result (HasFailed scripts.now (state_of self.old) (L.view link.old) (L.view link.new)) }
+        requires going { IsGoing scripts.now self.old }
+        ensures fails { IfErr result (HasFailed table scripts.now (state_of self.old) (L.view link.old) (L.view link.new)) }
         ensures limited { OnOk result (IsLimited self.old self.new) }
         ensures ends { OnOk result (RoundsEnd scripts.now (state_of self.old) (L.view link.old) (state_of self.new) (L.view link.new)) }
         ensures crosses { Crosses (L.view link.old) (L.view link.new) result }
@@ -123,9 +125,19 @@ impl Play {
                 Ok(Some(moved)) => moved,
                 Err(error) => return Err(error),
             };
+            self.left_is_counted(scripts);
             let after = link.quiet();
             waited = pause(link, moved, waited, before, after)?;
         }
+    }
+
+    /// Of what is left to do, what commands still do and what is still to be sent is counted.
+    fn left_is_counted(&self, scripts: &Scripts)
+        ensures { IsShort (left_to_do scripts.now (state_of self.now)) }
+    {
+        let _scripts = scripts.as_slice();
+        let _parts = self.hub.unsent();
+        let _bytes = self.streams.unsent.len();
     }
 
     /// Each handle once, in order, and then the connection. `None`: the connection is shut down; else
@@ -137,7 +149,7 @@ impl Play {
         scripts: &Scripts,
     ) -> Result<Option<bool>, Error>
         requires ready { IsReady scripts.now self.old }
-        requires going { IsGoing self.old }
+        requires going { IsGoing scripts.now self.old }
         ensures ready { IsReady scripts.now self.new }
         ensures leaves { IfOk result (Leaves scripts.now self.old self.new) }
         ensures fails { IfErr result (RoundFails scripts.now (state_of self.old) (L.view link.old) (L.view link.new)) }
@@ -166,11 +178,11 @@ impl Play {
         turn: u32,
     ) -> Result<Option<bool>, Error>
         requires ready { IsReady scripts.now self.old }
-        requires going { IsGoing self.old }
+        requires going { IsGoing scripts.now self.old }
         ensures ready { IsReady scripts.now self.new }
         ensures leaves { IfOk result (Leaves scripts.now self.old self.new) }
         ensures fails { IfErr result (TurnFails (state_of self.old) (L.view link.old) (L.view link.new)) }
-        ensures made { IfOk result (Turns scripts.now turn (state_of self.old) (state_of self.new) (L.view link.old) (L.view link.new)) }
+        ensures made { IfOk result (Turns table scripts.now turn (state_of self.old) (state_of self.new) (L.view link.old) (L.view link.new)) }
         ensures crosses { Crosses (L.view link.old) (L.view link.new) result }
     {
         if (turn as usize) < scripts.as_slice().len() {
@@ -207,6 +219,7 @@ impl Play {
         turn: u32,
     ) -> Result<Option<bool>, Error>
         requires ready { IsReady scripts.now self.old }
+        requires going { IsGoing scripts.now self.old }
         requires place { turn < length scripts.now }
         ensures ready { IsReady scripts.now self.new }
         ensures made { IfOk result (HandlePolled scripts.now turn (state_of self.old) (state_of self.new)) }

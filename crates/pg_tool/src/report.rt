@@ -4,8 +4,10 @@ ghost use Rattle.std.specs.Prelude.{◌≡◌, ◌<◌, ◌^◌, ◌++◌, ◌�
 ghost use Rattle.std.specs.List.{concat};
 ghost use Rattle.pg_spec.specs.Book.{wire};
 ghost use Rattle.pg_spec.specs.Frames.{terminate_frame};
-ghost use Rattle.pg_text.specs.Views.{booking_of};
-ghost use Rattle.pg_session.specs.Reports.{Reports, pair_view};
+ghost use Rattle.pg_core.specs.Trails.{said_booking};
+ghost use Rattle.pg_table.specs.Headlines.{told_in};
+ghost use Rattle.pg_turns.specs.Reports.{Reports};
+ghost use Rattle.pg_tool.specs.Parameters.{pair_view};
 ghost use Rattle.pg_tool.specs.Plays.{state_of};
 
 use crate::handle::Handle;
@@ -25,7 +27,7 @@ impl Play {
         opening: Vec<u8>,
         key: (i32, i32),
     ) -> Result<Report, Error>
-        ensures report { IfOk result (λ report. Reports opening.items key (state_of self) report) }
+        ensures report { IfOk result (λ report. Reports opening.items key (state_of self) (told_in report)) }
         ensures counted { self.streams.given < 2 ^ 64 }
         ensures error { IfErr result (λ e. e ≡ Error.OutOfMemory) }
     {
@@ -97,7 +99,7 @@ const TERMINATE: [u8; 5] = [b'X', 0, 0, 0, 4];
 /// What startup sent, the book's bytes in order, and Terminate.
 fn sent_bytes(opening: Vec<u8>, book: &[Booking]) -> Result<Blob, Error>
     ensures { MatchResult result
-        (λ sent. sent ≡ opening.items ++ wire (map booking_of book.now) ++ terminate_frame)
+        (λ sent. sent ≡ opening.items ++ wire (map said_booking book.now) ++ terminate_frame)
         (λ e. e ≡ Error.OutOfMemory) }
 {
     let mut sent = opening;

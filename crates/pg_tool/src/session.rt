@@ -7,9 +7,12 @@ ghost use Rattle.pg_promises.specs.ConnectionStrings.{Means};
 ghost use Rattle.pg_spec.specs.Passwords.{is_nonce};
 ghost use Rattle.pg_spec.specs.Settings.{Settings};
 ghost use Rattle.pg_connect.specs.Calm.{StaysCalm};
-ghost use Rattle.pg_session.specs.Sessions.{HasPlayed};
+ghost use Rattle.pg_turns.specs.Sessions.{HasPlayed};
 ghost use Rattle.pg_wire.specs.LinkCalls.{Continues};
+ghost use Rattle.pg_table.specs.Headlines.{told_in};
+ghost use Rattle.pg_table.specs.Table.{table};
 ghost use Rattle.pg_tool.specs.SessionContract.{SessionContract, result_of};
+ghost use Rattle.pg_tool.specs.TableContract.{TableContract, table_call, table_result};
 ghost use Rattle.pg_tool.specs.Fails.{PlaysWithin, SessionFails};
 ghost use Rattle.pg_tool.specs.Asked.{call_of};
 
@@ -49,8 +52,10 @@ pub fn run_session<L: Link>(
     requires { max_bytes < 2 ^ 63 }
     ensures session { SessionContract
         (call_of config.now nonce.now scripts.now turns.now max_bytes (L.view link.old) (L.view link.new)) (result_of result) }
+    ensures by_table { TableContract
+        (table_call config.now nonce.now scripts.now turns.now max_bytes (L.view link.old) (L.view link.new)) (table_result result) }
     ensures played { IfOk result (λ report. (s : Settings) × Means config.now s
-        × HasPlayed s nonce.now scripts.now turns.now (L.view link.old) (L.view link.new) report) }
+        × HasPlayed table s nonce.now scripts.now turns.now (L.view link.old) (L.view link.new) (told_in report)) }
 {
     let settings = Config::from_str(alloc, config)?;
     match may_start(&settings, nonce) {

@@ -1,6 +1,11 @@
 use Rattle.std.proofs.lemmas.Option.{slice_get-get_or}
+use Rattle.pg_tool.proofs.OnScripts.{on_there}
 use Rattle.pg_tool.proofs.Turned.{one_turned}
 use Rattle.pg_tool.proofs.handle.turn_at.Goals as goal
+
+pub turn-requires-clause-on_script : goal.turn-requires-clause-on_script
+turn-requires-clause-on_script g c =
+    on_there c.args.script.now c.args.handles.now c.args.place _ (slice_get-get_or _ _ _ c.requires.place) c.requires.on_script
 
 pub returns-clause-turns : goal.returns-clause-turns
 returns-clause-turns g c =

@@ -1,5 +1,5 @@
 use Rattle.std.proofs.Common.{◌≡◌, ◌++◌, map, string_bytes}
-use Rattle.pg_session.specs.Reports.{pair_view}
+use Rattle.pg_tool.specs.Parameters.{pair_view}
 use Rattle.pg_tool.proofs.report.parameters_of.Given as goal
 
 abbrev pub invariant-settings : goal.invariant-settings

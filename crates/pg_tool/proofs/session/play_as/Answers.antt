@@ -82,7 +82,7 @@ returns-clause-fails g c =
     let begin = g.L.Link.view c.args.link.now in
     lacks_behind (settings_of c.args.settings.now) c.args.nonce.now c.args.scripts.now c.args.turns.now c.args.max_bytes begin (g.L.Link.view c.open.new.link) (g.L.Link.view c.run.new.link) c.open.new.startup _ _
     c.in_ok-play.play c.run.new.self c.into_report.result c.requires.no_tls (c.in_ok-open.ensures.answer (settings_of c.args.settings.now) c.args.nonce.now begin c.requires.no_tls (c.in_ok-startup.ensures.fresh begin) (calm_none begin))
-    c.into_streams-opening.ensures.fresh c.in_ok-play.ensures.streams c.in_ok-play.ensures.fresh c.in_ok-run.ensures.plays c.into_report.ensures.error
+    c.into_streams-opening.ensures.fresh c.in_ok-play.ensures.streams c.in_ok-play.ensures.fresh c.in_ok-run.ensures.plays c.into_report.ensures.counted c.into_report.ensures.error
 
 pub returns-clause-calm : goal.returns-clause-calm
 returns-clause-calm g c =

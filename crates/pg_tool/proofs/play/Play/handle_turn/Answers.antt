@@ -1,7 +1,12 @@
 use Rattle.std.proofs.Common.{sym, ap, ◌∙◌}
 use Rattle.pg_tool.specs.declared.play.Play.{Play}
 use Rattle.pg_tool.proofs.Made.{handle_made, written_back}
+use Rattle.pg_tool.proofs.OnScripts.{on_at}
 use Rattle.pg_tool.proofs.play.Play.handle_turn.Goals as goal
+
+pub turn_at-requires-clause-on_script : goal.turn_at-requires-clause-on_script
+turn_at-requires-clause-on_script c =
+    on_at c.args.scripts.now c.script_at-script.result.now c.args.self.now.handles.items _ c.args.turn c.deref_mut.ensures.value c.script_at-script.ensures c.requires.going.on_scripts
 
 pub returns-clause-made : goal.returns-clause-made
 returns-clause-made c =

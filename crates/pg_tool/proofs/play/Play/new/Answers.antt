@@ -1,11 +1,13 @@
 use Rattle.std.proofs.Common.{◌≤◌, map, length, ap, sym, ◌∙◌, subst}
-use Rattle.pg_session.specs.States.{commands_in}
-use Rattle.pg_session.specs.Turns.{Closes}
+use Rattle.pg_turns.specs.States.{commands_in}
+use Rattle.pg_turns.specs.Turns.{Closes}
 use Rattle.pg_tool.specs.declared.play.Play.{Play}
 use Rattle.pg_tool.specs.Handles.{view_of}
 use Rattle.pg_session.proofs.Nearer.{new-under-way}
+use Rattle.pg_table.specs.Table.{table}
 use Rattle.pg_tool.specs.Plays.{state_of}
 use Rattle.pg_tool.proofs.Made.{idle_views}
+use Rattle.pg_tool.proofs.OnScripts.{new_on}
 use Rattle.pg_tool.proofs.play.Play.new.Goals as goal
 
 pub returns-clause-fresh : goal.returns-clause-fresh
@@ -25,6 +27,7 @@ returns-clause-fresh c =
 
 pub returns-clause-going : goal.returns-clause-going
 returns-clause-going c = record {
-  under_way = new-under-way c.args.scripts.now (state_of c.close_if_answered.new.self) (returns-clause-fresh c);
+  under_way = new-under-way table c.args.scripts.now (state_of c.close_if_answered.new.self) (returns-clause-fresh c);
+  on_scripts = new_on c.args.scripts.now (state_of c.close_if_answered.new.self) (returns-clause-fresh c);
   within = subst (λ (p : Play). p.streams.given ≤ p.streams.max_bytes) (sym c.close_if_answered.ensures.same) c.requires.within;
 }

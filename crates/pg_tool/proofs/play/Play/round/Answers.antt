@@ -1,7 +1,8 @@
-use Rattle.std.proofs.Common.{◌≤◌, length, refl, ap, ◌∙◌, arith}
+use Rattle.std.proofs.Common.{◌<◌, ◌≤◌, ◌^◌, inr, length, refl, ap, ◌∙◌, arith}
 use Rattle.pg_session.proofs.Nearer.{nearer-joined}
-use Rattle.pg_session.proofs.Order.{makes_none, rests_none}
-use Rattle.pg_session.specs.Sessions.{numbers}
+use Rattle.pg_turns.proofs.Order.{makes_none, rests_none}
+use Rattle.pg_turns.specs.Sessions.{numbers}
+use Rattle.pg_table.specs.Table.{table}
 use Rattle.pg_tool.specs.Plays.{state_of}
 use Rattle.pg_connect.proofs.Calm.{calm_same, calm_then}
 use Rattle.pg_tool.proofs.Chaining.{round_more, stays_more}
@@ -27,11 +28,11 @@ turns-init g c =
     let l = g.L.Link.view c.args.link.now in
     record {
       ready = c.requires.ready;
-      made = makes_none c.args.scripts.now (state_of c.args.self.now) l l (rests_none l);
+      made = makes_none table c.args.scripts.now (state_of c.args.self.now) l l (rests_none l);
       stays = λ none. (refl, refl);
       going = c.requires.going;
       limited = refl;
-      nearer = omega arith;
+      nearer = inr refl;
       link = continues_same l;
       calm = calm_same l;
     }
@@ -61,8 +62,9 @@ turns-preserved g c =
 
 pub returns-in-Err-clause-fails : goal.returns-in-Err-clause-fails
 returns-in-Err-clause-fails g c =
+    let counted : c.turns.self.streams.given < 2 ^ 64 = omega (arith, c.turns.invariant.ready.limit, c.turns.invariant.going.within) in
     round_fails c.args.scripts.now (numbers c.turns.turn) (state_of c.args.self.now) (g.L.Link.view c.args.link.now) (state_of c.turns.self) (g.L.Link.view c.turns.link)
-    (g.L.Link.view c.turn.new.link) c.in-Err.error c.turns.invariant.made c.in-Err.ensures.fails
+    (g.L.Link.view c.turn.new.link) c.in-Err.error c.turns.invariant.made counted c.in-Err.ensures.fails
 
 pub returns-in-Ok-None-clause-leaves : goal.returns-in-Ok-None-clause-leaves
 returns-in-Ok-None-clause-leaves g c = record {

@@ -1,10 +1,11 @@
-use Rattle.std.proofs.Common.{◌∙◌}
+use Rattle.std.proofs.Common.{◌<◌, ◌^◌, ◌∙◌, arith}
 use Rattle.pg_wire.proofs.HandedOn.{handed-on}
 use Rattle.pg_tool.specs.Plays.{state_of}
 use Rattle.pg_connect.proofs.Calm.{calm_then}
 use Rattle.pg_tool.proofs.Chaining.{rounds_end, rounds_more}
 use Rattle.pg_tool.proofs.Crossing.{pause_later}
 use Rattle.pg_tool.proofs.Failing.{pause_fails, rounds_fail}
+use Rattle.pg_tool.proofs.Numbering.{number_falls}
 use Rattle.pg_tool.proofs.Following.{continues_still, continues_then}
 use Rattle.pg_tool.proofs.Waiting.{counted_so}
 use Rattle.pg_tool.proofs.play.Play.rounds.Goals as goal
@@ -32,6 +33,12 @@ rounds-preserved g c = record {
       c.in_ok-waited.ensures.calm;
 }
 
+pub rounds-smaller : goal.rounds-smaller
+rounds-smaller g c =
+    let leaves = rw c.in-Ok-Some.field-0-is at c.in-Ok-Some.ensures.leaves in
+    let end = c.in_ok-waited.ensures.end in
+    number_falls c.args.scripts.now (state_of c.rounds.self) (state_of c.round.new.self) c.in-Ok-Some.moved c.rounds.waited _ leaves.nearer c.left_is_counted.ensures end.0 (λ next. (end.1 next).0)
+
 pub returns-in-Err-clause-fails : goal.returns-in-Err-clause-fails
 returns-in-Err-clause-fails g c =
     rounds_fail c.args.scripts.now (state_of c.args.self.now) (g.L.Link.view c.args.link.now) (state_of c.rounds.self) (g.L.Link.view c.rounds.link)
@@ -45,9 +52,10 @@ returns-in_err-waited-clause-fails g c =
     let m = g.L.Link.view c.pause.new.link in
     let end = c.in_err-waited.ensures.end in
     let e = c.in_err-waited.field-0.0 in
+    let counted : c.round.new.self.streams.given < 2 ^ 64 = omega (arith, c.round.ensures.ready.limit, c.in-Ok-Some.ensures.leaves.limited.0) in
     rw (handed-on c.from_residual.result e c.from_residual.ensures.1) (pause_fails c.args.scripts.now (state_of c.args.self.now) l (state_of c.rounds.self) k (state_of c.round.new.self) n m
     c.in-Ok-Some.moved c.rounds.waited e c.rounds.invariant.made (rw c.in-Ok-Some.field-0-is at c.in-Ok-Some.ensures.made) (calm_then l k n c.rounds.invariant.calm c.in-Ok-Some.ensures.crosses.calm)
-    c.in-Ok-Some.ensures.leaves.limited.0 c.in_err-waited.ensures.bytes c.in_err-waited.ensures.writing end.0 c.rounds.invariant.promised
+    c.in-Ok-Some.ensures.leaves.limited.0 counted c.in_err-waited.ensures.bytes c.in_err-waited.ensures.writing end.0 c.rounds.invariant.promised
     (counted_so c.quiet-before.result k.quiet c.quiet-after.result n.quiet c.rounds.waited n m e c.quiet-before.ensures c.quiet-after.ensures end.1))
 
 pub returns-in-Ok-None-clause-crosses : goal.returns-in-Ok-None-clause-crosses

@@ -8,7 +8,7 @@ use Rattle.pg_tool.proofs.play.Play.rounds.Given as goal
 abbrev pub invariant-rounds : goal.invariant-rounds
 invariant-rounds g l = record {
   ready : IsReady l.scripts l.self;
-  going : IsGoing l.self;
+  going : IsGoing l.scripts l.self;
   limited : l.self.streams.max_bytes ≡ l.initial.self.streams.max_bytes;
   promised : l.waited ≡ true → IsTrue (g.L.Link.view l.link).promised;
   made : RoundsMade l.scripts (state_of l.initial.self) (g.L.Link.view l.initial.link) (state_of l.self) (g.L.Link.view l.link);

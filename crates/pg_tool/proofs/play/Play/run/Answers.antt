@@ -1,4 +1,4 @@
-use Rattle.std.proofs.Common.{◌<◌, ◌≤◌, length, take, refl, ◌∙◌, arith}
+use Rattle.std.proofs.Common.{◌<◌, ◌≤◌, ◌^◌, length, take, refl, ◌∙◌, arith}
 use Rattle.pg_tool.specs.Plays.{state_of}
 use Rattle.pg_connect.proofs.Calm.{calm_then}
 use Rattle.pg_tool.proofs.Calming.{calm_map}
@@ -35,8 +35,9 @@ returns-clause-plays g c =
 
 pub returns-in-Err-clause-fails : goal.returns-in-Err-clause-fails
 returns-in-Err-clause-fails g c =
+    let counted : c.turns.self.streams.given < 2 ^ 64 = omega (arith, c.turns.invariant.ready.limit, c.turns.invariant.going.within) in
     given_fails c.args.scripts.now (take c.turns.turn-index c.args.turns.now) (state_of c.args.self.now) (g.L.Link.view c.args.link.now) (state_of c.turns.self) (g.L.Link.view c.turns.link)
-    (g.L.Link.view c.turn.new.link) c.in-Err.error c.turns.invariant.made c.in-Err.ensures.fails
+    (g.L.Link.view c.turn.new.link) c.in-Err.error c.turns.invariant.made counted c.in-Err.ensures.fails
 
 pub returns-clause-fails : goal.returns-clause-fails
 returns-clause-fails g c =

@@ -1,0 +1,7 @@
+pub mod Decided
+pub mod Queries
+pub mod Counted
+pub mod SimpleMeans
+pub mod Renamed
+pub mod RenamedSent
+pub mod Headlines
