@@ -54,7 +54,7 @@ two_pieces {X = X} p (x ∷ xs) (y ∷ ys) ends one =
 whole_front : (a more : List RawMessage) → ends_in is_ready a ≡ true → IsOneGroup (a ++ more) → more ≡ []
 whole_front a more ends one = two_pieces is_ready a more ends (sym (cut_after-append is_ready a more ends) ∙ one.one)
 
-both_true : (a b : Bool) → (a && b) ≡ true → (a ≡ true) × (b ≡ true)
+pub both_true : (a b : Bool) → (a && b) ≡ true → (a ≡ true) × (b ≡ true)
 both_true true b e = (refl, e)
 both_true false b e = absurd cc
 
@@ -116,10 +116,10 @@ startup-same s nonce ms tail front later used n same a b =
     settled xs ys u done (inr same) = same
 
 -- the one frame of a startup that asks for nothing is the startup frame
-record IsStartupFrame (frame : List ℕ) : Type 0 where
-  rest : List ℕ
-  is : frame ≡ untagged (0 ∷ rest)
-  few : 5 + length rest < 2 ^ 32
+pub record IsStartupFrame (frame : List ℕ) : Type 0 where
+  pub rest : List ℕ
+  pub is : frame ≡ untagged (0 ∷ rest)
+  pub few : 5 + length rest < 2 ^ 32
 
 abbrev first_of : List (List ℕ) → List ℕ
 first_of [] = []
@@ -146,7 +146,7 @@ refused-frame fault rest frame n e = none (ap (λ (x : Startup). x.frames) e)
     none : [] ≡ frame ∷ [] → ⊥
     none e = absurd cc
 
-startup-frame : (s : Settings) (nonce : List ℕ) (ms : List RawMessage) (frame : List ℕ) (n : ℕ) →
+pub startup-frame : (s : Settings) (nonce : List ℕ) (ms : List RawMessage) (frame : List ℕ) (n : ℕ) →
     startup s nonce ms ≡ record { frames = frame ∷ []; outcome = Done n } → IsStartupFrame frame
 startup-frame s nonce ms frame n e = by_frame (startup_frame (startup_parameters s)) refl e
   where
@@ -177,7 +177,7 @@ startup-frame s nonce ms frame n e = by_frame (startup_frame (startup_parameters
 -- ---- what was taken
 
 -- the frames of whole requests and of what follows them
-wire-messages : (book : List Booking) (more : List ℕ) → AreRequests book → messages (wire book ++ more) ≡ joined (map frames_of book) ++ messages more
+pub wire-messages : (book : List Booking) (more : List ℕ) → AreRequests book → messages (wire book ++ more) ≡ joined (map frames_of book) ++ messages more
 wire-messages [] more are = refl
 wire-messages (b ∷ bs) more are =
     let bytes : List ℕ = concat b.parts in
@@ -188,15 +188,15 @@ wire-messages (b ∷ bs) more are =
     ∙ sym (append_assoc (frames_of b) (joined (map frames_of bs)) (messages more))
 
 -- Terminate
-terminate : RawMessage
+pub terminate : RawMessage
 terminate = record { tag = 88; body = [] }
 
-terminate-messages : messages terminate_frame ≡ terminate ∷ []
+pub terminate-messages : messages terminate_frame ≡ terminate ∷ []
 unfolding terminate
 terminate-messages = refl
 
 -- it is answered by nothing
-silent-Terminate : {S : Type 0} (service : Service S) (at : Serving S) → (served service at (terminate ∷ [])).reply ≡ []
+pub silent-Terminate : {S : Type 0} (service : Service S) (at : Serving S) → (served service at (terminate ∷ [])).reply ≡ []
 unfolding terminate
 silent-Terminate service at = by_mode at.mode
   where
@@ -205,20 +205,21 @@ silent-Terminate service at = by_mode at.mode
     by_mode Skip = refl
     by_mode CopyIn = refl
 
-AllRequests : (book : List Booking) → AreRequests book → AllByRecursion IsRequest (map frames_of book)
+-- the requests of a book
+pub AllRequests : (book : List Booking) → AreRequests book → AllByRecursion IsRequest (map frames_of book)
 AllRequests [] are = tt
 AllRequests (b ∷ bs) are = (are.0.1, AllRequests bs are.1)
 
-AllOneGroup : (replies : List (List RawMessage)) → AllByRecursion IsReply replies → AllByRecursion IsOneGroup (map sync_of replies)
+pub AllOneGroup : (replies : List (List RawMessage)) → AllByRecursion IsReply replies → AllByRecursion IsOneGroup (map sync_of replies)
 AllOneGroup [] are = tt
 AllOneGroup (reply ∷ replies) are =
     (subst (λ ms. IsOneGroup (sync_of ms)) (sym are.0.is) (reply-group are.0.front are.0.last are.0.no_other are.0.ready), AllOneGroup replies are.1)
 
-length-alone : {S : Type 0} (service : Service S) (at : Serving S) (requests : List (List RawMessage)) → length (one_at_a_time service at requests) ≡ length requests
+pub length-alone : {S : Type 0} (service : Service S) (at : Serving S) (requests : List (List RawMessage)) → length (one_at_a_time service at requests) ≡ length requests
 length-alone service at [] = refl
 length-alone service at (fs ∷ more) = ap suc (length-alone service (served service at fs).next more)
 
-length-map' : {X Y : Type 0} (f : X → Y) (xs : List X) → length (map f xs) ≡ length xs
+pub length-map' : {X Y : Type 0} (f : X → Y) (xs : List X) → length (map f xs) ≡ length xs
 length-map' f [] = refl
 length-map' f (x ∷ xs) = ap suc (length-map' f xs)
 

@@ -23,11 +23,13 @@ pub fn request_gets_one_reply<S>()
 {}
 
 /// Pipelined equals one at a time: the groups of what all frames are replied are what each request is replied where
-/// they are fed one at a time.
+/// they are fed one at a time, and its only ReadyForQuery ends each of these replies.
 pub fn pipelined_equals_one_at_a_time<S>()
     ensures frames { (service : Service S) (at : Serving S) (requests : List (List RawMessage)) → at.mode ≡ Normal → AllByRecursion IsRequest requests →
         SoundAlong service at (joined requests) → OnlyCopiesOpen service at requests →
         groups (served service at (joined requests)).reply ≡ map sync_of (one_at_a_time service at requests) }
+    ensures replies { (service : Service S) (at : Serving S) (requests : List (List RawMessage)) → at.mode ≡ Normal → AllByRecursion IsRequest requests →
+        SoundAlong service at (joined requests) → OnlyCopiesOpen service at requests → AllByRecursion IsReply (one_at_a_time service at requests) }
     ensures session { (service : Service S) (begins : S) (s : Settings) (nonce : List ℕ) (book : List Booking) (bytes given taken : List ℕ) →
         IsExchange s nonce book given taken → IsStartup s nonce bytes → IsOver service begins bytes given taken → AreRequests book → KeepsRules service begins book →
         groups (session_part s nonce (messages given)) ≡ map sync_of (alone service begins book) }
