@@ -38,6 +38,23 @@ pub record Served : Type 0 where
   pub dry : ℕ
   pub lulls : ℕ
 
+-- a link to this machine that was just made
+abbrev pub new_link : Table → (startup : List ℕ) → (cut room : ℕ) → Served
+new_link table startup cut room = record {
+  table = table;
+  startup = startup;
+  cut = cut;
+  room = room;
+  given = [];
+  taken = [];
+  promised = false;
+  flushed = false;
+  shut = false;
+  quiet = 0;
+  dry = 0;
+  lulls = 0;
+}
+
 -- all that it gives, by the bytes taken
 abbrev pub course_of : Served → List ℕ → List ℕ
 course_of m taken = gives (service_of m.table) 0 m.startup taken

@@ -113,6 +113,13 @@ pub(crate) struct Said<'a> {
 }
 
 impl Machine {
+    /// A law, which does nothing when it runs: the table keeps the rules.
+    pub fn rules_law(&self)
+        ensures { IsMachine self.now }
+    {
+        let _ = &self.refusal;
+    }
+
     /// A table that keeps to the rules.
     pub(crate) fn of(rows: List<MachineRow>, refusal: Blob) -> Machine
         requires { IsMachine (record { rows = rows; refusal = refusal }) }

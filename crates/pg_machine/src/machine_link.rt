@@ -1,8 +1,9 @@
 //! A link to a machine.
 
-ghost use Rattle.std.specs.Prelude.{◌≡◌, ◌<◌, [], length, take, min, false};
+ghost use Rattle.std.specs.Prelude.{◌≡◌, ◌<◌, length, take, min, false};
 ghost use Rattle.pg_wire.specs.LinkCalls.{Keeps, KeepsPromise, ReadAnswers, WriteAnswers, FlushAnswers, ShutdownAnswers, WaitAnswers, IsInCourse, gave, took};
-ghost use Rattle.pg_machine.specs.MachineLinks.{Reads, TakesUp, PassesOn, EndsWriting, Waits, KeepsItsPromise, link_of};
+ghost use Rattle.pg_machine.specs.Machines.{IsMachine};
+ghost use Rattle.pg_machine.specs.MachineLinks.{Reads, TakesUp, PassesOn, EndsWriting, Waits, KeepsItsPromise, link_of, new_link};
 
 use crate::feeding::Fed;
 use crate::machine::Machine;
@@ -55,20 +56,7 @@ impl MachineLink {
     ) -> MachineLink
         requires cut { 0 < cut }
         requires room { 0 < room }
-        ensures { result ≡ record {
-          table = machine;
-          startup = startup;
-          cut = cut;
-          room = room;
-          given = [];
-          taken = [];
-          promised = false;
-          flushed = false;
-          shut = false;
-          quiet = 0;
-          dry = 0;
-          lulls = 0;
-        } }
+        ensures { result ≡ new_link machine startup cut room }
     {
         MachineLink {
             machine,
@@ -93,6 +81,13 @@ impl MachineLink {
         ensures { IsInCourse (link_of self.now) }
     {
         let _ = &self.said;
+    }
+
+    /// A law, which does nothing when it runs: its table keeps the rules.
+    pub fn rules_law(&self)
+        ensures { IsMachine self.now.table }
+    {
+        self.machine.rules_law();
     }
 }
 
