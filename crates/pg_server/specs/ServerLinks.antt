@@ -16,7 +16,7 @@ use Rattle.pg_server.specs.declared.fault.ServerFault.TheVariants as faults
 use Rattle.pg_server.specs.declared.server_link.ServerLink.{ServerLink}
 use Rattle.pg_server.specs.declared.session.Stage.TheVariants.{Over}
 use Rattle.pg_server.specs.Crossings as crossing
-use Rattle.pg_server.specs.Crossings.{Crossed, crossed_of, took, took_less, failed}
+use Rattle.pg_server.specs.Crossings.{Crossed, crossed_of, untouched, took, took_less, failed}
 use Rattle.pg_server.specs.Handlers.{Step}
 use Rattle.pg_server.specs.Reaches.{reach_of}
 use Rattle.pg_server.specs.Servers.{Heard, heard_of, fed_with}
@@ -28,6 +28,14 @@ pub record Served (S : Type 0) : Type 0 where
   pub crossed : Crossed
   -- the fault of the server that ended it
   pub fault : Option ServerFault
+
+-- a link to this server that was just made
+abbrev pub new_link : {S : Type 0} → Heard S → (cut room : ℕ) → Served S
+new_link heard cut room = record { heard = heard; crossed = untouched cut room; fault = None }
+
+-- no call fails before the server has a fault
+abbrev pub FailsByFault : {S : Type 0} → Served S → Type 0
+FailsByFault m = m.fault ≡ None → m.crossed.faults ≡ 0
 
 -- All that it gives, by the bytes taken: what was said already, and what is said to the bytes from here.
 abbrev pub course_of : {S : Type 0} → Step S → Served S → List ℕ → List ℕ

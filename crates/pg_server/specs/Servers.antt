@@ -21,6 +21,10 @@ pub record Heard (S : Type 0) : Type 0 where
 abbrev pub heard_of : {H S : Type 0} → (H → S) → Server H → Heard S
 heard_of state server = record { standing = standing_of state server.session; left = server.left.items }
 
+-- it hasn't been fed
+abbrev pub new_heard : {S : Type 0} → S → (startup : List ℕ) → Heard S
+new_heard state startup = record { standing = unfed state startup; left = [] }
+
 -- what is said to bytes behind those that are left
 abbrev pub fed_with : {S : Type 0} → Step S → Heard S → List ℕ → Said S
 fed_with step at bytes = said_to step at.standing (at.left ++ bytes)
@@ -29,7 +33,7 @@ fed_with step at bytes = said_to step at.standing (at.left ++ bytes)
 
 -- a server that hasn't been fed, unless the startup is none
 abbrev pub Makes : {H S : Type 0} → (H → S) → H → (startup : List ℕ) → Result (Server H) ServerFault → Type 0
-Makes state handler startup (Ok server) = (is_startup startup ≡ true) × (heard_of state server ≡ record { standing = unfed (state handler) startup; left = [] })
+Makes state handler startup (Ok server) = (is_startup startup ≡ true) × (heard_of state server ≡ new_heard (state handler) startup)
 Makes state handler startup (Err faults.BadStartup) = is_startup startup ≡ false
 Makes state handler startup (Err fault) = ⊥
 

@@ -2,10 +2,8 @@
 
 ghost use Rattle.std.specs.Prelude.{◌≡◌, ◌<◌, ◌≤◌, length, false, None, option_map};
 ghost use Rattle.pg_wire.specs.LinkCalls.{Keeps, KeepsPromise, ReadAnswers, WriteAnswers, FlushAnswers, ShutdownAnswers, WaitAnswers, IsInCourse, gave, took};
-ghost use Rattle.pg_server.specs.Crossings.{untouched};
 ghost use Rattle.pg_server.specs.Reaches.{reach_of};
 ghost use Rattle.pg_server.specs.Servers.{heard_of};
-ghost use Rattle.pg_server.specs.ServerLinks.{Reads, TakesUp, TakesIn, StopsBy, Flushes, EndsWriting, AwaitsBytes, front_by, served_of, link_of};
 
 use crate::fault::ServerFault;
 use crate::handler::Handler;
@@ -25,15 +23,18 @@ pub struct ServerLink<H> {
     server: Server<H>,
     traffic: Traffic,
     fault: Option<ServerFault>,
+    ghost fails: { fault ≡ None → traffic.faults ≡ 0 },
 }
 
 impl<H: Handler> ServerLink<H> {
+    ghost use Rattle.pg_server.specs.ServerLinks.{FailsByFault, served_of, link_of, new_link};
+
     /// A link to this server, which gives at most `cut` bytes a read and takes at most `room` bytes a write. It takes no
     /// memory.
     pub fn new(alloc: Global, server: Server<H>, cut: usize, room: usize) -> ServerLink<H>
         requires cut { 0 < cut }
         requires room { 0 < room }
-        ensures { served_of H.state result ≡ record { heard = heard_of H.state server; crossed = untouched cut room; fault = None } }
+        ensures { served_of H.state result ≡ new_link (heard_of H.state server) cut room }
     {
         ServerLink {
             server,
@@ -55,9 +56,18 @@ impl<H: Handler> ServerLink<H> {
     {
         let _ = &self.server;
     }
+
+    /// A law, which does nothing when it runs: no call fails before the server has a fault.
+    pub fn fault_law(&self)
+        ensures { FailsByFault (served_of H.state self.now) }
+    {
+        let _ = &self.fault;
+    }
 }
 
 impl<H: Handler> ServerLink<H> {
+    ghost use Rattle.pg_server.specs.ServerLinks.{TakesUp, TakesIn, StopsBy, front_by, served_of, link_of};
+
     /// The server has a fault, where `n` bytes were taken.
     fn stop(&mut self, n: usize, fault: ServerFault) -> LinkWrite
         requires { n ≤ length (served_of H.state self.old).crossed.taken }
@@ -75,8 +85,8 @@ impl<H: Handler> ServerLink<H> {
             }
             _ => {
                 self.traffic.take_back(n);
-                self.traffic.fail();
                 self.fault = Some(fault);
+                self.traffic.fail();
                 LinkWrite::Failed
             }
         }
@@ -131,6 +141,8 @@ impl<H: Handler> ServerLink<H> {
 }
 
 impl<H: Handler> Link for ServerLink<H> {
+    ghost use Rattle.pg_server.specs.ServerLinks.{Reads, TakesUp, Flushes, EndsWriting, AwaitsBytes, served_of, link_of};
+
     ghost view = { λ link. link_of H.step (served_of H.state link) };
 
     fn read(&mut self, out: &mut [u8]) -> LinkRead
