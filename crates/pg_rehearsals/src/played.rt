@@ -5,7 +5,7 @@ ghost use Rattle.std.specs.Prelude.{◌<◌};
 use crate::alike::are_alike;
 use crate::outputs::{output, pieces_of};
 use pg_machine_file::{MachineFile, machine_of};
-use pg_rehearse::{Pieces, rehearse_echo, rehearse_machine};
+use pg_rehearse::{Pieces, echo_link, machine_link, rehearse_echo, rehearse_machine};
 use pg_wire::{MemorySink, MemorySource};
 use std::alloc::{AllocError, Global};
 
@@ -24,7 +24,10 @@ fn with_echo(alloc: Global, session: &str, pieces: Pieces) -> Result<String, All
 {
     let mut source = MemorySource::new(Vec::from_slice(alloc, session.as_bytes())?);
     let mut sink = MemorySink::new(alloc);
-    let status = rehearse_echo(alloc, pieces, &mut source, &mut sink).status;
+    let Ok(mut link) = echo_link(alloc, pieces) else {
+        return Err(AllocError);
+    };
+    let status = rehearse_echo(alloc, &mut source, &mut sink, &mut link).status;
     output(alloc, status, sink.written())
 }
 
@@ -40,7 +43,8 @@ fn with_machine(
 {
     let mut source = MemorySource::new(Vec::from_slice(alloc, session.as_bytes())?);
     let mut sink = MemorySink::new(alloc);
-    let status = rehearse_machine(alloc, machine, pieces, &mut source, &mut sink).status;
+    let mut link = machine_link(alloc, machine, pieces);
+    let status = rehearse_machine(alloc, &mut source, &mut sink, &mut link).status;
     output(alloc, status, sink.written())
 }
 

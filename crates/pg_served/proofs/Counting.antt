@@ -1,5 +1,5 @@
 -- A server that stops before the last request is answered gives fewer ReadyForQuery than there are requests.
-use Rattle.std.proofs.Common.{◌≡◌, ℕ, suc, ◌+◌, ◌<◌, ◌≤◌, Bool, true, false, cond, not, ◌||◌, ◌&&◌, ◌==◌, List, [], ◌∷◌, ◌++◌, refl, sym, ap, ◌∙◌, subst, append-nil, arith, inl, inr, ◌⊎◌, length}
+use Rattle.std.proofs.Common.{◌≡◌, ℕ, suc, ◌+◌, ◌<◌, ◌≤◌, Bool, true, false, cond, not, ◌||◌, ◌==◌, List, [], ◌∷◌, ◌++◌, refl, sym, ap, ◌∙◌, subst, append-nil, arith, inl, inr, ◌⊎◌, length}
 use Rattle.std.specs.Prelude.{IsFalse}
 use Rattle.std.specs.List.{AllByRecursion, list_all, onto_first}
 use Rattle.std.specs.Str.{byte}
@@ -13,6 +13,7 @@ use Rattle.pg_serving.specs.declared.serving.Kind.TheVariants.{Query, Sync, Copy
 use Rattle.pg_serving.specs.Serving.{Service, Serving, Replied, kind_of, joined, served}
 use Rattle.pg_serving.specs.Requests.{SoundAlong, IsRequest, IsReply, OnlyCopiesOpen}
 use Rattle.pg_serving.proofs.ServingLaws.{served-append, front-NotReady, SoundAlong-append, Closes, request-Closes}
+use Rattle.pg_serving.proofs.SessionLaws.{both_true}
 
 -- ---- how many of some messages are ReadyForQuery
 
@@ -52,10 +53,6 @@ readies-sync (m ∷ ms) = by_aside (is_aside m) (readies-sync ms)
     by_aside : (a : Bool) → readies (sync_of ms) ≤ readies ms → readies (cond (not a) (m ∷ sync_of ms) (sync_of ms)) ≤ cond (is_ready m) (suc (readies ms)) (readies ms)
     by_aside true le = less (is_ready m) (readies (sync_of ms)) (readies ms) le
     by_aside false le = same (is_ready m) (readies (sync_of ms)) (readies ms) le
-
-both_true : (a b : Bool) → (a && b) ≡ true → (a ≡ true) × (b ≡ true)
-both_true true b e = (refl, e)
-both_true false b e = absurd cc
 
 true-false : (b : Bool) → b ≡ false → b ≡ true → ⊥
 true-false true e f = absurd cc

@@ -4,6 +4,13 @@ mod Saying
 mod Requests
 mod Sessions
 mod Serving
+mod Crossed
 mod Running
+mod Parts
+mod Booked
+mod Ending
+mod EndingMachine
+mod EndingServer
 mod Played
+mod WorkedEnding
 mod Feeding

@@ -19,7 +19,7 @@ use Rattle.pg_wire.proofs.Cuts.{left_of_one}
 use Rattle.pg_serving.specs.Serving.{Service, Serving, served}
 use Rattle.pg_serving.specs.Requests.{OnlyCopiesOpen, opens_copy}
 use Rattle.pg_serving.specs.Sessions.{AreRequests, begun, frames_of}
-use Rattle.pg_session.proofs.Caused.Frames.{IsQuery, a-query}
+use Rattle.pg_table.proofs.Queries.{IsQuery, a-query}
 use Rattle.pg_served.specs.OneAtATime.{AsksInRequests}
 
 -- ---- a command of a script has its times
@@ -104,7 +104,7 @@ pub record IsOneQuery (b : Booking) : Type 0 where
   pub whole : bytes_left (concat b.parts) ≡ []
   pub frames : frames_of b ≡ record { tag = byte "Q"; body = body } ∷ []
 
-one-query : (b : Booking) → AsksQuery b → IsOneQuery b
+pub one-query : (b : Booking) → AsksQuery b → IsOneQuery b
 one-query b asks =
     let q = asks.query in
     let m : RawMessage = record { tag = byte "Q"; body = q.body } in

@@ -2,13 +2,14 @@
 use Rattle.std.proofs.Common.{◌≡◌, ℕ, zero, suc, ◌<◌, Bool, true, false, not, ◌&&◌, List, [], ◌∷◌, ◌++◌, Option, Some, None, Result, Ok, Err, refl, sym, ap, subst, ◌∙◌, cond, arith, length}
 use Rattle.std.specs.Prelude.{IfSome, IsTrue, option_map}
 use Rattle.std.proofs.lemmas.Grind.{flat_map-append}
+use Rattle.std.proofs.lemmas.Option.{none-some}
 use Rattle.pg_faults.specs.declared.fault.WireFault.{WireFault}
 use Rattle.pg_faults.specs.declared.fault.WireFault.TheVariants.{BadLength}
 use Rattle.pg_spec.specs.Batches.{is_nothing}
 use Rattle.pg_spec.specs.ClientFrames.{ClientFrame, client_frame_of}
 use Rattle.pg_spec.specs.RawMessages.{RawMessage, message_at, message_bytes, messages, bytes_left, has_bad_header}
 use Rattle.pg_spec.specs.Sent.{is_terminate}
-use Rattle.pg_wire.proofs.Cuts.{messages_of_one}
+use Rattle.pg_wire.proofs.Cuts.{messages_of_none, messages_of_one}
 use Rattle.pg_serving.specs.declared.serving.Turn.{Turn}
 use Rattle.pg_serving.specs.declared.serving.Turn.TheVariants.{Silent, Ready, AnswersReady, Answers, TakesData, EndsCopy, Refuses}
 use Rattle.pg_serving.specs.Serving as rules
@@ -16,6 +17,7 @@ use Rattle.pg_serving.specs.Serving.{Replied, served, turn, kind_of, own_or_refu
 use Rattle.pg_serving.specs.Sessions.{spoken}
 use Rattle.pg_serving.specs.Requests.{SoundAlong, asked, is_sound, is_copy_in}
 use Rattle.pg_serving.specs.Tags.{has_two}
+use Rattle.pg_serving.proofs.SessionLaws.{both_true}
 use Rattle.pg_server.specs.declared.fault.ServerFault.{ServerFault}
 use Rattle.pg_server.specs.declared.fault.ServerFault.TheVariants as faults
 use Rattle.pg_server.specs.declared.session.Stage.TheVariants.{Serves, Over}
@@ -37,14 +39,21 @@ pub record SaysFront {S : Type 0} (step : Step S) (at : Standing S) (bytes said 
   pub is : messages bytes ≡ front ++ behind
   pub sound : SoundAlong (service_of step) (serving_of at) front
   pub says : said ≡ spoken (served (service_of step) (serving_of at) front).reply
+  -- without a fault it is what they say to all frames
+  pub all : (said_to step at bytes).fault ≡ None → behind ≡ []
 
 -- nothing was said
-says-nothing : {S : Type 0} (step : Step S) (at : Standing S) (bytes said : List ℕ) → said ≡ [] → SaysFront step at bytes said
-says-nothing step at bytes said none = record { front = []; behind = messages bytes; is = refl; sound = tt; says = none }
+says-nothing : {S : Type 0} (step : Step S) (at : Standing S) (bytes said : List ℕ) → said ≡ [] → ((said_to step at bytes).fault ≡ None → messages bytes ≡ []) → SaysFront step at bytes said
+says-nothing step at bytes said none all = record { front = []; behind = messages bytes; is = refl; sound = tt; says = none; all = all }
 
-both_true : (a b : Bool) → (a && b) ≡ true → (a ≡ true) × (b ≡ true)
-both_true true b e = (refl, e)
-both_true false b e = absurd cc
+some-fault : {S : Type 0} (s : Said S) (fault : ServerFault) → s.fault ≡ Some fault → s.fault ≡ None → ⊥
+some-fault s fault some none = none-some fault (sym none ∙ some)
+
+-- behind Terminate no frame stands, or there is a fault
+over-none : {S : Type 0} (step : Step S) (at : Standing S) (bytes : List ℕ) → at.stage ≡ Over → (said_to step at bytes).fault ≡ None → messages bytes ≡ []
+over-none step at [] over none = refl
+over-none {S = S} step at (b ∷ bytes) over none =
+    absurd (some-fault (said_to step at (b ∷ bytes)) faults.Ended (ap (λ (s : Said S). s.fault) (said_to-stops step at (b ∷ bytes) faults.Ended (ap (at_stage step at (b ∷ bytes)) over))) none)
 
 -- an answer, or another
 abbrev or_else : {X : Type 0} → Option X → X → X
@@ -98,7 +107,7 @@ effect-sound {S = S} step at m frame read good = by_turn (turn at.mode (kind_of 
 -- how it goes on behind a frame
 behind : {S : Type 0} (step : Step S) (next : Standing S) (rest : List ℕ) (t : Bool) → next.stage ≡ cond t Over Serves →
     (next.stage ≡ Serves → SaysFront step next rest (said_to step next rest).said) → SaysFront step next rest (said_to step next rest).said
-behind step next rest true stage later = says-nothing step next rest (said_to step next rest).said (over-silent step next rest stage)
+behind step next rest true stage later = says-nothing step next rest (said_to step next rest).said (over-silent step next rest stage) (over-none step next rest stage)
 behind step next rest false stage later = later stage
 
 -- a frame was answered, and this was said behind it
@@ -118,10 +127,14 @@ says-more {S = S} step at bytes m rest e sound f later =
       says = ap (λ (s : Said S). s.said) (said_to-says step at bytes (spoken r.reply) next rest f)
           ∙ ap (λ (x : List ℕ). spoken r.reply ++ x) later.says
           ∙ sym (flat_map-append message_bytes r.reply (served (service_of step) r.next later.front).reply);
+      all = λ none. later.all (sym (ap (λ (s : Said S). s.fault) (said_to-says step at bytes (spoken r.reply) next rest f)) ∙ none);
     }
 
 stops-silent : {S : Type 0} (step : Step S) (at : Standing S) (bytes : List ℕ) (fault : ServerFault) → front step at bytes ≡ Stops fault → SaysFront step at bytes (said_to step at bytes).said
-stops-silent {S = S} step at bytes fault f = says-nothing step at bytes (said_to step at bytes).said (ap (λ (s : Said S). s.said) (said_to-stops step at bytes fault f))
+stops-silent {S = S} step at bytes fault f =
+    let all = said_to-stops step at bytes fault f in
+    says-nothing step at bytes (said_to step at bytes).said (ap (λ (s : Said S). s.said) all)
+    (λ none. absurd (some-fault (said_to step at bytes) fault (ap (λ (s : Said S). s.fault) all) none))
 
 by_frame : {S : Type 0} (step : Step S) (at : Standing S) (bytes : List ℕ) (m : RawMessage) (rest : List ℕ) (r : Result ClientFrame WireFault) → message_at bytes ≡ Some (m, rest) →
     frame_or_fault m ≡ r → front step at bytes ≡ reading step at m rest r →
@@ -138,15 +151,16 @@ by_frame {S = S} step at bytes m rest (Ok frame) e read f later = by_test (is_br
         says-more step at bytes m rest e (effect-sound step at m frame read is) f
         (later (shorter bytes rest (front-behind step at bytes (spoken (replied step at m).reply) (behind_frame at m (replied step at m).next) rest f)))
 
-by_header : {S : Type 0} (step : Step S) (at : Standing S) (bytes : List ℕ) (bad : Bool) → front step at bytes ≡ serving step at None bad → SaysFront step at bytes (said_to step at bytes).said
-by_header step at bytes true f = stops-silent step at bytes (faults.BadFrame BadLength) f
-by_header {S = S} step at bytes false f = says-nothing step at bytes (said_to step at bytes).said (ap (λ (s : Said S). s.said) (said_to-waits step at bytes f))
+by_header : {S : Type 0} (step : Step S) (at : Standing S) (bytes : List ℕ) (bad : Bool) → message_at bytes ≡ None → front step at bytes ≡ serving step at None bad → SaysFront step at bytes (said_to step at bytes).said
+by_header step at bytes true e f = stops-silent step at bytes (faults.BadFrame BadLength) f
+by_header {S = S} step at bytes false e f =
+    says-nothing step at bytes (said_to step at bytes).said (ap (λ (s : Said S). s.said) (said_to-waits step at bytes f)) (λ none. messages_of_none bytes e)
 
 says-within : {S : Type 0} (step : Step S) (n : ℕ) (at : Standing S) (bytes : List ℕ) → length bytes < n → at.stage ≡ Serves → SaysFront step at bytes (said_to step at bytes).said
 says-within step zero at bytes fits serves = absurd (omega arith)
 says-within {S = S} step (suc n) at bytes fits serves =
     elim (message_at bytes) as (λ o. message_at bytes ≡ o → front step at bytes ≡ serving step at o (has_bad_header bytes) → SaysFront step at bytes (said_to step at bytes).said) [
-      | None ↦ λ e f. by_header step at bytes (has_bad_header bytes) f
+      | None ↦ λ e f. by_header step at bytes (has_bad_header bytes) e f
       | Some m ↦ λ e f. by_frame step at bytes m.0 m.1 (frame_or_fault m.0) e refl f
           (λ less. behind step (behind_frame at m.0 (replied step at m.0).next) m.1 (is_terminate m.0) refl
           (says-within step n (behind_frame at m.0 (replied step at m.0).next) m.1 (omega (arith, fits, less))))

@@ -14,15 +14,14 @@ use Rattle.pg_spec.specs.RawMessages.{RawMessage, messages, bytes_left}
 use Rattle.pg_spec.specs.Sent.{after_startup_frame}
 use Rattle.pg_spec.specs.Settings.{Settings, startup_parameters}
 use Rattle.pg_spec.specs.Startup.{Startup, startup, session_part, used_of, dialogue, begun_by, First, plain_login}
-use Rattle.pg_spec.proofs.MessageLaws.{messages-append, messages-join}
+use Rattle.pg_spec.proofs.MessageLaws.{messages-join}
 use Rattle.pg_spec.proofs.Readers.{bytes_at_front, number_at_front}
 use Rattle.pg_spec.proofs.SentLaws.{after_startup_frame-front}
-use Rattle.pg_serving.specs.declared.serving.Mode.{Mode}
-use Rattle.pg_serving.specs.declared.serving.Mode.TheVariants.{Normal, Skip, CopyIn}
 use Rattle.pg_serving.specs.Serving.{Service, Serving, Replied, served, joined}
 use Rattle.pg_serving.specs.Requests.{SoundAlong}
-use Rattle.pg_serving.specs.Sessions.{AreRequests, IsOver, begun, frames_of, spoken}
+use Rattle.pg_serving.specs.Sessions.{IsOver, begun, frames_of, spoken}
 use Rattle.pg_serving.proofs.ServingLaws.{served-append, SoundAlong-append, replies-Fit}
+use Rattle.pg_serving.proofs.SessionLaws.{AllRequests, silent-Terminate, terminate, terminate-messages, wire-messages}
 use Rattle.pg_server.specs.declared.fault.ServerFault.{ServerFault}
 use Rattle.pg_server.specs.declared.fault.ServerFault.TheVariants as faults
 use Rattle.pg_server.specs.declared.session.Stage.TheVariants.{Serves}
@@ -37,12 +36,12 @@ use Rattle.pg_session.proofs.Caused.Frames.{Written, written}
 use Rattle.pg_served.specs.OneAtATime.{AsksInRequests}
 use Rattle.pg_served.proofs.Counting.{readies, readies-append, groups-readies, split, fewer}
 use Rattle.pg_served.proofs.Saying.{SaysFront, says-front}
-use Rattle.pg_served.proofs.Sessions.{HasBegun, has-begun, none-done, all-requests}
+use Rattle.pg_served.proofs.Sessions.{HasBegun, has-begun, none-done}
 use Rattle.pg_served.proofs.Starting.{IsDone, HasStarted}
 
 -- ---- the startup frame is what a server looks for
 
-startup-found : (pairs : List (List ℕ × List ℕ)) (frame more : List ℕ) → startup_frame pairs ≡ Ok frame →
+pub startup-found : (pairs : List (List ℕ × List ℕ)) (frame more : List ℕ) → startup_frame pairs ≡ Ok frame →
     (opening_in_front (frame ++ more) ≡ opening.Starts more) ⊎ ((fault : ServerFault) × (opening_in_front (frame ++ more) ≡ opening.Breaks fault))
 startup-found pairs frame more e = by_length (is_length n) refl
   where
@@ -89,13 +88,13 @@ startup-found pairs frame more e = by_length (is_length n) refl
         inr (faults.BadFrame BadLength, found ∙ ap (λ b. cond b (opening_behind n (startup_body pairs ++ more)) (opening.Breaks (faults.BadFrame BadLength))) is)
 
 -- what a startup that is done wrote first
-record WroteFirst (s : Settings) (at : Startup) : Type 0 where
-  frame : List ℕ
-  others : List (List ℕ)
-  written : startup_frame (startup_parameters s) ≡ Ok frame
-  frames : at.frames ≡ frame ∷ others
+pub record WroteFirst (s : Settings) (at : Startup) : Type 0 where
+  pub frame : List ℕ
+  pub others : List (List ℕ)
+  pub written : startup_frame (startup_parameters s) ≡ Ok frame
+  pub frames : at.frames ≡ frame ∷ others
 
-wrote-first : (s : Settings) (nonce : List ℕ) (ms : List RawMessage) → IsDone (startup s nonce ms) → WroteFirst s (startup s nonce ms)
+pub wrote-first : (s : Settings) (nonce : List ℕ) (ms : List RawMessage) → IsDone (startup s nonce ms) → WroteFirst s (startup s nonce ms)
 wrote-first s nonce ms done = by_frame (startup_frame (startup_parameters s)) refl done
   where
     by_frame : (frame : Result (List ℕ) FrameFault) → startup_frame (startup_parameters s) ≡ frame → IsDone (begun_by frame (dialogue (plain_login s nonce) First ms)) → WroteFirst s (startup s nonce ms)
@@ -108,34 +107,6 @@ wrote-first s nonce ms done = by_frame (startup_frame (startup_parameters s)) re
     by_frame (Err fault) is d = absurd cc
 
 -- ---- the frames that were sent
-
-terminate : RawMessage
-terminate = record { tag = 88; body = [] }
-
-terminate-messages : messages terminate_frame ≡ terminate ∷ []
-unfolding terminate
-terminate-messages = refl
-
--- the frames of whole requests and of what follows them
-wire-messages : (book : List Booking) (more : List ℕ) → AreRequests book → messages (wire book ++ more) ≡ joined (map frames_of book) ++ messages more
-wire-messages [] more are = refl
-wire-messages (b ∷ book) more are =
-    let bytes : List ℕ = concat b.parts in
-    ap messages (append_assoc bytes (wire book) more)
-    ∙ messages-append bytes (wire book ++ more)
-    ∙ ap (λ left. messages bytes ++ messages (left ++ (wire book ++ more))) are.0.0
-    ∙ ap (λ later. messages bytes ++ later) (wire-messages book more are.1)
-    ∙ sym (append_assoc (frames_of b) (joined (map frames_of book)) (messages more))
-
--- Terminate is answered by nothing
-silent-terminate : {S : Type 0} (service : Service S) (at : Serving S) → (served service at (terminate ∷ [])).reply ≡ []
-unfolding terminate
-silent-terminate service at = by_mode at.mode
-  where
-    by_mode : (mode : Mode) → (served service (record { state = at.state; mode = mode }) (terminate ∷ [])).reply ≡ []
-    by_mode Normal = refl
-    by_mode Skip = refl
-    by_mode CopyIn = refl
 
 -- all requests, and Terminate or nothing behind them
 data Reaches (frames front : List RawMessage) : Type 0 where
@@ -168,7 +139,7 @@ length-frames (b ∷ book) = ap suc (length-frames book)
 -- ---- the session
 
 -- what a server stands at behind the startup frame
-abbrev behind_startup : {S : Type 0} → S → List ℕ → Standing S
+abbrev pub behind_startup : {S : Type 0} → S → List ℕ → Standing S
 behind_startup state bytes = record (unfed state bytes) { stage = Serves }
 
 -- the session is one over a server by the rules, each of whose answers is sound
@@ -248,7 +219,7 @@ served-session {S = S} step state bytes s taken due ended form all asks = by_ope
         = λ fs xs e none. ap (λ (x : List RawMessage). (served service (begun state) x).reply) e ∙ ap (λ (r : Replied S). r.reply) (served-append service (begun state) (joined requests) xs)
         ∙ ap (λ (r : List RawMessage). (served service (begun state) (joined requests)).reply ++ r) none ∙ append-nil (served service (begun state) (joined requests)).reply in
         let same : (served service (begun state) f.front).reply ≡ (served service (begun state) (messages rest)).reply
-        = to f.front later is silent ∙ sym (to (messages rest) (terminate ∷ []) frames (silent-terminate service at)) in
+        = to f.front later is silent ∙ sym (to (messages rest) (terminate ∷ []) frames (silent-Terminate service at)) in
         let r : rest ≡ wire s.report.book ++ terminate_frame = rest-is b.started b.same in
         record {
           over = record {
@@ -262,10 +233,10 @@ served-session {S = S} step state bytes s taken due ended form all asks = by_ope
       where
         quiet : (at : Serving S) → (later ≡ []) ⊎ (later ≡ terminate ∷ []) → (served service at later).reply ≡ []
         quiet at (inl e) = ap (λ (x : List RawMessage). (served service at x).reply) e
-        quiet at (inr e) = ap (λ (x : List RawMessage). (served service at x).reply) e ∙ silent-terminate service at
+        quiet at (inr e) = ap (λ (x : List RawMessage). (served service at x).reply) e ∙ silent-Terminate service at
     by_front b given f frames (Part frame more is) =
         let reply : List RawMessage = (served service (begun state) f.front).reply in
-        let few : readies reply < length requests = fewer service (begun state) requests f.front frame more refl (all-requests s.report.book asks.requests) asks.only_copies_open f.sound is in
+        let few : readies reply < length requests = fewer service (begun state) requests f.front frame more refl (AllRequests s.report.book asks.requests) asks.only_copies_open f.sound is in
         let heard : messages (said_to step (behind_startup state bytes) rest).said ≡ reply
         = ap messages (f.says ∙ sym (append-nil (spoken reply))) ∙ messages-join reply [] (replies-Fit service (begun state) f.front f.sound) ∙ append-nil reply in
         let tail : List RawMessage = messages (bytes_left s.given ++ due) in

@@ -1,11 +1,11 @@
 -- A session that ended well over a server: what the server is to each request where it is fed one at a time.
-use Rattle.std.proofs.Common.{◌≡◌, ℕ, true, List, [], ◌∷◌, ◌++◌, Option, Some, None, Result, Ok, Err, refl, sym, ap, ◌∙◌, subst, append-nil, inl, inr, length, drop}
+use Rattle.std.proofs.Common.{◌≡◌, ℕ, true, List, [], ◌∷◌, ◌++◌, Option, Some, None, Result, Ok, Err, refl, sym, ap, ◌∙◌, subst, append-nil, length, drop}
 use Rattle.std.specs.Prelude.{map, unwrap_or, option_map, slice_get}
 use Rattle.std.specs.List.{AllByRecursion}
 use Rattle.std.proofs.lemmas.List.{drop_at}
 use Rattle.pg_promises.specs.EndedWell.{Session, EndedWell, replies, answer_of}
 use Rattle.pg_spec.specs.Batches.{is_nothing}
-use Rattle.pg_spec.specs.Book.{Booking, request_of}
+use Rattle.pg_spec.specs.Book.{request_of}
 use Rattle.pg_spec.specs.Faults.{FrameFault, Frame, Encode}
 use Rattle.pg_spec.specs.Frames.{startup_frame, query_frame}
 use Rattle.pg_spec.specs.RawMessages.{RawMessage, messages, bytes_left, groups, sync_of}
@@ -15,17 +15,17 @@ use Rattle.pg_spec.specs.Settings.{Settings, startup_parameters}
 use Rattle.pg_spec.specs.SimpleQuery.{simple_reading}
 use Rattle.pg_spec.specs.Startup.{Startup, Outcome, Done, Refused, More, startup, session_part, used_of, begun_by}
 use Rattle.pg_spec.proofs.MessageLaws.{messages-append, messages-join, Fits}
-use Rattle.pg_spec.proofs.StartupLaws.{IsOpenOr, startup-append}
 use Rattle.pg_wire.proofs.Cuts.{messages-behind}
 use Rattle.pg_serving.specs.Serving.{Service, served, joined}
-use Rattle.pg_serving.specs.Requests.{IsRequest, IsReply, SoundAlong}
+use Rattle.pg_serving.specs.Requests.{IsReply, SoundAlong}
 use Rattle.pg_serving.specs.Sessions.{AreRequests, IsExchange, IsStartup, IsOver, alone, begun, frames_of, spoken}
 use Rattle.pg_serving.proofs.ServingLaws.{served-joined, replies-Fit, requests-IsReply, replies-groups}
-use Rattle.pg_serving.proofs.SessionLaws.{session-alone}
+use Rattle.pg_serving.proofs.SessionLaws.{AllRequests, both_true, session-alone}
+use Rattle.pg_session.proofs.Complete.Start.{same-later}
 use Rattle.pg_server.specs.Startups.{are_startup, is_startup}
 use Rattle.pg_served.specs.OneAtATime.{AsksInRequests, IsOneAtATime, fed_alone}
 use Rattle.pg_served.proofs.Requests.{some-times}
-use Rattle.pg_served.proofs.Starting.{IsDone, HasStarted, startup-done, nothing, both_true}
+use Rattle.pg_served.proofs.Starting.{IsDone, HasStarted, startup-done, nothing}
 
 -- ---- the startup
 
@@ -36,11 +36,7 @@ not-both used More done more = absurd cc
 
 -- messages behind a startup that is done change nothing
 pub stays-done : (s : Settings) (nonce : List ℕ) (ms more : List RawMessage) → IsDone (startup s nonce ms) → startup s nonce (ms ++ more) ≡ startup s nonce ms
-stays-done s nonce ms more done = by_more (startup-append s nonce ms more)
-  where
-    by_more : IsOpenOr (startup s nonce ms) (startup s nonce (ms ++ more)) → startup s nonce (ms ++ more) ≡ startup s nonce ms
-    by_more (inl open_) = absurd (not-both done.0 (startup s nonce ms).outcome done.1 open_)
-    by_more (inr same) = same
+stays-done s nonce ms more done = same-later s nonce ms more done.0 done.1
 
 -- so it isn't done before any message came
 pub none-done : (s : Settings) (nonce : List ℕ) → IsDone (startup s nonce []) → ⊥
@@ -87,10 +83,6 @@ answer-by a b (Simple text take) request same =
     ]) same
 
 -- ---- the session
-
-pub all-requests : (book : List Booking) → AreRequests book → AllByRecursion IsRequest (map frames_of book)
-all-requests [] are = tt
-all-requests (b ∷ book) are = (are.0.1, all-requests book are.1)
 
 -- it gave its startup, and then what the frames are replied
 gives-begun : {S : Type 0} (service : Service S) (begins : S) (s : Settings) (nonce bytes given taken : List ℕ) → is_startup bytes ≡ true → IsOver service begins bytes given taken →
@@ -143,7 +135,7 @@ alone-session {S = S} service begins bytes s taken ended form over sound asks =
     let same : replies s ≡ map sync_of (alone service begins s.report.book)
     = session-alone service begins s.settings s.nonce s.report.book bytes s.given taken exchange st over asks.requests (record { sound = sound; only_copies_open = asks.only_copies_open }) in
     let each : AllByRecursion IsReply (alone service begins s.report.book)
-    = requests-IsReply service (begun begins) (map frames_of s.report.book) refl (all-requests s.report.book asks.requests) sound asks.only_copies_open in
+    = requests-IsReply service (begun begins) (map frames_of s.report.book) refl (AllRequests s.report.book asks.requests) sound asks.only_copies_open in
     let there = alone-replies service begins bytes s started b.whole asks.requests sound each in
     record {
       groups = same;

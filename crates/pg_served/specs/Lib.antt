@@ -1,2 +1,4 @@
 pub mod OneAtATime
 pub mod Runs
+pub mod Conforming
+pub mod Promised

@@ -11,11 +11,10 @@ ghost use Rattle.pg_machine.specs.Machines as machines;
 ghost use Rattle.pg_machine.specs.MachineLinks as machine_links;
 ghost use Rattle.pg_server.specs.Handlers.{Step, service_of};
 ghost use Rattle.pg_server.specs.ServerLinks as server_links;
-ghost use Rattle.pg_server.specs.Servers.{Heard};
 ghost use Rattle.pg_server.specs.Startups.{is_startup};
 ghost use Rattle.pg_tool.specs.SessionContract.{IsEndedWell};
 ghost use Rattle.pg_served.specs.OneAtATime.{AsksInRequests};
-ghost use Rattle.pg_served.specs.Runs.{IsUnfed, RanOneAtATime, new_machine_link, new_server_link};
+ghost use Rattle.pg_served.specs.Runs.{IsNewMachine, IsNewServer, RanOneAtATime};
 
 /// What simple queries book are requests, and they open no copy of any server.
 pub fn simple_queries_are_requests<S>()
@@ -27,16 +26,16 @@ pub fn simple_queries_are_requests<S>()
 /// bookings are requests of which only copies open a copy, the server's reply to each request is what it is where the
 /// requests are fed one at a time.
 pub fn a_session_over_a_server_is_one_at_a_time<S>()
-    ensures { (step : Step S) (heard : Heard S) (cut room : ℕ) (after : server_links.Served S) (call : Call) (report : Report) (state : S) (startup : List ℕ) →
-        call.before ≡ server_links.link_of step (new_server_link heard cut room) → call.after ≡ server_links.link_of step after → Continues call.before call.after →
-        IsEndedWell call report → IsUnfed heard state startup → AsksInRequests (service_of step) state report.book →
+    ensures { (step : Step S) (old new : server_links.Served S) (call : Call) (report : Report) (state : S) (startup : List ℕ) →
+        call.before ≡ server_links.link_of step old → call.after ≡ server_links.link_of step new → Continues call.before call.after →
+        IsEndedWell call report → IsNewServer old state startup → AsksInRequests (service_of step) state report.book →
         RanOneAtATime (service_of step) state startup call report }
 {}
 
 /// The same over a link to a machine.
 pub fn a_session_over_a_machine_is_one_at_a_time()
-    ensures { (table : machines.Table) (startup : List ℕ) (cut room : ℕ) (after : machine_links.Served) (call : Call) (report : Report) →
-        call.before ≡ machine_links.link_of (new_machine_link table startup cut room) → call.after ≡ machine_links.link_of after → Continues call.before call.after →
-        IsEndedWell call report → machines.IsMachine table → is_startup startup ≡ true → AsksInRequests (machines.service_of table) 0 report.book →
-        RanOneAtATime (machines.service_of table) 0 startup call report }
+    ensures { (table : machines.Table) (startup : List ℕ) (old new : machine_links.Served) (call : Call) (report : Report) →
+        call.before ≡ machine_links.link_of old → call.after ≡ machine_links.link_of new → Continues call.before call.after →
+        IsEndedWell call report → machines.IsMachine table → IsNewMachine old table startup → is_startup startup ≡ true →
+        AsksInRequests (machines.service_of table) 0 report.book → RanOneAtATime (machines.service_of table) 0 startup call report }
 {}

@@ -4,7 +4,9 @@
 ghost use Rattle.std.specs.Prelude.{◌≡◌, ◌<◌};
 
 use pg_machine_file::{FileFault, machine_of};
-use pg_rehearse::{Outcome, Pieces, pieces_of, rehearse_echo, rehearse_machine};
+use pg_rehearse::{
+    Outcome, Pieces, echo_link, machine_link, pieces_of, rehearse_echo, rehearse_machine,
+};
 use pg_wire::{ReadSource, WriteSink};
 use std::process::ExitCode;
 use std::{env, fs, io, mem};
@@ -66,9 +68,13 @@ fn echo(rt: &HostRuntime, pieces: Pieces) -> u8
     requires cut { 0 < pieces.cut }
     requires room { 0 < pieces.room }
 {
+    let mut link = match echo_link(rt.alloc(), pieces) {
+        Ok(link) => link,
+        Err(_) => return OUT_OF_MEMORY,
+    };
     let mut source = ReadSource::new(rt.reader());
     let mut sink = WriteSink::new(io::writer(rt));
-    status_of(rehearse_echo(rt.alloc(), pieces, &mut source, &mut sink))
+    status_of(rehearse_echo(rt.alloc(), &mut source, &mut sink, &mut link))
 }
 
 /// A session text on standard input against the machine of a file.
@@ -85,9 +91,10 @@ fn machine(rt: &HostRuntime, file: &str, pieces: Pieces) -> u8
         Ok(file) => file,
         Err(fault) => return refuse_machine(rt, fault),
     };
+    let mut link = machine_link(rt.alloc(), file, pieces);
     let mut source = ReadSource::new(rt.reader());
     let mut sink = WriteSink::new(io::writer(rt));
-    status_of(rehearse_machine(rt.alloc(), file, pieces, &mut source, &mut sink))
+    status_of(rehearse_machine(rt.alloc(), &mut source, &mut sink, &mut link))
 }
 
 /// Does what the words ask for.

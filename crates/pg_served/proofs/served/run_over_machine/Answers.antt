@@ -1,6 +1,4 @@
-use Rattle.std.proofs.Common.{refl}
-use Rattle.pg_machine.specs.MachineLinks as machine_links
-use Rattle.pg_served.specs.Runs.{Asked, new_machine_link}
+use Rattle.pg_served.specs.Runs.{Asked}
 use Rattle.pg_served.proofs.Played.{machine-session}
 use Rattle.pg_served.proofs.served.run_over_machine.Goals as goal
 
@@ -12,9 +10,5 @@ returns c =
       scripts = c.args.scripts.now;
       turns = c.args.turns.now;
       limit = c.args.max_bytes;
-      before = machine_links.link_of (new_machine_link c.args.machine c.args.startup c.args.cut c.args.room);
     } in
-    record {
-      session = machine-session c.args.machine c.args.startup c.args.cut c.args.room c.new-link.result c.run_session.new.link asked c.run_session.result refl
-          c.new-link.ensures c.run_session.ensures.session c.run_session.ensures.played;
-    }
+    machine-session asked c.args.link.now c.run_session.new.link c.run_session.result c.rules_law.ensures c.run_session.ensures.session c.run_session.ensures.by_table c.run_session.ensures.played

@@ -1,0 +1,73 @@
+-- When a session over a server of the repository must end well, in the words of its caller.
+use Rattle.std.specs.Prelude.{◌≡◌, ℕ, ◌≤◌, ◌<◌, List, ◌++◌, length, map, Option, None, Err, All, IsSome, IsTrue}
+use Rattle.std.specs.List.{list_all}
+use Rattle.pg_promises.specs.Causes.{Call, NeedsNoTls}
+use Rattle.pg_promises.specs.ConnectionStrings.{Means}
+use Rattle.pg_promises.specs.Promises.{EndsWell, InScriptOrder}
+use Rattle.pg_spec.specs.Asides.{is_readable}
+use Rattle.pg_spec.specs.Book.{Booking, wire}
+use Rattle.pg_spec.specs.Faults.{Io, Link}
+use Rattle.pg_spec.specs.Frames.{terminate_frame}
+use Rattle.pg_spec.specs.Passwords.{is_nonce}
+use Rattle.pg_spec.specs.RawMessages.{RawMessage, messages}
+use Rattle.pg_spec.specs.Report.{Command}
+use Rattle.pg_spec.specs.Settings.{Settings}
+use Rattle.pg_serving.specs.Serving.{Service, joined, served}
+use Rattle.pg_serving.specs.Sessions.{IsStartup, begun, frames_of, spoken}
+use Rattle.pg_machine.specs.Machines as machines
+use Rattle.pg_machine.specs.MachineLinks as machine_links
+use Rattle.pg_server.specs.declared.fault.ServerFault.{ServerFault}
+use Rattle.pg_server.specs.Handlers.{Step, service_of}
+use Rattle.pg_server.specs.Hearing.{said_to}
+use Rattle.pg_server.specs.ServerLinks as server_links
+use Rattle.pg_server.specs.Standings.{unfed}
+use Rattle.pg_tool.specs.SessionContract.{SessionResult}
+use Rattle.pg_served.specs.Runs.{Asked, IsNewMachine, IsNewServer, call_over_machine, call_over_server}
+
+-- what the client owes: the settings name a user and require no TLS, and the nonce is in form
+pub record IsValid (call : Call) (s : Settings) : Type 0 where
+  pub user : IsSome s.user
+  pub nonce : IsTrue (is_nonce call.nonce)
+  pub no_tls : NeedsNoTls s
+
+-- these requests may be booked: each handle's are those of its script, from the front
+pub record MayBook (scripts : List (List Command)) (book : List Booking) : Type 0 where
+  pub owners : All (λ b. b.stamp.owner < length scripts) book
+  pub order : InScriptOrder scripts book
+
+-- what a server replies to these requests
+abbrev pub reply_to : {S : Type 0} → Service S → S → List Booking → List RawMessage
+reply_to service begins book = (served service (begun begins) (joined (map frames_of book))).reply
+
+-- Each notice, notification and parameter report that it gives can be read, and all that it gives is within the limit.
+pub record GivesWell {S : Type 0} (service : Service S) (begins : S) (startup : List ℕ) (limit : ℕ) (book : List Booking) : Type 0 where
+  pub readable : IsTrue (list_all is_readable (messages startup ++ reply_to service begins book))
+  pub within : length (startup ++ spoken (reply_to service begins book)) ≤ limit
+
+-- what such a server owes: a startup that asks for nothing of these settings, and then as much for any requests that may be booked
+pub record Conforms {S : Type 0} (call : Call) (s : Settings) (service : Service S) (begins : S) (startup : List ℕ) : Type 0 where
+  pub starts : IsStartup s call.nonce startup
+  pub gives : (book : List Booking) → MayBook call.scripts book → GivesWell service begins startup call.limit book
+
+-- it has no fault for what a session with such requests sends
+abbrev pub HasNoFault : {S : Type 0} → Step S → S → (startup frame : List ℕ) → List Booking → Type 0
+HasNoFault step state startup frame book = (said_to step (unfed state startup) (frame ++ wire book ++ terminate_frame)).fault ≡ None
+
+-- the answer is Ok, want of memory, or that the link failed, where the server has a fault
+abbrev pub EndsWellUnless : Option ServerFault → SessionResult → Type 0
+EndsWellUnless fault (Err (Io Link)) = IsSome fault
+EndsWellUnless fault result = EndsWell result
+
+-- Over a link that was just made, valid input to a server that conforms and has no fault for any such requests ends well.
+abbrev pub ServerMustEndWell : {S : Type 0} → Step S → Asked → (old new : server_links.Served S) → SessionResult → Type 0
+ServerMustEndWell {S} step asked old new result = (state : S) (startup : List ℕ) (s : Settings) → IsNewServer old state startup →
+    Means asked.config s → IsValid (call_over_server step asked old new) s →
+    (c : Conforms (call_over_server step asked old new) s (service_of step) state startup) →
+    ((book : List Booking) → MayBook (call_over_server step asked old new).scripts book → HasNoFault step state startup c.starts.frame book) →
+    EndsWellUnless new.fault result
+
+-- The same of a machine, which never has one.
+abbrev pub MachineMustEndWell : Asked → (old new : machine_links.Served) → SessionResult → Type 0
+MachineMustEndWell asked old new result = (table : machines.Table) (startup : List ℕ) (s : Settings) → IsNewMachine old table startup →
+    Means asked.config s → IsValid (call_over_machine asked old new) s →
+    Conforms (call_over_machine asked old new) s (machines.service_of table) 0 startup → EndsWell result
