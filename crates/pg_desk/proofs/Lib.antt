@@ -4,3 +4,5 @@ pub mod Parts
 pub mod Pieces
 pub mod Soundness
 pub mod ReadyTags
+pub mod Cached
+pub mod Changes

@@ -13,7 +13,7 @@ use Rattle.pg_desk.specs.declared.event.Put.TheVariants as putting
 use Rattle.pg_desk.specs.declared.event.Out.TheVariants as out
 use Rattle.pg_desk.specs.declared.event.Deliver.TheVariants as delivering
 use Rattle.pg_desk.specs.declared.event.Event.{Event}
-use Rattle.pg_desk.specs.declared.event.Event.TheVariants.{Book, Put as PutEvent, EndCopy, Take as TakeEvent, HangUp, NextStatement, NextPortal, NextOut, Deliver as DeliverEvent, CloseRequests, Fail}
+use Rattle.pg_desk.specs.declared.event.Event.TheVariants.{Book, Put as PutEvent, EndCopy, Take as TakeEvent, HangUp, NextStatement, NextPortal, Catalog as CatalogEvent, NextOut, Deliver as DeliverEvent, CloseRequests, Fail}
 use Rattle.pg_desk.proofs.Pieces.{open-first, open-later, last-first, last-later, reply-none}
 use Rattle.pg_desk.proofs.Owners.{given-own, given-other, finished-more, owners-more, given-between, ended-counted, open-less, owner-counted}
 use Rattle.pg_desk.specs.Kept.{after-joined, legal-later}
@@ -21,7 +21,7 @@ use Rattle.pg_desk.specs.Order.{OneAfterAnother, AllParts, FewWait, GoesInOrder,
 use Rattle.pg_desk.proofs.Parts.{extended-length, wire-more, all-more, all-extended, order-more, order-extended, order-cleared, few-more, few-extended, few-ended, few-waits, few-up, take-extended, started-more, started-extended, started-up, GoesOut, goes-out}
 use Rattle.std.specs.Prelude.{unwrap_or}
 use Rattle.std.proofs.lemmas.List.{length_push, length-set, take-append-drop}
-use Rattle.pg_desk.specs.History.{Change, Booked, Added, Ended, Took, LetGo, DrewStatement, DrewPortal, WentOut, Came, ClosedAll, FailedAll, Nothing, change_of, changed, Admits, State, Delivery, Taken, start, wire, is_copying, is_running, extended, parts_waiting, started_of, finished, given, between_ends, has_ended, may_let_go, is_open, first_from, oldest_open, has_open, next_owner, IsOldestOpen, BelongsToOldest, taken, waiting, is_in, is_hung_up, after, after_all, take_of_waiting, take_answer, last_out, out_answer, Allows, IsLegal, received, reply, joined, IsFrontOf, IsSound}
+use Rattle.pg_desk.specs.History.{Change, Booked, Added, Ended, Took, LetGo, DrewStatement, DrewPortal, Catalogued, WentOut, Came, ClosedAll, FailedAll, Nothing, change_of, changed, Admits, State, Delivery, Taken, start, wire, is_copying, is_running, extended, parts_waiting, started_of, finished, given, between_ends, has_ended, may_let_go, is_open, first_from, oldest_open, has_open, next_owner, IsOldestOpen, BelongsToOldest, taken, waiting, is_in, is_hung_up, after, after_all, take_of_waiting, take_answer, last_out, out_answer, Allows, IsLegal, received, reply, joined, IsFrontOf, IsSound}
 
 pub taken-own : (k : ℕ) (ts : List Taken) (t : Taken) → t.id ≡ k → taken k (ts ++ t ∷ []) ≡ taken k ts ++ t.messages ∷ []
 taken-own k [] t e = grind (arith, nat_tests)
@@ -347,6 +347,7 @@ admitted s (NextStatement (Ok n)) a = a.0
 admitted s (NextStatement (Err e)) a = tt
 admitted s (NextPortal (Ok n)) a = a.0
 admitted s (NextPortal (Err e)) a = tt
+admitted s (CatalogEvent call) a = tt
 admitted s (NextOut (Ok (out.Part part))) a = a
 admitted s (NextOut (Ok out.CopyWaits)) a = tt
 admitted s (NextOut (Ok out.Nothing)) a = tt
@@ -371,6 +372,7 @@ kept-by s (WentOut part) h a = kept-out s part h a.1
 kept-by s (Came batch complete) h a = kept-deliver s batch complete h a
 kept-by s DrewStatement h a = same-kept s (changed s DrewStatement) refl refl refl refl refl refl h
 kept-by s DrewPortal h a = same-kept s (changed s DrewPortal) refl refl refl refl refl refl h
+kept-by s (Catalogued call) h a = same-kept s (changed s (Catalogued call)) refl refl refl refl refl refl h
 kept-by s ClosedAll h a = same-kept s (changed s ClosedAll) refl refl refl refl refl refl h
 kept-by s FailedAll h a = same-kept s (changed s FailedAll) refl refl refl refl refl refl h
 kept-by s Nothing h a = h

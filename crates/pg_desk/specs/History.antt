@@ -10,8 +10,10 @@ use Rattle.pg_desk.specs.declared.event.Put.TheVariants as putting
 use Rattle.pg_desk.specs.declared.event.Out.{Out}
 use Rattle.pg_desk.specs.declared.event.Out.TheVariants as out
 use Rattle.pg_desk.specs.declared.event.Deliver.TheVariants as delivering
+use Rattle.pg_desk.specs.declared.event.CatalogCall.{CatalogCall}
 use Rattle.pg_desk.specs.declared.event.Event.{Event}
-use Rattle.pg_desk.specs.declared.event.Event.TheVariants.{Book, Put as PutEvent, EndCopy, Take as TakeEvent, HangUp, NextStatement, NextPortal, NextOut, Deliver as DeliverEvent, CloseRequests, Fail}
+use Rattle.pg_desk.specs.declared.event.Event.TheVariants.{Book, Put as PutEvent, EndCopy, Take as TakeEvent, HangUp, NextStatement, NextPortal, Catalog as CatalogEvent, NextOut, Deliver as DeliverEvent, CloseRequests, Fail}
+use Rattle.pg_desk.specs.Catalog.{Catalog, nothing_kept, after_catalog, AllowsCatalog, NeedsCatalog, leaves_catalog}
 use Rattle.pg_spec.specs.Batches.{is_batch}
 
 -- a batch that was delivered, and the request that it belongs to
@@ -42,6 +44,8 @@ pub record State : Type 0 where
   -- the next numbers
   pub statements : ℕ
   pub portals : ℕ
+  -- what is kept of the server's catalog
+  pub catalog : Catalog
   -- no request is booked any more
   pub closed : Bool
   -- nothing comes any more
@@ -58,6 +62,7 @@ start statements portals = record {
   hung_up = [];
   statements = statements;
   portals = portals;
+  catalog = nothing_kept;
   closed = false;
   failed = false;
 }
@@ -67,11 +72,12 @@ abbrev pub wire : List Booking → List (List ℕ)
 wire [] = []
 wire (b ∷ bs) = b.parts ++ wire bs
 
--- the flag of the first request, and those of the others; a request without one is no copy
+-- the flag of the first request; a request without one is no copy
 abbrev pub first_flag : List Bool → Bool
 first_flag [] = false
 first_flag (c ∷ cs) = c
 
+-- the flags of the requests behind the first
 abbrev pub rest_flags : List Bool → List Bool
 rest_flags [] = []
 rest_flags (c ∷ cs) = cs
@@ -193,6 +199,7 @@ pub data Change : Type 0 where
   LetGo : (id : ℕ) → Change
   DrewStatement : Change
   DrewPortal : Change
+  Catalogued : CatalogCall → Change
   WentOut : (part : List ℕ) → Change
   Came : List RawMessage → (complete : Bool) → Change
   ClosedAll : Change
@@ -208,6 +215,7 @@ change_of (TakeEvent id (Ok (taking.Batch messages))) = Took id messages
 change_of (HangUp id (Ok x)) = LetGo id
 change_of (NextStatement (Ok n)) = DrewStatement
 change_of (NextPortal (Ok n)) = DrewPortal
+change_of (CatalogEvent call) = Catalogued call
 change_of (NextOut (Ok (out.Part part))) = WentOut part
 change_of (DeliverEvent messages complete delivering.Taken) = Came messages complete
 change_of (CloseRequests (Ok x)) = ClosedAll
@@ -223,6 +231,7 @@ changed s (Took id messages) = record s { takes = s.takes ++ record { id = id; m
 changed s (LetGo id) = record s { hung_up = if may_let_go s id then s.hung_up ++ id ∷ [] else s.hung_up }
 changed s DrewStatement = record s { statements = s.statements + 1 }
 changed s DrewPortal = record s { portals = s.portals + 1 }
+changed s (Catalogued call) = record s { catalog = after_catalog s.catalog call }
 changed s (WentOut part) = record s { gone_out = s.gone_out ++ part ∷ [] }
 changed s (Came messages complete) = record s { deliveries = s.deliveries ++ record { owner = next_owner s; messages = messages; complete = complete } ∷ [] }
 changed s ClosedAll = record s { closed = true }
@@ -308,6 +317,7 @@ Allows s (NextPortal (Ok n)) = (s.failed ≡ false) × (n ≡ s.portals) × (n <
 Allows s (NextPortal (Err fault.Closed)) = s.failed ≡ true
 Allows s (NextPortal (Err fault.Encode)) = (s.failed ≡ false) × (s.portals ≡ 2 ^ 32 - 1)
 Allows s (NextPortal (Err fault.OutOfMemory)) = Unit {0}
+Allows s (CatalogEvent call) = AllowsCatalog s.failed s.catalog call
 Allows s (NextOut (Ok answer)) = (s.failed ≡ false) × (answer ≡ out_answer s)
 Allows s (NextOut (Err fault.Closed)) = s.failed ≡ true
 Allows s (NextOut (Err fault.Encode)) = ⊥
@@ -352,6 +362,7 @@ Needs s (TakeEvent id (Err e)) = ⊥
 Needs s (HangUp id (Err e)) = ⊥
 Needs s (NextStatement (Err fault.OutOfMemory)) = ⊥
 Needs s (NextPortal (Err fault.OutOfMemory)) = ⊥
+Needs s (CatalogEvent call) = NeedsCatalog s.failed s.catalog call
 Needs s (NextOut (Err fault.OutOfMemory)) = ⊥
 Needs s (DeliverEvent batch complete (delivering.OutOfMemory back)) = ⊥
 Needs s (CloseRequests (Err e)) = ⊥
@@ -416,6 +427,7 @@ leaves_event (TakeEvent id (Err fault.OutOfMemory)) = false
 leaves_event (HangUp id (Err fault.OutOfMemory)) = false
 leaves_event (NextStatement (Err fault.OutOfMemory)) = false
 leaves_event (NextPortal (Err fault.OutOfMemory)) = false
+leaves_event (CatalogEvent call) = leaves_catalog call
 leaves_event (NextOut (Err fault.OutOfMemory)) = false
 leaves_event (DeliverEvent batch complete (delivering.OutOfMemory back)) = false
 leaves_event (CloseRequests (Err fault.OutOfMemory)) = false

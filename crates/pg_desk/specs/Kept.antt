@@ -3,7 +3,10 @@ use Rattle.std.proofs.Common.{◌≡◌, List, [], ◌∷◌, ◌++◌, Bool, tr
 use Rattle.pg_desk.specs.declared.event.Put.TheVariants as putting
 use Rattle.pg_desk.specs.declared.event.Deliver.TheVariants as delivering
 use Rattle.pg_desk.specs.declared.event.Event.{Event}
-use Rattle.pg_desk.specs.declared.event.Event.TheVariants.{Book, Put as PutEvent, EndCopy, Take as TakeEvent, HangUp, NextStatement, NextPortal, NextOut, Deliver as DeliverEvent, CloseRequests, Fail}
+use Rattle.pg_desk.specs.declared.event.Event.TheVariants.{Book, Put as PutEvent, EndCopy, Take as TakeEvent, HangUp, NextStatement, NextPortal, Catalog as CatalogEvent, NextOut, Deliver as DeliverEvent, CloseRequests, Fail}
+use Rattle.pg_desk.specs.declared.event.CatalogCall.{CatalogCall}
+use Rattle.pg_desk.specs.declared.event.CatalogCall.TheVariants.{TypeOf, SetType, ClearTypes, LookupOf, SetLookup}
+use Rattle.pg_desk.specs.Catalog.{Catalog, after_catalog, leaves_catalog}
 use Rattle.pg_desk.specs.History.{State, after, after_all, IsLegal, IsExact, leaves_event, kept}
 
 -- one event more in front
@@ -15,6 +18,17 @@ kept-step false e xs ys zs h = h
 pub kept-joined : (es fs : List Event) → kept (es ++ fs) ≡ kept es ++ kept fs
 kept-joined [] fs = refl
 kept-joined (e ∷ es) fs = kept-step (leaves_event e) e (kept (es ++ fs)) (kept es) (kept fs) (kept-joined es fs)
+
+-- a call on the catalog that leaves no event changes nothing of it
+catalog-unchanged : (k : Catalog) (call : CatalogCall) → leaves_catalog call ≡ false → after_catalog k call ≡ k
+catalog-unchanged k (TypeOf oid r) h = refl
+catalog-unchanged k (SetType oid ty (Ok x)) h = absurd cc
+catalog-unchanged k (SetType oid ty (Err e)) h = refl
+catalog-unchanged k (ClearTypes (Ok x)) h = absurd cc
+catalog-unchanged k (ClearTypes (Err e)) h = refl
+catalog-unchanged k (LookupOf which r) h = refl
+catalog-unchanged k (SetLookup which s (Ok x)) h = absurd cc
+catalog-unchanged k (SetLookup which s (Err e)) h = refl
 
 -- a call that leaves no event changes nothing
 pub unchanged : (s : State) (e : Event) → leaves_event e ≡ false → after s e ≡ s
@@ -36,6 +50,7 @@ unchanged s (NextStatement (Ok n)) h = absurd cc
 unchanged s (NextStatement (Err e)) h = refl
 unchanged s (NextPortal (Ok n)) h = absurd cc
 unchanged s (NextPortal (Err e)) h = refl
+unchanged s (CatalogEvent call) h = ap (λ (k : Catalog). record s { catalog = k }) (catalog-unchanged s.catalog call h)
 unchanged s (NextOut (Ok o)) h = absurd cc
 unchanged s (NextOut (Err e)) h = refl
 unchanged s (DeliverEvent batch complete delivering.Taken) h = absurd cc

@@ -2,7 +2,8 @@
 
 use bytes::Bytes;
 use pg_spec::Stamp;
-use pg_types::{Blob, List};
+use pg_statements::{Lookup, Statement};
+use pg_types::{Blob, List, Oid, Type};
 use pg_wire::BackendMessages;
 
 /// A request that was booked: its stamp, and the bytes that go out for it, part by part.
@@ -67,6 +68,28 @@ pub enum Deliver {
     OutOfMemory(BackendMessages),
 }
 
+/// The type that was found of an oid.
+#[derive(Debug, Drop, PartialEq, Eq)]
+pub struct FoundType {
+    pub oid: Oid,
+    pub type_: Type,
+}
+
+/// A call on what a desk keeps of the server's catalog, with its arguments and its answer.
+#[derive(Drop)]
+pub enum CatalogCall {
+    /// The type that is kept of an oid.
+    TypeOf(Oid, Result<Option<Type>, DeskFault>),
+    /// This type is to be kept of an oid.
+    SetType(Oid, Type, Result<(), DeskFault>),
+    /// No type is to be kept any more.
+    ClearTypes(Result<(), DeskFault>),
+    /// The statement that is kept to look this up.
+    LookupOf(Lookup, Result<Option<Statement>, DeskFault>),
+    /// This statement is to be kept to look this up.
+    SetLookup(Lookup, Statement, Result<(), DeskFault>),
+}
+
 /// A call with its arguments and its answer.
 #[derive(Drop)]
 pub enum Event {
@@ -77,6 +100,7 @@ pub enum Event {
     HangUp(u64, Result<(), DeskFault>),
     NextStatement(Result<u32, DeskFault>),
     NextPortal(Result<u32, DeskFault>),
+    Catalog(CatalogCall),
     NextOut(Result<Out, DeskFault>),
     Deliver(BackendMessages, bool, Deliver),
     CloseRequests(Result<(), DeskFault>),

@@ -7,6 +7,7 @@ mod event;
 mod laws;
 
 pub use desk_trait::{Desk, Engine};
-pub use event::{Booking, Deliver, DeskFault, Event, Out, Put, Take};
-pub use laws::every_interleaving;
+pub use event::{Booking, CatalogCall, Deliver, DeskFault, Event, FoundType, Out, Put, Take};
+pub use laws::{every_interleaving, what_the_catalog_tells};
 pub use pg_spec::Stamp;
+pub use pg_statements::{Column, Lookup, Statement};
