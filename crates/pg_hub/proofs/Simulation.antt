@@ -200,6 +200,7 @@ booked s h stamp part copying book' mail' outgoing' unsent' f eb em eo eu =
       finished = f.finished;
       statements = f.statements;
       portals = f.portals;
+      catalog = f.catalog;
       closed = f.closed;
       failed = f.failed;
       none_invented = f.none_invented;
@@ -275,9 +276,9 @@ pub record PutsPart (s t : State) : Type 0 where
 part-fits : (s t : State) (h : Standing) (id : ℕ) (part : List ℕ) (on : Bool) (outgoing' : List Rest) (unsent' : ℕ) → Fits s h → PutsPart s t → t.book ≡ extended id part s.book →
     PartsFit t.gone_out t.book t.copying outgoing' h.whole h.started → id < length h.outgoing →
     outgoing' ≡ slice_set h.outgoing id (record { parts = (rest_at h.outgoing id).parts ++ part ∷ []; copying = on }) → unsent' ≡ h.unsent + (length part + 1) →
-    s.statements ≡ t.statements → s.portals ≡ t.portals → s.closed ≡ t.closed → s.failed ≡ t.failed →
+    s.statements ≡ t.statements → s.portals ≡ t.portals → s.catalog ≡ t.catalog → s.closed ≡ t.closed → s.failed ≡ t.failed →
     Fits t (record h { book = extended id part h.book; outgoing = outgoing'; unsent = unsent'; touched = true })
-part-fits s t h id part on outgoing' unsent' f p eb parts low eo eu es ep ec ef =
+part-fits s t h id part on outgoing' unsent' f p eb parts low eo eu es ep ek ec ef =
     let lb : length (extended id part h.book) ≡ length h.book = extended-length id part h.book in
     record {
       standing = record {
@@ -291,6 +292,7 @@ part-fits s t h id part on outgoing' unsent' f p eb parts low eo eu es ep ec ef 
       finished = f.finished ∙ ap finished p.deliveries;
       statements = f.statements ∙ es;
       portals = f.portals ∙ ep;
+      catalog = f.catalog ∙ ek;
       closed = f.closed ∙ ec;
       failed = f.failed ∙ ef;
       none_invented = λ k. subst (λ (l : List Delivery). length (taken k t.takes) ≤ length (given k l)) p.deliveries (subst (λ (l : List Taken). length (taken k l) ≤ length (given k s.deliveries)) p.takes (f.none_invented k));
@@ -312,7 +314,7 @@ put-fits s h id part outgoing' unsent' f runs low eo eu =
       deliveries = refl;
       takes = refl;
       hung_up = refl;
-    }) refl (parts-put s.gone_out s.book s.copying h.outgoing outgoing' h.whole h.started id part f.in_order.out f.parts copies eo) low eo eu refl refl refl refl
+    }) refl (parts-put s.gone_out s.book s.copying h.outgoing outgoing' h.whole h.started id part f.in_order.out f.parts copies eo) low eo eu refl refl refl refl refl
 
 -- its last one
 pub end-fits : (s : State) (h : Standing) (id : ℕ) (part : List ℕ) (outgoing' : List Rest) (unsent' : ℕ) → Fits s h → is_running s id ≡ true → id < length h.outgoing →
@@ -328,7 +330,7 @@ end-fits s h id part outgoing' unsent' f runs low eo eu =
       deliveries = refl;
       takes = refl;
       hung_up = refl;
-    }) refl (parts-end s.gone_out s.book s.copying h.outgoing outgoing' h.whole h.started id part f.in_order.out f.parts copies eo) low eo eu refl refl refl refl
+    }) refl (parts-end s.gone_out s.book s.copying h.outgoing outgoing' h.whole h.started id part f.in_order.out f.parts copies eo) low eo eu refl refl refl refl refl
 
 -- the same over the hub that shows the part already
 pub puts : (s : State) (h m : Standing) (id : ℕ) (part : List ℕ) (outgoing' : List Rest) (unsent' : ℕ) → Fits s h → m ≡ record h { book = extended id part h.book } → is_running s id ≡ true → id < length h.outgoing →
@@ -431,6 +433,7 @@ went-fits s h part left outgoing' unsent' whole' f open_ low ep ec eo eu ew =
         finished = f.finished;
         statements = f.statements;
         portals = f.portals;
+        catalog = f.catalog;
         closed = f.closed;
         failed = f.failed;
         none_invented = f.none_invented;
@@ -485,6 +488,7 @@ took s h id batch mail' f low first em =
         finished = f.finished;
         statements = f.statements;
         portals = f.portals;
+        catalog = f.catalog;
         closed = f.closed;
         failed = f.failed;
         none_invented = λ k. elim (eqb_tells k id) [
@@ -516,6 +520,7 @@ waited-on s h id mail' f low here none em =
         finished = f.finished;
         statements = f.statements;
         portals = f.portals;
+        catalog = f.catalog;
         closed = f.closed;
         failed = f.failed;
         none_invented = f.none_invented;
@@ -583,6 +588,7 @@ hung-up s h id mail' f low here em =
       finished = f.finished;
       statements = f.statements;
       portals = f.portals;
+      catalog = f.catalog;
       closed = f.closed;
       failed = f.failed;
       none_invented = f.none_invented;
@@ -627,6 +633,7 @@ delivered s h batch complete m mail' finished' f cut open_ received em ef bound 
         finished = ef ∙ ap (λ (n : ℕ). (if complete then 1 else 0) + n) f.finished ∙ sym (finished-more s.deliveries d);
         statements = f.statements;
         portals = f.portals;
+        catalog = f.catalog;
         closed = f.closed;
         failed = f.failed;
         none_invented = λ k. elim (eqb_tells k id) [

@@ -50,6 +50,7 @@ fits-touched s h t f = record {
   finished = f.finished;
   statements = f.statements;
   portals = f.portals;
+  catalog = f.catalog;
   closed = f.closed;
   failed = f.failed;
   none_given = f.none_given;

@@ -29,6 +29,7 @@ pub record Fits (s : State) (h : Standing) : Type 0 where
   pub finished : h.finished ≡ finished s.deliveries
   pub statements : h.statements ≡ s.statements
   pub portals : h.portals ≡ s.portals
+  pub catalog : h.catalog ≡ s.catalog
   pub closed : h.closed ≡ s.closed
   pub failed : h.failed ≡ s.failed
   -- nothing was given before it was asked for, and nobody hung up on what isn't booked

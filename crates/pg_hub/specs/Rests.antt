@@ -17,10 +17,11 @@ abbrev pub rests : ℕ → List Booking → List Bool → List Rest
 rests n [] cs = []
 rests n (b ∷ bs) cs = record { parts = drop n b.parts; copying = first_flag cs } ∷ rests (n - length b.parts) bs (rest_flags cs)
 
--- whether a request has gone out whole, and how many have
+-- whether a request has gone out whole, where n parts of it and those behind it went out
 abbrev pub is_whole : ℕ → Booking → Bool → Bool
 is_whole n b c = not c && not (nat_lt n (length b.parts))
 
+-- how many requests have gone out whole, where n parts went out
 abbrev pub whole_of : ℕ → List Booking → List Bool → ℕ
 whole_of n [] cs = 0
 whole_of n (b ∷ bs) cs = if is_whole n b (first_flag cs) then suc (whole_of (n - length b.parts) bs (rest_flags cs)) else 0

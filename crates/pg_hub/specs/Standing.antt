@@ -1,6 +1,7 @@
 -- What the hub holds.
 use Rattle.std.specs.Prelude.{◌≡◌, ◌≤◌, ◌+◌, ℕ, List, length, Bool}
 use Rattle.pg_desk.specs.declared.event.Booking.{Booking}
+use Rattle.pg_desk.specs.Catalog.{Catalog}
 use Rattle.pg_hub.specs.declared.mailbox.Mailbox.{Mailbox}
 use Rattle.pg_hub.specs.Rests.{Rest, weight_in}
 use Rattle.pg_hub.specs.declared.hub.Hub.TheInside.{Inside}
@@ -21,6 +22,8 @@ pub record Standing : Type 0 where
   -- the next numbers
   pub statements : ℕ
   pub portals : ℕ
+  -- what is kept of the server's catalog
+  pub catalog : Catalog
   pub closed : Bool
   pub failed : Bool
   -- something moved since `touched` was called last
@@ -38,6 +41,7 @@ standing h = record {
   finished = h.finished;
   statements = h.statements;
   portals = h.portals;
+  catalog = h.catalog;
   closed = h.closed;
   failed = h.failed;
   touched = h.touched;

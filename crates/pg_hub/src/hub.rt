@@ -3,13 +3,16 @@
 ghost use Rattle.std.specs.Prelude.{◌≡◌, ◌<◌, ◌≤◌, ◌+◌, ◌∷◌, [], length, true, false, IfOk, IfSome, MatchBool};
 ghost use Rattle.pg_desk.specs.History.{extended};
 
+use crate::catalog::Catalog;
 use crate::mailbox::{Mailbox, hang_up_at, is_hung_up_at, put_at, take_at};
 use crate::outgoing::{
     Outgoing, close_at, is_copying_at, is_full_at, is_whole_at, pop_at, push_part_at, put_part_at,
 };
 use bytes::Bytes;
-use pg_desk::{Booking, Deliver, Desk, DeskFault, Engine, Out, Put, Stamp, Take};
-use pg_types::{Blob, List, OutOfMemory};
+use pg_desk::{
+    Booking, Deliver, Desk, DeskFault, Engine, Lookup, Out, Put, Stamp, Statement, Take,
+};
+use pg_types::{Blob, List, Oid, OutOfMemory, Type};
 use pg_wire::BackendMessages;
 use std::alloc::Global;
 use std::marker::Model;
@@ -32,6 +35,7 @@ pub struct Hub {
     finished: u64,
     statements: u32,
     portals: u32,
+    catalog: Catalog,
     closed: bool,
     failed: bool,
     touched: bool,
@@ -39,8 +43,12 @@ pub struct Hub {
 
 impl Model for Hub {
     ghost use Rattle.pg_hub.specs.Standing.{Standing, standing, IsStanding};
+    ghost use Rattle.pg_types.specs.contracts.pg_type.PgType as pg_type;
+    ghost use Rattle.std.specs.Coded.{codes};
 
     ghost Value = { Standing };
+
+    ghost coded = { Prim.hlevel (codes, pg_type.the_row.coded) };
 
     ghost view = { standing };
 
@@ -67,6 +75,7 @@ impl Hub {
             finished: 0,
             statements,
             portals,
+            catalog: Catalog::new(alloc),
             closed: false,
             failed: false,
             touched: false,
@@ -94,6 +103,7 @@ impl Hub {
             finished: _,
             statements: _,
             portals: _,
+            catalog: _,
             closed: _,
             failed: _,
             touched: _,
@@ -322,6 +332,59 @@ impl Desk for Hub {
         let number = self.portals;
         self.portals += 1;
         Ok(number)
+    }
+
+    fn type_(&mut self, alloc: Global, oid: Oid) -> Result<Option<Type>, DeskFault> {
+        if self.failed {
+            return Err(DeskFault::Closed);
+        }
+        match self.catalog.type_of(alloc, oid) {
+            Ok(found) => Ok(found),
+            Err(_) => Err(DeskFault::OutOfMemory),
+        }
+    }
+
+    fn set_type(&mut self, alloc: Global, oid: Oid, ty: &Type) -> Result<(), DeskFault> {
+        if self.failed {
+            return Err(DeskFault::Closed);
+        }
+        match self.catalog.set_type(alloc, oid, ty) {
+            Ok(()) => Ok(()),
+            Err(_) => Err(DeskFault::OutOfMemory),
+        }
+    }
+
+    fn clear_type_cache(&mut self) -> Result<(), DeskFault> {
+        if self.failed {
+            return Err(DeskFault::Closed);
+        }
+        self.catalog.clear_types();
+        Ok(())
+    }
+
+    fn lookup(&mut self, _alloc: Global, which: Lookup) -> Result<Option<Statement>, DeskFault> {
+        if self.failed {
+            return Err(DeskFault::Closed);
+        }
+        match self.catalog.statement(which) {
+            Ok(found) => Ok(found),
+            Err(_) => Err(DeskFault::OutOfMemory),
+        }
+    }
+
+    fn set_lookup(
+        &mut self,
+        _alloc: Global,
+        which: Lookup,
+        statement: &Statement,
+    ) -> Result<(), DeskFault> {
+        if self.failed {
+            return Err(DeskFault::Closed);
+        }
+        match self.catalog.set_statement(which, statement) {
+            Ok(()) => Ok(()),
+            Err(_) => Err(DeskFault::OutOfMemory),
+        }
     }
 
     fn is_closed(&self) -> bool {

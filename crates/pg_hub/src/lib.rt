@@ -2,6 +2,7 @@
 //! each until its reader takes it. And the reader of the messages of one request, over any desk.
 #![tactic(auto)]
 
+mod catalog;
 mod hub;
 mod laws;
 mod mailbox;
@@ -12,5 +13,8 @@ pub use hub::Hub;
 pub use laws::every_hub;
 pub use mailbox::Mailbox;
 pub use outgoing::Outgoing;
-pub use pg_desk::{Booking, Deliver, Desk, DeskFault, Engine, Event, Out, Put, Stamp, Take};
+pub use pg_desk::{
+    Booking, CatalogCall, Column, Deliver, Desk, DeskFault, Engine, Event, FoundType, Lookup, Out,
+    Put, Stamp, Statement, Take,
+};
 pub use responses::Responses;
