@@ -1,5 +1,5 @@
 -- A command whose dialogue lets its requests go leaves none open.
-use Rattle.std.proofs.Common.{◌≡◌, ◌⊎◌, inl, inr, ℕ, ◌==◌, ◌&&◌, ◌||◌, List, [], ◌∷◌, Bool, true, false, if◌then◌else◌, Result, Ok, Err, refl, sym, ◌∙◌, ap, subst, arith}
+use Rattle.std.proofs.Common.{◌≡◌, ◌⊎◌, inl, inr, ℕ, ◌==◌, ◌&&◌, ◌||◌, List, [], ◌∷◌, Bool, true, false, if◌then◌else◌, Some, Result, Ok, Err, refl, sym, ◌∙◌, ap, subst, arith}
 use Rattle.std.specs.List.{list_any}
 use Rattle.std.proofs.lemmas.Bool.Decides.{nat_tests}
 use Rattle.pg_spec.specs.RawMessages.{RawMessage, is_ready}
@@ -10,6 +10,8 @@ use Rattle.pg_desk.specs.declared.event.Put.TheVariants as putting
 use Rattle.pg_desk.specs.declared.event.Take.TheVariants as taking
 use Rattle.pg_desk.specs.declared.event.Event.{Event}
 use Rattle.pg_desk.specs.declared.event.Event.TheVariants as call
+use Rattle.pg_desk.specs.declared.event.CatalogCall.{CatalogCall}
+use Rattle.pg_desk.specs.declared.event.CatalogCall.TheVariants as catalog
 use Rattle.pg_faults.specs.declared.error.Error.{Error}
 use Rattle.pg_faults.specs.declared.error.Error.TheVariants.{Closed, OutOfMemory}
 use Rattle.pg_query.specs.declared.desk_call.DeskCall.{DeskCall}
@@ -17,7 +19,7 @@ use Rattle.pg_query.specs.declared.desk_call.DeskCall.TheVariants as desk_call
 use Rattle.pg_query.specs.declared.desk_call.Reply.{Reply}
 use Rattle.pg_query.specs.declared.desk_call.Reply.TheVariants as reply
 use Rattle.pg_query.specs.Faults.{of_fault}
-use Rattle.pg_query.specs.Dialogue.{Dialogue, Answer, Ask, Send, Leave, Read, Put, Finish, Close, HangUp, Call, Hear, feed, feed_one, fits, after_reply, Told}
+use Rattle.pg_query.specs.Dialogue.{Dialogue, Answer, Ask, Send, Leave, Read, Put, Finish, Close, HangUp, Call, Hear, feed, feed_one, question_of, reply_of, fits, after_reply, Told}
 use Rattle.pg_query.specs.Meaning.{Place}
 use Rattle.pg_query.specs.Lives.{Deed, Turn, Leads, Lives, deeds}
 use Rattle.pg_query.specs.Leaving.{Holds, Nothing, Request, IsLetGo, IsHeld, request_behind, after_reading, LetsGo, IsLetGoIn, LetsGoBehind, AllLetGo, IsOwed, AllOwed}
@@ -108,14 +110,37 @@ told-books-none desk_call.NextPortal (call.NextPortal (Ok n)) r ds t = tt
 told-books-none desk_call.NextPortal (call.NextPortal (Err fault.Encode)) r ds t = tt
 told-books-none desk_call.NextPortal (call.NextPortal (Err fault.Closed)) r ds t = tt
 told-books-none desk_call.NextPortal (call.NextPortal (Err fault.OutOfMemory)) r ds t = tt
+told-books-none q (call.Catalog c) r ds t = tt
 told-books-none q e r ds t = absurd t
+
+-- a reply fits where that one does which it is
+fits-as : (q : DeskCall) (r x : Reply) → r ≡ x → fits q x ≡ true → fits q r ≡ true
+fits-as q r x same f = ap (fits q) same ∙ f
+
+catalog-fits : (c : CatalogCall) (r : Reply) → Ok r ≡ reply_of c → fits (question_of c) r ≡ true
+catalog-fits (catalog.TypeOf oid (Ok found)) r t = let same : r ≡ reply.Type found = cc in fits-as (desk_call.TypeOf oid) r (reply.Type found) same refl
+catalog-fits (catalog.TypeOf oid (Err e)) r t = absurd cc
+catalog-fits (catalog.SetType oid ty (Ok x)) r t = let same : r ≡ reply.Type (Some ty) = cc in fits-as (desk_call.SetType oid ty) r (reply.Type (Some ty)) same refl
+catalog-fits (catalog.SetType oid ty (Err e)) r t = absurd cc
+catalog-fits (catalog.ClearTypes (Ok x)) r t = let same : r ≡ reply.Cleared = cc in fits-as desk_call.ClearTypes r reply.Cleared same refl
+catalog-fits (catalog.ClearTypes (Err e)) r t = absurd cc
+catalog-fits (catalog.LookupOf which (Ok found)) r t = let same : r ≡ reply.Statement found = cc in fits-as (desk_call.LookupOf which) r (reply.Statement found) same refl
+catalog-fits (catalog.LookupOf which (Err e)) r t = absurd cc
+catalog-fits (catalog.SetLookup which s (Ok x)) r t = let same : r ≡ reply.Statement (Some s) = cc in fits-as (desk_call.SetLookup which s) r (reply.Statement (Some s)) same refl
+catalog-fits (catalog.SetLookup which s (Err e)) r t = absurd cc
 
 -- a desk tells what may be told of that
 pub told-fits : (q : DeskCall) (e : Event) (r : Reply) → Told q e (Ok r) → fits q r ≡ true
-told-fits desk_call.NextStatement e (reply.Number n) t = refl
-told-fits desk_call.NextStatement e reply.Spent t = refl
-told-fits desk_call.NextPortal e (reply.Number n) t = refl
-told-fits desk_call.NextPortal e reply.Spent t = refl
+told-fits desk_call.NextStatement (call.NextStatement (Ok n)) r t = let same : r ≡ reply.Number n = cc in fits-as desk_call.NextStatement r (reply.Number n) same refl
+told-fits desk_call.NextStatement (call.NextStatement (Err fault.Encode)) r t = let same : r ≡ reply.Spent = cc in fits-as desk_call.NextStatement r reply.Spent same refl
+told-fits desk_call.NextStatement (call.NextStatement (Err fault.Closed)) r t = absurd cc
+told-fits desk_call.NextStatement (call.NextStatement (Err fault.OutOfMemory)) r t = absurd cc
+told-fits desk_call.NextPortal (call.NextPortal (Ok n)) r t = let same : r ≡ reply.Number n = cc in fits-as desk_call.NextPortal r (reply.Number n) same refl
+told-fits desk_call.NextPortal (call.NextPortal (Err fault.Encode)) r t = let same : r ≡ reply.Spent = cc in fits-as desk_call.NextPortal r reply.Spent same refl
+told-fits desk_call.NextPortal (call.NextPortal (Err fault.Closed)) r t = absurd cc
+told-fits desk_call.NextPortal (call.NextPortal (Err fault.OutOfMemory)) r t = absurd cc
+told-fits q (call.Catalog c) r t = ap (λ (x : DeskCall). fits x r) t.0 ∙ catalog-fits c r t.1
+told-fits q e r t = absurd t
 
 after-free : {T : Type 0} (h : Holds) (q : DeskCall) (e : Event) (r : Result Reply DeskFault) (refused : Error → Dialogue T) (next : Reply → Dialogue T) → Told q e r →
     ((e : Error) → LetsGo h (refused e)) → ((r : Reply) → fits q r ≡ true → LetsGo h (next r)) → LetsGo h (after_reply r refused next)

@@ -1,5 +1,5 @@
 -- What a command asks of its desk and what it answers, as a tree, and how events lead along it.
-use Rattle.std.specs.Prelude.{◌≡◌, ℕ, List, [], ◌∷◌, Bool, true, false, if◌then◌else◌, Result, Ok, Err}
+use Rattle.std.specs.Prelude.{◌≡◌, ℕ, List, [], ◌∷◌, Bool, true, false, if◌then◌else◌, Some, Result, Ok, Err}
 use Rattle.pg_spec.specs.RawMessages.{RawMessage}
 use Rattle.pg_spec.specs.declared.stamps.Stamp.{Stamp}
 use Rattle.pg_desk.specs.declared.event.DeskFault.{DeskFault}
@@ -8,6 +8,8 @@ use Rattle.pg_desk.specs.declared.event.Put.TheVariants as putting
 use Rattle.pg_desk.specs.declared.event.Take.TheVariants as taking
 use Rattle.pg_desk.specs.declared.event.Event.{Event}
 use Rattle.pg_desk.specs.declared.event.Event.TheVariants as call
+use Rattle.pg_desk.specs.declared.event.CatalogCall.{CatalogCall}
+use Rattle.pg_desk.specs.declared.event.CatalogCall.TheVariants as catalog
 use Rattle.pg_faults.specs.declared.error.Error.{Error}
 use Rattle.pg_faults.specs.declared.error.Error.TheVariants.{Closed, OutOfMemory}
 use Rattle.pg_query.specs.declared.desk_call.DeskCall.{DeskCall}
@@ -62,6 +64,27 @@ abbrev pub feed : {T : Type 0} → List RawMessage → Dialogue T → Dialogue T
 feed [] d = d
 feed (m ∷ ms) d = feed ms (feed_one m d)
 
+-- which question a call on the catalog is
+abbrev pub question_of : CatalogCall → DeskCall
+question_of (catalog.TypeOf oid answer) = desk_call.TypeOf oid
+question_of (catalog.SetType oid ty answer) = desk_call.SetType oid ty
+question_of (catalog.ClearTypes answer) = desk_call.ClearTypes
+question_of (catalog.LookupOf which answer) = desk_call.LookupOf which
+question_of (catalog.SetLookup which s answer) = desk_call.SetLookup which s
+
+-- an answer of the desk as a reply
+abbrev pub as_reply : {A : Type 0} → (A → Reply) → Result A DeskFault → Result Reply DeskFault
+as_reply tells (Ok x) = Ok (tells x)
+as_reply tells (Err e) = Err e
+
+-- what it tells: what was to be kept is handed back
+abbrev pub reply_of : CatalogCall → Result Reply DeskFault
+reply_of (catalog.TypeOf oid answer) = as_reply reply.Type answer
+reply_of (catalog.SetType oid ty answer) = as_reply (λ x. reply.Type (Some ty)) answer
+reply_of (catalog.ClearTypes answer) = as_reply (λ x. reply.Cleared) answer
+reply_of (catalog.LookupOf which answer) = as_reply reply.Statement answer
+reply_of (catalog.SetLookup which s answer) = as_reply (λ x. reply.Statement (Some s)) answer
+
 -- what a query is told by an event
 abbrev pub Told : DeskCall → Event → Result Reply DeskFault → Type 0
 Told desk_call.NextStatement (call.NextStatement (Ok n)) r = r ≡ Ok (reply.Number n)
@@ -70,14 +93,21 @@ Told desk_call.NextStatement (call.NextStatement (Err e)) r = r ≡ Err e
 Told desk_call.NextPortal (call.NextPortal (Ok n)) r = r ≡ Ok (reply.Number n)
 Told desk_call.NextPortal (call.NextPortal (Err fault.Encode)) r = r ≡ Ok reply.Spent
 Told desk_call.NextPortal (call.NextPortal (Err e)) r = r ≡ Err e
+Told q (call.Catalog c) r = (q ≡ question_of c) × (r ≡ reply_of c)
 Told _ _ r = ⊥
 
--- a desk may tell this where it is asked that
+-- a reply of this kind may be told where that is asked
 abbrev pub fits : DeskCall → Reply → Bool
 fits desk_call.NextStatement (reply.Number n) = true
 fits desk_call.NextStatement reply.Spent = true
 fits desk_call.NextPortal (reply.Number n) = true
 fits desk_call.NextPortal reply.Spent = true
+fits (desk_call.TypeOf oid) (reply.Type found) = true
+fits (desk_call.SetType oid ty) (reply.Type (Some kept)) = true
+fits desk_call.ClearTypes reply.Cleared = true
+fits (desk_call.LookupOf which) (reply.Statement found) = true
+fits (desk_call.SetLookup which s) (reply.Statement (Some kept)) = true
+fits _ _ = false
 
 -- where a reply leads, and where a refusal does
 abbrev pub after_reply : {T : Type 0} → Result Reply DeskFault → (Error → Dialogue T) → (Reply → Dialogue T) → Dialogue T

@@ -2,12 +2,24 @@
 //! given up.
 
 use bytes::Bytes;
+use pg_desk::{Lookup, Statement};
+use pg_types::{Oid, Type};
 
 /// A call of the desk that asks it something.
 #[derive(Drop)]
 pub enum DeskCall {
     NextStatement,
     NextPortal,
+    /// Which type is kept of an oid. `Type` is told.
+    TypeOf(Oid),
+    /// Keeps the type of an oid. It is handed back.
+    SetType(Oid, Type),
+    /// Drops all types that are kept.
+    ClearTypes,
+    /// Which statement is kept to look this up. `Statement` is told.
+    LookupOf(Lookup),
+    /// Keeps a statement to look this up. It is handed back.
+    SetLookup(Lookup, Statement),
 }
 
 /// What the desk tells.
@@ -16,6 +28,12 @@ pub enum Reply {
     Number(u32),
     /// The counter is at its last value.
     Spent,
+    /// The type of an oid, where one is kept.
+    Type(Option<Type>),
+    /// The types were dropped.
+    Cleared,
+    /// The statement that looks something up, where one is kept.
+    Statement(Option<Statement>),
 }
 
 /// What is left to do where a command is given up.

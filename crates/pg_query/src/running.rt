@@ -231,7 +231,7 @@ impl<S: Script> Running<S> {
         ensures count { D.undelivered desk.new ≤ D.undelivered desk.old }
         ensures batch { length self.new.batch ≤ length self.old.batch }
     {
-        match ask_desk(desk, desk_call) {
+        match ask_desk(alloc, desk, desk_call) {
             Ok(reply) => self.reply(alloc, reply),
             Err(fault) => self.refused(alloc, fault),
         }
