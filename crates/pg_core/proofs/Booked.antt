@@ -9,11 +9,11 @@ use Rattle.pg_desk.specs.declared.event.Take.TheVariants as taking
 use Rattle.pg_desk.specs.declared.event.Out.TheVariants as out
 use Rattle.pg_desk.specs.declared.event.Deliver.TheVariants as delivering
 use Rattle.pg_desk.specs.declared.event.Event.{Event}
-use Rattle.pg_desk.specs.declared.event.Event.TheVariants.{Book, Put as PutEvent, EndCopy, Take as TakeEvent, HangUp, NextStatement, NextPortal, NextOut, Deliver as DeliverEvent, CloseRequests, Fail}
+use Rattle.pg_desk.specs.declared.event.Event.TheVariants.{Book, Put as PutEvent, EndCopy, Take as TakeEvent, HangUp, NextStatement, NextPortal, Catalog as CatalogEvent, NextOut, Deliver as DeliverEvent, CloseRequests, Fail}
 use Rattle.pg_desk.specs.History.{State, after, after_all, Allows, IsLegal, leaves_event, kept}
 use Rattle.pg_query.specs.Dialogue.{Dialogue, Answer, Ask, Send, Leave, Read, Put, Finish, Close, HangUp as Hang, Call, Hear, Steps}
 use Rattle.pg_query.specs.Lives.{Deed, Leads}
-use Rattle.pg_query.specs.declared.desk_call.DeskCall.TheVariants as desk_call
+use Rattle.pg_query.proofs.Questions.{told-asks}
 use Rattle.pg_course.specs.Courses.{Request, Who, stamp_of}
 use Rattle.pg_core.specs.Deeds.{booked_by, bookings_in, granted, requests_in}
 use Rattle.pg_core.proofs.Granted.{granted-append}
@@ -31,8 +31,7 @@ own-stamp stamp (Put cleanup p d) id given part copying new mid n s = absurd s
 own-stamp stamp (Finish p d) id given part copying new mid n s = absurd s
 own-stamp stamp (Close p d) id given part copying new mid n s = absurd s
 own-stamp stamp (Hang d) id given part copying new mid n s = absurd s
-own-stamp stamp (Call desk_call.NextStatement refused next) id given part copying new mid n s = absurd s.1
-own-stamp stamp (Call desk_call.NextPortal refused next) id given part copying new mid n s = absurd s.1
+own-stamp stamp (Call q refused next) id given part copying new mid n s = absurd (told-asks q (Book given part copying (Ok new)) s.0 s.1)
 own-stamp stamp (Hear next) id given part copying new mid n s = absurd s
 
 -- what an event books: one request, the next of the book, or none
@@ -42,39 +41,18 @@ data Booked (s : State) (e : Event) : Type 0 where
 
 booked : (s : State) (e : Event) → AddsNoPart e → Booked s e
 booked s (Book stamp part copying (Ok id)) none = One stamp part copying id refl
-booked s (Book stamp part copying (Err f)) none = None refl refl
 booked s (PutEvent id part putting.Took) none = absurd none
-booked s (PutEvent id part (putting.Full back)) none = None refl refl
-booked s (PutEvent id part (putting.Gone back)) none = None refl refl
-booked s (PutEvent id part (putting.OutOfMemory back)) none = None refl refl
 booked s (EndCopy id part putting.Took) none = absurd none
-booked s (EndCopy id part (putting.Full back)) none = None refl refl
-booked s (EndCopy id part (putting.Gone back)) none = None refl refl
-booked s (EndCopy id part (putting.OutOfMemory back)) none = None refl refl
 booked s (TakeEvent id (Ok (taking.Batch ms))) none = None refl refl
-booked s (TakeEvent id (Ok taking.Empty)) none = None refl refl
-booked s (TakeEvent id (Ok taking.Over)) none = None refl refl
-booked s (TakeEvent id (Ok taking.Gone)) none = None refl refl
-booked s (TakeEvent id (Err f)) none = None refl refl
 booked s (HangUp id (Ok x)) none = None refl refl
-booked s (HangUp id (Err f)) none = None refl refl
 booked s (NextStatement (Ok n)) none = None refl refl
-booked s (NextStatement (Err f)) none = None refl refl
 booked s (NextPortal (Ok n)) none = None refl refl
-booked s (NextPortal (Err f)) none = None refl refl
+booked s (CatalogEvent call) none = None refl refl
 booked s (NextOut (Ok (out.Part part))) none = None refl refl
-booked s (NextOut (Ok out.CopyWaits)) none = None refl refl
-booked s (NextOut (Ok out.Nothing)) none = None refl refl
-booked s (NextOut (Ok out.NoMore)) none = None refl refl
-booked s (NextOut (Err f)) none = None refl refl
 booked s (DeliverEvent batch complete delivering.Taken) none = None refl refl
-booked s (DeliverEvent batch complete (delivering.Full back)) none = None refl refl
-booked s (DeliverEvent batch complete (delivering.NoRequest back)) none = None refl refl
-booked s (DeliverEvent batch complete (delivering.OutOfMemory back)) none = None refl refl
 booked s (CloseRequests (Ok x)) none = None refl refl
-booked s (CloseRequests (Err f)) none = None refl refl
 booked s (Fail (Ok x)) none = None refl refl
-booked s (Fail (Err f)) none = None refl refl
+booked s e none = None refl refl
 
 -- an event that a stored list leaves out books nothing
 left-out-books : (e : Event) → leaves_event e ≡ false → granted (booked_by e) ≡ []

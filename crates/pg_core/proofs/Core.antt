@@ -13,7 +13,7 @@ use Rattle.pg_desk.specs.declared.event.Event.TheVariants as call
 use Rattle.pg_faults.specs.declared.error.Error.{Error}
 use Rattle.pg_faults.specs.declared.error.Error.TheVariants.{Closed}
 use Rattle.pg_query.specs.Faults.{of_fault}
-use Rattle.pg_query.specs.Dialogue.{Dialogue, Answer, Ask, Send, Leave, Read, Put, Finish, Close, HangUp, Call, Hear, feed, Told}
+use Rattle.pg_query.specs.Dialogue.{Dialogue, Answer, Ask, Send, Leave, Read, Put, Finish, Close, HangUp, Call, Hear, feed, Told, question_of}
 use Rattle.pg_query.specs.Lives.{Deed, Leads}
 use Rattle.pg_query.specs.Scripts.{IsRead}
 use Rattle.pg_query.specs.declared.desk_call.Cleanup.{Cleanup}
@@ -25,7 +25,7 @@ use Rattle.pg_course.specs.Courses.{Asked, Request}
 use Rattle.pg_course.specs.Dialogues.{decided_after}
 use Rattle.pg_query.specs.Requests.{IsBehind, Refuses}
 use Rattle.pg_query.proofs.RequestLaws.{moved, stays-answered}
-use Rattle.pg_core.specs.Deeds.{booked_by, bookings_in, told_by, answers_in, granted, taken_from, Serves, EndsRefused}
+use Rattle.pg_core.specs.Deeds.{booked_by, bookings_in, told_as, told_by, answers_in, granted, taken_from, Serves, EndsRefused}
 use Rattle.pg_core.specs.Runs.{Ran, of_request, stays, ask_first, run, ReadsNothing, IsTidy, At, Holds, Ends, Answered, Waits, Stands, Gave, Reads, Refused, Comes}
 use Rattle.pg_core.proofs.Fed.{feed-answer, feed-ask, feed-send, feed-leave, feed-hang-up, feed-call, feed-hear, feed-joined, fed, feed-nothing, read_so, still-decides, front-decides}
 
@@ -198,6 +198,8 @@ hears desk_call.NextPortal stamp (call.NextPortal (Err fault.Encode)) r h = let 
     record { told = ap (λ (x : Reply). let a : Result (Asked DeskCall Reply) Error = Ok (record { stamp = stamp; question = desk_call.NextPortal; reply = x }) in a ∷ []) (sym same); books = refl; takes = λ k. refl }
 hears desk_call.NextPortal stamp (call.NextPortal (Err fault.Closed)) r h = absurd cc
 hears desk_call.NextPortal stamp (call.NextPortal (Err fault.OutOfMemory)) r h = absurd cc
+hears q stamp (call.Catalog c) r h =
+    record { told = ap (told_as stamp (question_of c)) (sym h.1) ∙ ap (λ (x : DeskCall). told_as stamp x (Ok r)) (sym h.0); books = refl; takes = λ k. refl }
 hears q stamp e r h = absurd h
 
 record RefusedSo (stamp : Stamp) (e : Event) (f : DeskFault) : Type 0 where
@@ -214,6 +216,7 @@ refuses-so desk_call.NextPortal stamp (call.NextPortal (Ok n)) f h = absurd cc
 refuses-so desk_call.NextPortal stamp (call.NextPortal (Err fault.Encode)) f h = absurd cc
 refuses-so desk_call.NextPortal stamp (call.NextPortal (Err fault.Closed)) f h = let same : f ≡ fault.Closed = cc in record { told = ap (λ (x : DeskFault). let a : Result (Asked DeskCall Reply) Error = Err (of_fault x) in a ∷ []) (sym same); books = refl; takes = λ k. refl }
 refuses-so desk_call.NextPortal stamp (call.NextPortal (Err fault.OutOfMemory)) f h = let same : f ≡ fault.OutOfMemory = cc in record { told = ap (λ (x : DeskFault). let a : Result (Asked DeskCall Reply) Error = Err (of_fault x) in a ∷ []) (sym same); books = refl; takes = λ k. refl }
+refuses-so q stamp (call.Catalog c) f h = record { told = ap (told_as stamp (question_of c)) (sym h.1); books = refl; takes = λ k. refl }
 refuses-so q stamp e f h = absurd h
 
 -- ---- one event more in front

@@ -1,47 +1,73 @@
--- What a desk tells of its counters, by a legal list.
-use Rattle.std.proofs.Common.{◌≡◌, ℕ, ◌+◌, ◌-◌, ◌^◌, ◌<◌, nat_lt, List, [], ◌∷◌, ◌++◌, map, Bool, true, false, if◌then◌else◌, Ok, Err, refl, sym, ap, subst, ◌∙◌, arith, append_assoc}
+-- What a desk tells of its counters and of the catalog, by a legal list.
+use Rattle.std.proofs.Common.{◌≡◌, ℕ, ◌+◌, ◌-◌, ◌^◌, ◌<◌, nat_lt, List, [], ◌∷◌, ◌++◌, map, Bool, true, false, if◌then◌else◌, Option, Some, None, Ok, Err, is_ok, refl, sym, ap, subst, ◌∙◌, arith, append_assoc}
 use Rattle.std.proofs.lemmas.Bool.Decides.{nat_tests}
 use Rattle.std.proofs.lemmas.List.{append-nil}
+use Rattle.pg_types.specs.declared.pg_type.PgType.{PgType}
+use Rattle.pg_statements.specs.declared.statement.Described.{Described as Statement}
+use Rattle.pg_statements.specs.declared.statement.Lookup.{Lookup}
+use Rattle.pg_statements.specs.declared.statement.Lookup.TheVariants.{Info, Enum, Composite}
 use Rattle.pg_spec.specs.declared.stamps.Stamp.{Stamp}
 use Rattle.pg_desk.specs.declared.event.DeskFault.TheVariants as fault
-use Rattle.pg_desk.specs.declared.event.Put.TheVariants as putting
-use Rattle.pg_desk.specs.declared.event.Take.TheVariants as taking
-use Rattle.pg_desk.specs.declared.event.Out.TheVariants as out
-use Rattle.pg_desk.specs.declared.event.Deliver.TheVariants as delivering
+use Rattle.pg_desk.specs.declared.event.CatalogCall.{CatalogCall}
+use Rattle.pg_desk.specs.declared.event.CatalogCall.TheVariants as catalog
 use Rattle.pg_desk.specs.declared.event.Event.{Event}
-use Rattle.pg_desk.specs.declared.event.Event.TheVariants.{Book, Put as PutEvent, EndCopy, Take as TakeEvent, HangUp, NextStatement, NextPortal, NextOut, Deliver as DeliverEvent, CloseRequests, Fail}
-use Rattle.pg_desk.specs.History.{State, start, after, after_all, Allows, IsLegal, leaves_event, kept}
+use Rattle.pg_desk.specs.declared.event.Event.TheVariants.{NextStatement, NextPortal, Catalog as CatalogEvent}
+use Rattle.pg_desk.specs.Asking.{IsOfRequests}
+use Rattle.pg_desk.specs.Catalog.{Catalog, nothing_kept, type_kept, statement_kept, after_catalog, AllowsCatalog, leaves_catalog}
+use Rattle.pg_desk.specs.History.{State, Change, DrewStatement, DrewPortal, Catalogued, change_of, changed, start, after, after_all, Allows, IsLegal, leaves_event, kept}
+use Rattle.pg_desk.proofs.Cached.{last-more}
+use Rattle.pg_desk.proofs.Changes.{of-requests}
+use Rattle.pg_query.specs.Dialogue.{question_of, reply_of}
 use Rattle.pg_query.specs.Lives.{Deed}
 use Rattle.pg_query.specs.declared.desk_call.DeskCall.{DeskCall}
 use Rattle.pg_query.specs.declared.desk_call.DeskCall.TheVariants as desk_call
 use Rattle.pg_query.specs.declared.desk_call.Reply.{Reply}
 use Rattle.pg_query.specs.declared.desk_call.Reply.TheVariants as reply
 use Rattle.pg_course.specs.Courses.{Asked, Who, stamp_of}
-use Rattle.pg_core.specs.Deeds.{told_by, answers_in, granted, asked_in}
+use Rattle.pg_core.specs.Deeds.{told_as, told_by, answers_in, granted, asked_in}
 use Rattle.pg_core.proofs.Granted.{granted-append}
 use Rattle.pg_core.specs.Lists.{events_of, state_behind}
 use Rattle.pg_core.specs.Trails.{AllUnder, AreToldIn}
-use Rattle.pg_core.specs.Counters.{statements_in, portals_in, number_to, tells, Counts, ToldSo}
+use Rattle.pg_core.specs.Counters.{statements_in, portals_in, number_to, type_behind, last_type, statement_behind, last_statement, tells, Keeps, Counts, ToldSo}
 
 one-statement : (qs : List DeskCall) → statements_in (qs ++ desk_call.NextStatement ∷ []) ≡ statements_in qs + 1
 one-statement [] = refl
 one-statement (desk_call.NextStatement ∷ qs) = ap (λ (n : ℕ). n + 1) (one-statement qs)
-one-statement (desk_call.NextPortal ∷ qs) = one-statement qs
+one-statement (q ∷ qs) = one-statement qs
 
 no-statement : (qs : List DeskCall) → statements_in (qs ++ desk_call.NextPortal ∷ []) ≡ statements_in qs
 no-statement [] = refl
 no-statement (desk_call.NextStatement ∷ qs) = ap (λ (n : ℕ). n + 1) (no-statement qs)
-no-statement (desk_call.NextPortal ∷ qs) = no-statement qs
+no-statement (q ∷ qs) = no-statement qs
 
 one-portal : (qs : List DeskCall) → portals_in (qs ++ desk_call.NextPortal ∷ []) ≡ portals_in qs + 1
 one-portal [] = refl
-one-portal (desk_call.NextStatement ∷ qs) = one-portal qs
 one-portal (desk_call.NextPortal ∷ qs) = ap (λ (n : ℕ). n + 1) (one-portal qs)
+one-portal (q ∷ qs) = one-portal qs
 
 no-portal : (qs : List DeskCall) → portals_in (qs ++ desk_call.NextStatement ∷ []) ≡ portals_in qs
 no-portal [] = refl
-no-portal (desk_call.NextStatement ∷ qs) = no-portal qs
 no-portal (desk_call.NextPortal ∷ qs) = ap (λ (n : ℕ). n + 1) (no-portal qs)
+no-portal (q ∷ qs) = no-portal qs
+
+-- a question on the catalog draws no number
+no-statement-of : (qs : List DeskCall) (c : CatalogCall) → statements_in (qs ++ question_of c ∷ []) ≡ statements_in qs
+no-statement-of [] (catalog.TypeOf oid answer) = refl
+no-statement-of [] (catalog.SetType oid ty answer) = refl
+no-statement-of [] (catalog.ClearTypes answer) = refl
+no-statement-of [] (catalog.LookupOf which answer) = refl
+no-statement-of [] (catalog.SetLookup which statement answer) = refl
+no-statement-of (desk_call.NextStatement ∷ qs) c = ap (λ (n : ℕ). n + 1) (no-statement-of qs c)
+no-statement-of (q ∷ qs) c = no-statement-of qs c
+
+no-portal-of : (qs : List DeskCall) (c : CatalogCall) → portals_in (qs ++ question_of c ∷ []) ≡ portals_in qs
+no-portal-of [] (catalog.TypeOf oid answer) = refl
+no-portal-of [] (catalog.SetType oid ty answer) = refl
+no-portal-of [] (catalog.ClearTypes answer) = refl
+no-portal-of [] (catalog.LookupOf which answer) = refl
+no-portal-of [] (catalog.SetLookup which statement answer) = refl
+no-portal-of (desk_call.NextPortal ∷ qs) c = ap (λ (n : ℕ). n + 1) (no-portal-of qs c)
+no-portal-of (q ∷ qs) c = no-portal-of qs c
 
 -- below the top it is the number, else spent
 is-number : (top n : ℕ) → n < top → number_to top n ≡ reply.Number n
@@ -74,7 +100,82 @@ spent-next top c n h is =
     let over : c < top → ⊥ = was-spent top c (h ∙ is-spent top n no_more) in
     is-spent top (c + 1) (λ lt. over (omega (arith, lt))) ∙ sym (is-spent top n no_more)
 
--- one question more, told so by the counters
+-- ---- what is kept of the catalog
+
+type-more : (qs : List DeskCall) (q : DeskCall) (oid : ℕ) (before : Option PgType) → last_type (qs ++ q ∷ []) oid before ≡ type_behind q oid (last_type qs oid before)
+type-more [] q oid before = refl
+type-more (x ∷ qs) q oid before = type-more qs q oid (type_behind x oid before)
+
+statement-more : (qs : List DeskCall) (q : DeskCall) (which : Lookup) (before : Option Statement) → last_statement (qs ++ q ∷ []) which before ≡ statement_behind q which (last_statement qs which before)
+statement-more [] q which before = refl
+statement-more (x ∷ qs) q which before = statement-more qs q which (statement_behind x which before)
+
+-- another question leaves what is kept of the catalog
+keeps-more : (before : List DeskCall) (q : DeskCall) (k : Catalog) → ((oid : ℕ) (t : Option PgType) → type_behind q oid t ≡ t) → ((which : Lookup) (t : Option Statement) → statement_behind q which t ≡ t) → Keeps before k →
+    Keeps (before ++ q ∷ []) k
+keeps-more before q k types lookups h = record {
+  types = λ oid. type-more before q oid None ∙ types oid (last_type before oid None) ∙ h.types oid;
+  lookups = λ which. statement-more before q which None ∙ lookups which (last_statement before which None) ∙ h.lookups which;
+}
+
+-- what is kept behind a call that wasn't refused
+type-kept : (k : Catalog) (c : CatalogCall) (oid : ℕ) → is_ok (reply_of c) ≡ true → type_kept (after_catalog k c) oid ≡ type_behind (question_of c) oid (type_kept k oid)
+type-kept k (catalog.TypeOf asked (Ok found)) oid g = refl
+type-kept k (catalog.SetType set ty (Ok x)) oid g = last-more oid k.types (record { oid = set; type_ = ty })
+type-kept k (catalog.ClearTypes (Ok x)) oid g = refl
+type-kept k (catalog.LookupOf which (Ok found)) oid g = refl
+type-kept k (catalog.SetLookup Info statement (Ok x)) oid g = refl
+type-kept k (catalog.SetLookup Enum statement (Ok x)) oid g = refl
+type-kept k (catalog.SetLookup Composite statement (Ok x)) oid g = refl
+type-kept k (catalog.TypeOf asked (Err e)) oid g = absurd cc
+type-kept k (catalog.SetType set ty (Err e)) oid g = absurd cc
+type-kept k (catalog.ClearTypes (Err e)) oid g = absurd cc
+type-kept k (catalog.LookupOf which (Err e)) oid g = absurd cc
+type-kept k (catalog.SetLookup which statement (Err e)) oid g = absurd cc
+
+statement-kept : (k : Catalog) (c : CatalogCall) (which : Lookup) → is_ok (reply_of c) ≡ true → statement_kept (after_catalog k c) which ≡ statement_behind (question_of c) which (statement_kept k which)
+statement-kept k (catalog.TypeOf asked (Ok found)) which g = refl
+statement-kept k (catalog.SetType set ty (Ok x)) Info g = refl
+statement-kept k (catalog.SetType set ty (Ok x)) Enum g = refl
+statement-kept k (catalog.SetType set ty (Ok x)) Composite g = refl
+statement-kept k (catalog.ClearTypes (Ok x)) Info g = refl
+statement-kept k (catalog.ClearTypes (Ok x)) Enum g = refl
+statement-kept k (catalog.ClearTypes (Ok x)) Composite g = refl
+statement-kept k (catalog.LookupOf asked (Ok found)) which g = refl
+statement-kept k (catalog.SetLookup Info statement (Ok x)) Info g = refl
+statement-kept k (catalog.SetLookup Info statement (Ok x)) Enum g = refl
+statement-kept k (catalog.SetLookup Info statement (Ok x)) Composite g = refl
+statement-kept k (catalog.SetLookup Enum statement (Ok x)) Info g = refl
+statement-kept k (catalog.SetLookup Enum statement (Ok x)) Enum g = refl
+statement-kept k (catalog.SetLookup Enum statement (Ok x)) Composite g = refl
+statement-kept k (catalog.SetLookup Composite statement (Ok x)) Info g = refl
+statement-kept k (catalog.SetLookup Composite statement (Ok x)) Enum g = refl
+statement-kept k (catalog.SetLookup Composite statement (Ok x)) Composite g = refl
+statement-kept k (catalog.TypeOf asked (Err e)) which g = absurd cc
+statement-kept k (catalog.SetType set ty (Err e)) which g = absurd cc
+statement-kept k (catalog.ClearTypes (Err e)) which g = absurd cc
+statement-kept k (catalog.LookupOf asked (Err e)) which g = absurd cc
+statement-kept k (catalog.SetLookup set statement (Err e)) which g = absurd cc
+
+-- a call on the catalog that wasn't refused, asked behind these questions
+counts-behind : (before : List DeskCall) (s : State) (c : CatalogCall) → is_ok (reply_of c) ≡ true → Counts before s → Counts (before ++ question_of c ∷ []) (after s (CatalogEvent c))
+counts-behind before s c g h = record {
+  statements = ap (number_to (2 ^ 32 - 1)) (no-statement-of before c) ∙ h.statements;
+  portals = ap (number_to (2 ^ 32 - 1)) (no-portal-of before c) ∙ h.portals;
+  catalog = record {
+    types = λ oid. type-more before (question_of c) oid None ∙ ap (type_behind (question_of c) oid) (h.catalog.types oid) ∙ sym (type-kept s.catalog c oid g);
+    lookups = λ which. statement-more before (question_of c) which None ∙ ap (statement_behind (question_of c) which) (h.catalog.lookups which) ∙ sym (statement-kept s.catalog c which g);
+  };
+}
+
+-- what changes neither a counter nor the catalog
+counts-other : (before : List DeskCall) (s : State) (c : Change) → IsOfRequests c → Counts before s → Counts before (changed s c)
+counts-other before s DrewStatement none h = absurd none
+counts-other before s DrewPortal none h = absurd none
+counts-other before s (Catalogued call) none h = absurd none
+counts-other before s c none h = record { statements = h.statements; portals = h.portals; catalog = h.catalog }
+
+-- ---- one question more, told so
 record Draws (before : List DeskCall) (t : State) (q : DeskCall) (r : Reply) : Type 0 where
   tells_so : r ≡ tells before q
   counts : Counts (before ++ q ∷ []) t
@@ -87,6 +188,7 @@ statement-drawn before s n is lt h =
       counts = record {
         statements = ap (number_to (2 ^ 32 - 1)) (one-statement before) ∙ drawn-next (2 ^ 32 - 1) (statements_in before) s.statements h.statements below;
         portals = ap (number_to (2 ^ 32 - 1)) (no-portal before) ∙ h.portals;
+        catalog = keeps-more before desk_call.NextStatement s.catalog (λ oid t. refl) (λ which t. refl) h.catalog;
       };
     }
 
@@ -96,6 +198,7 @@ statement-spent before s is h = record {
   counts = record {
     statements = ap (number_to (2 ^ 32 - 1)) (one-statement before) ∙ spent-next (2 ^ 32 - 1) (statements_in before) s.statements h.statements is;
     portals = ap (number_to (2 ^ 32 - 1)) (no-portal before) ∙ h.portals;
+    catalog = keeps-more before desk_call.NextStatement s.catalog (λ oid t. refl) (λ which t. refl) h.catalog;
   };
 }
 
@@ -107,6 +210,7 @@ portal-drawn before s n is lt h =
       counts = record {
         statements = ap (number_to (2 ^ 32 - 1)) (no-statement before) ∙ h.statements;
         portals = ap (number_to (2 ^ 32 - 1)) (one-portal before) ∙ drawn-next (2 ^ 32 - 1) (portals_in before) s.portals h.portals below;
+        catalog = keeps-more before desk_call.NextPortal s.catalog (λ oid t. refl) (λ which t. refl) h.catalog;
       };
     }
 
@@ -116,66 +220,49 @@ portal-spent before s is h = record {
   counts = record {
     statements = ap (number_to (2 ^ 32 - 1)) (no-statement before) ∙ h.statements;
     portals = ap (number_to (2 ^ 32 - 1)) (one-portal before) ∙ spent-next (2 ^ 32 - 1) (portals_in before) s.portals h.portals is;
+    catalog = keeps-more before desk_call.NextPortal s.catalog (λ oid t. refl) (λ which t. refl) h.catalog;
   };
 }
 
 -- what an event tells: one question, or none
 data Says (stamp : Stamp) (s : State) (e : Event) : Type 0 where
   One : (q : DeskCall) (r : Reply) → granted (told_by stamp e) ≡ record { stamp = stamp; question = q; reply = r } ∷ [] → ((before : List DeskCall) → Counts before s → Draws before (after s e) q r) → Says stamp s e
-  None : granted (told_by stamp e) ≡ [] → ((before : List DeskCall) → Counts before s → Counts before (after s e)) → Says stamp s e
+  Silent : granted (told_by stamp e) ≡ [] → ((before : List DeskCall) → Counts before s → Counts before (after s e)) → Says stamp s e
+
+catalog-says : (stamp : Stamp) (s : State) (c : CatalogCall) → AllowsCatalog s.failed s.catalog c → Says stamp s (CatalogEvent c)
+catalog-says stamp s (catalog.TypeOf oid (Ok found)) a =
+    One (desk_call.TypeOf oid) (reply.Type found) refl (λ before h. record { tells_so = ap reply.Type (a.1 ∙ sym (h.catalog.types oid)); counts = counts-behind before s (catalog.TypeOf oid (Ok found)) refl h })
+catalog-says stamp s (catalog.SetType oid ty (Ok x)) a =
+    One (desk_call.SetType oid ty) (reply.Type (Some ty)) refl (λ before h. record { tells_so = refl; counts = counts-behind before s (catalog.SetType oid ty (Ok x)) refl h })
+catalog-says stamp s (catalog.ClearTypes (Ok x)) a =
+    One desk_call.ClearTypes reply.Cleared refl (λ before h. record { tells_so = refl; counts = counts-behind before s (catalog.ClearTypes (Ok x)) refl h })
+catalog-says stamp s (catalog.LookupOf which (Ok found)) a =
+    One (desk_call.LookupOf which) (reply.Statement found) refl (λ before h. record { tells_so = ap reply.Statement (a.1 ∙ sym (h.catalog.lookups which)); counts = counts-behind before s (catalog.LookupOf which (Ok found)) refl h })
+catalog-says stamp s (catalog.SetLookup which statement (Ok x)) a =
+    One (desk_call.SetLookup which statement) (reply.Statement (Some statement)) refl (λ before h. record { tells_so = refl; counts = counts-behind before s (catalog.SetLookup which statement (Ok x)) refl h })
+catalog-says stamp s c a = Silent refl (λ before h. record { statements = h.statements; portals = h.portals; catalog = h.catalog })
 
 says : (stamp : Stamp) (s : State) (e : Event) → Allows s e → Says stamp s e
-says stamp s (Book given part copying (Ok id)) a = None refl (λ before h. record { statements = h.statements; portals = h.portals })
-says stamp s (Book given part copying (Err f)) a = None refl (λ before h. record { statements = h.statements; portals = h.portals })
-says stamp s (PutEvent id part putting.Took) a = None refl (λ before h. record { statements = h.statements; portals = h.portals })
-says stamp s (PutEvent id part (putting.Full back)) a = None refl (λ before h. record { statements = h.statements; portals = h.portals })
-says stamp s (PutEvent id part (putting.Gone back)) a = None refl (λ before h. record { statements = h.statements; portals = h.portals })
-says stamp s (PutEvent id part (putting.OutOfMemory back)) a = None refl (λ before h. record { statements = h.statements; portals = h.portals })
-says stamp s (EndCopy id part putting.Took) a = None refl (λ before h. record { statements = h.statements; portals = h.portals })
-says stamp s (EndCopy id part (putting.Full back)) a = None refl (λ before h. record { statements = h.statements; portals = h.portals })
-says stamp s (EndCopy id part (putting.Gone back)) a = None refl (λ before h. record { statements = h.statements; portals = h.portals })
-says stamp s (EndCopy id part (putting.OutOfMemory back)) a = None refl (λ before h. record { statements = h.statements; portals = h.portals })
-says stamp s (TakeEvent id (Ok (taking.Batch ms))) a = None refl (λ before h. record { statements = h.statements; portals = h.portals })
-says stamp s (TakeEvent id (Ok taking.Empty)) a = None refl (λ before h. record { statements = h.statements; portals = h.portals })
-says stamp s (TakeEvent id (Ok taking.Over)) a = None refl (λ before h. record { statements = h.statements; portals = h.portals })
-says stamp s (TakeEvent id (Ok taking.Gone)) a = None refl (λ before h. record { statements = h.statements; portals = h.portals })
-says stamp s (TakeEvent id (Err f)) a = None refl (λ before h. record { statements = h.statements; portals = h.portals })
-says stamp s (HangUp id (Ok x)) a = None refl (λ before h. record { statements = h.statements; portals = h.portals })
-says stamp s (HangUp id (Err f)) a = None refl (λ before h. record { statements = h.statements; portals = h.portals })
 says stamp s (NextStatement (Ok n)) a = One desk_call.NextStatement (reply.Number n) refl (λ before h. statement-drawn before s n a.1 a.2 h)
-says stamp s (NextStatement (Err fault.Closed)) a = None refl (λ before h. record { statements = h.statements; portals = h.portals })
+says stamp s (NextStatement (Err fault.Closed)) a = Silent refl (λ before h. record { statements = h.statements; portals = h.portals; catalog = h.catalog })
 says stamp s (NextStatement (Err fault.Encode)) a = One desk_call.NextStatement reply.Spent refl (λ before h. statement-spent before s a.1 h)
-says stamp s (NextStatement (Err fault.OutOfMemory)) a = None refl (λ before h. record { statements = h.statements; portals = h.portals })
+says stamp s (NextStatement (Err fault.OutOfMemory)) a = Silent refl (λ before h. record { statements = h.statements; portals = h.portals; catalog = h.catalog })
 says stamp s (NextPortal (Ok n)) a = One desk_call.NextPortal (reply.Number n) refl (λ before h. portal-drawn before s n a.1 a.2 h)
-says stamp s (NextPortal (Err fault.Closed)) a = None refl (λ before h. record { statements = h.statements; portals = h.portals })
+says stamp s (NextPortal (Err fault.Closed)) a = Silent refl (λ before h. record { statements = h.statements; portals = h.portals; catalog = h.catalog })
 says stamp s (NextPortal (Err fault.Encode)) a = One desk_call.NextPortal reply.Spent refl (λ before h. portal-spent before s a.1 h)
-says stamp s (NextPortal (Err fault.OutOfMemory)) a = None refl (λ before h. record { statements = h.statements; portals = h.portals })
-says stamp s (NextOut (Ok (out.Part part))) a = None refl (λ before h. record { statements = h.statements; portals = h.portals })
-says stamp s (NextOut (Ok out.CopyWaits)) a = None refl (λ before h. record { statements = h.statements; portals = h.portals })
-says stamp s (NextOut (Ok out.Nothing)) a = None refl (λ before h. record { statements = h.statements; portals = h.portals })
-says stamp s (NextOut (Ok out.NoMore)) a = None refl (λ before h. record { statements = h.statements; portals = h.portals })
-says stamp s (NextOut (Err f)) a = None refl (λ before h. record { statements = h.statements; portals = h.portals })
-says stamp s (DeliverEvent batch complete delivering.Taken) a = None refl (λ before h. record { statements = h.statements; portals = h.portals })
-says stamp s (DeliverEvent batch complete (delivering.Full back)) a = None refl (λ before h. record { statements = h.statements; portals = h.portals })
-says stamp s (DeliverEvent batch complete (delivering.NoRequest back)) a = None refl (λ before h. record { statements = h.statements; portals = h.portals })
-says stamp s (DeliverEvent batch complete (delivering.OutOfMemory back)) a = None refl (λ before h. record { statements = h.statements; portals = h.portals })
-says stamp s (CloseRequests (Ok x)) a = None refl (λ before h. record { statements = h.statements; portals = h.portals })
-says stamp s (CloseRequests (Err f)) a = None refl (λ before h. record { statements = h.statements; portals = h.portals })
-says stamp s (Fail (Ok x)) a = None refl (λ before h. record { statements = h.statements; portals = h.portals })
-says stamp s (Fail (Err f)) a = None refl (λ before h. record { statements = h.statements; portals = h.portals })
+says stamp s (NextPortal (Err fault.OutOfMemory)) a = Silent refl (λ before h. record { statements = h.statements; portals = h.portals; catalog = h.catalog })
+says stamp s (CatalogEvent c) a = catalog-says stamp s c a
+says stamp s e a = Silent refl (λ before h. counts-other before s (change_of e) (of-requests e (λ x. x)) h)
+
+catalog-left-out : (stamp : Stamp) (c : CatalogCall) → leaves_catalog c ≡ false → granted (told_as stamp (question_of c) (reply_of c)) ≡ []
+catalog-left-out stamp (catalog.TypeOf oid (Ok found)) h = absurd cc
+catalog-left-out stamp (catalog.SetType oid ty (Ok x)) h = absurd cc
+catalog-left-out stamp (catalog.ClearTypes (Ok x)) h = absurd cc
+catalog-left-out stamp (catalog.LookupOf which (Ok found)) h = absurd cc
+catalog-left-out stamp (catalog.SetLookup which statement (Ok x)) h = absurd cc
+catalog-left-out stamp c h = refl
 
 left-out-tells : (stamp : Stamp) (e : Event) → leaves_event e ≡ false → granted (told_by stamp e) ≡ []
-left-out-tells stamp (Book given part copying (Ok id)) h = refl
-left-out-tells stamp (Book given part copying (Err f)) h = refl
-left-out-tells stamp (PutEvent id part answer) h = refl
-left-out-tells stamp (EndCopy id part answer) h = refl
-left-out-tells stamp (TakeEvent id (Ok (taking.Batch ms))) h = refl
-left-out-tells stamp (TakeEvent id (Ok taking.Empty)) h = refl
-left-out-tells stamp (TakeEvent id (Ok taking.Over)) h = refl
-left-out-tells stamp (TakeEvent id (Ok taking.Gone)) h = refl
-left-out-tells stamp (TakeEvent id (Err f)) h = refl
-left-out-tells stamp (HangUp id (Ok x)) h = refl
-left-out-tells stamp (HangUp id (Err f)) h = refl
 left-out-tells stamp (NextStatement (Ok n)) h = absurd cc
 left-out-tells stamp (NextStatement (Err fault.Closed)) h = refl
 left-out-tells stamp (NextStatement (Err fault.Encode)) h = absurd cc
@@ -184,19 +271,8 @@ left-out-tells stamp (NextPortal (Ok n)) h = absurd cc
 left-out-tells stamp (NextPortal (Err fault.Closed)) h = refl
 left-out-tells stamp (NextPortal (Err fault.Encode)) h = absurd cc
 left-out-tells stamp (NextPortal (Err fault.OutOfMemory)) h = refl
-left-out-tells stamp (NextOut (Ok (out.Part part))) h = refl
-left-out-tells stamp (NextOut (Ok out.CopyWaits)) h = refl
-left-out-tells stamp (NextOut (Ok out.Nothing)) h = refl
-left-out-tells stamp (NextOut (Ok out.NoMore)) h = refl
-left-out-tells stamp (NextOut (Err f)) h = refl
-left-out-tells stamp (DeliverEvent batch complete delivering.Taken) h = refl
-left-out-tells stamp (DeliverEvent batch complete (delivering.Full back)) h = refl
-left-out-tells stamp (DeliverEvent batch complete (delivering.NoRequest back)) h = refl
-left-out-tells stamp (DeliverEvent batch complete (delivering.OutOfMemory back)) h = refl
-left-out-tells stamp (CloseRequests (Ok x)) h = refl
-left-out-tells stamp (CloseRequests (Err f)) h = refl
-left-out-tells stamp (Fail (Ok x)) h = refl
-left-out-tells stamp (Fail (Err f)) h = refl
+left-out-tells stamp (CatalogEvent c) h = catalog-left-out stamp c h
+left-out-tells stamp e h = refl
 
 module _ (who : Who) (turn : ℕ) (stamp : Stamp) (same : stamp ≡ stamp_of who turn) where
   told-on : (ds : List Deed) (before : List DeskCall) (s : State) → AllUnder stamp ds → IsLegal s (kept (events_of ds)) → Counts before s →
@@ -211,7 +287,7 @@ module _ (who : Who) (turn : ℕ) (stamp : Stamp) (same : stamp ≡ stamp_of who
 
       one : (final : State) → Says a.stamp s a.event → ((before' : List DeskCall) → Counts before' (after s a.event) → AreToldIn tells who turn before' (asked_in ds) × Counts (before' ++ map (λ a. a.question) (asked_in ds)) final) →
           AreToldIn tells who turn before (asked_in (a ∷ ds)) × Counts (before ++ map (λ a. a.question) (asked_in (a ∷ ds))) final
-      one final (None none still) r = quiet final none (r before (still before h))
+      one final (Silent none still) r = quiet final none (r before (still before h))
       one final (One q reply is draws) r =
           let d = draws before h in
           let x : Asked DeskCall Reply = record { stamp = a.stamp; question = q; reply = reply } in
@@ -231,5 +307,18 @@ pub told-so : (who : Who) (turn : ℕ) (stamp : Stamp) → stamp ≡ stamp_of wh
     ToldSo who turn before s ds
 told-so who turn stamp same ds before s under legal h = let r = told-on who turn stamp same ds before s under legal h in record { told = r.0; counts = r.1 }
 
+-- and in a state that has the same numbers and keeps the same
+pub counts-same : (before : List DeskCall) (s t : State) → t.statements ≡ s.statements → t.portals ≡ s.portals → t.catalog ≡ s.catalog → Counts before s → Counts before t
+counts-same before s t a b c h = record {
+  statements = h.statements ∙ ap (number_to (2 ^ 32 - 1)) (sym a);
+  portals = h.portals ∙ ap (number_to (2 ^ 32 - 1)) (sym b);
+  catalog = subst (Keeps before) (sym c) h.catalog;
+}
+
 pub counts-start : Counts [] (start 0 0)
-counts-start = record { statements = refl; portals = refl }
+counts-start = record { statements = refl; portals = refl; catalog = record { types = λ oid. refl; lookups = none } }
+  where
+    none : (which : Lookup) → last_statement [] which None ≡ statement_kept nothing_kept which
+    none Info = refl
+    none Enum = refl
+    none Composite = refl

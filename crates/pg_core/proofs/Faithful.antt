@@ -1,25 +1,31 @@
 -- Where an open hub refuses a command a booking or a question, memory lacked, and a faithful command answers that.
-use Rattle.std.proofs.Common.{◌≡◌, ◌⊎◌, inl, inr, ℕ, ◌||◌, List, [], ◌∷◌, Bool, true, false, if◌then◌else◌, Result, Ok, Err, refl, sym, ap, subst, ◌∙◌}
+use Rattle.std.proofs.Common.{◌≡◌, ◌⊎◌, inl, inr, ℕ, ◌||◌, List, [], ◌∷◌, Bool, true, false, if◌then◌else◌, Option, Some, Result, Ok, Err, refl, sym, ap, subst, ◌∙◌}
 use Rattle.pg_spec.specs.RawMessages.{RawMessage}
 use Rattle.pg_spec.specs.declared.stamps.Stamp.{Stamp}
 use Rattle.pg_desk.specs.declared.event.DeskFault.{DeskFault}
 use Rattle.pg_desk.specs.declared.event.DeskFault.TheVariants as fault
 use Rattle.pg_desk.specs.declared.event.Take.TheVariants as taking
 use Rattle.pg_desk.specs.declared.event.Event.{Event}
-use Rattle.pg_desk.specs.declared.event.Event.TheVariants.{Book, Take as TakeEvent, HangUp, NextStatement, NextPortal}
+use Rattle.pg_desk.specs.declared.event.Event.TheVariants.{Book, Take as TakeEvent, HangUp, NextStatement, NextPortal, Catalog as CatalogEvent}
+use Rattle.pg_desk.specs.declared.event.CatalogCall.{CatalogCall}
+use Rattle.pg_desk.specs.declared.event.CatalogCall.TheVariants as catalog
+use Rattle.pg_desk.specs.Catalog.{type_kept, statement_kept, AllowsUnlessFailed, AllowsCatalog}
+use Rattle.pg_types.specs.declared.pg_type.PgType.{PgType}
+use Rattle.pg_statements.specs.declared.statement.Described.{Described as Statement}
 use Rattle.pg_desk.specs.History.{State, Change, ClosedAll, FailedAll, change_of, changed, after, after_all, ended, Allows, IsLegal}
 use Rattle.pg_faults.specs.declared.error.Error.{Error}
 use Rattle.pg_faults.specs.declared.error.Error.TheVariants.{OutOfMemory}
 use Rattle.pg_query.specs.Faults.{of_fault}
 use Rattle.pg_query.specs.Dialogue as code
-use Rattle.pg_query.specs.Dialogue.{Dialogue, Answer, feed, feed_one, after_reply, Told, Steps}
+use Rattle.pg_query.specs.Dialogue.{Dialogue, Answer, feed, feed_one, after_reply, question_of, as_reply, reply_of, Told, Steps}
 use Rattle.pg_query.specs.Lives.{Deed, Leads}
 use Rattle.pg_query.specs.Meaning.{Place}
 use Rattle.pg_query.specs.Scripts.{IsRead}
 use Rattle.pg_query.specs.declared.desk_call.DeskCall.{DeskCall}
 use Rattle.pg_query.specs.declared.desk_call.DeskCall.TheVariants as desk_call
 use Rattle.pg_query.specs.declared.desk_call.Reply.{Reply}
-use Rattle.pg_core.specs.Deeds.{booked_by, bookings_in, told_by, answers_in, AreGranted}
+use Rattle.pg_query.specs.declared.desk_call.Reply.TheVariants as reply
+use Rattle.pg_core.specs.Deeds.{booked_by, bookings_in, told_as, told_by, answers_in, AreGranted}
 use Rattle.pg_core.specs.Lists.{events_of}
 use Rattle.pg_core.specs.Times.{LacksMemory, IsFaithful}
 use Rattle.pg_core.specs.Trails.{PollEnds, Gave, Pauses}
@@ -103,6 +109,20 @@ booking-why s stamp part copying fault.Closed es a open_ = absurd (not-ended s e
 booking-why s stamp part copying fault.Encode es a open_ = absurd a
 booking-why s stamp part copying fault.OutOfMemory es a open_ = refl
 
+-- a call on the catalog that it refused
+unless-why : {A : Type 0} (s : State) (P : A → Type 0) (tells : A → Reply) (answer : Result A DeskFault) (f : DeskFault) → Err f ≡ as_reply tells answer → AllowsUnlessFailed s.failed P answer → (s.failed ≡ true → ⊥) → of_fault f ≡ OutOfMemory
+unless-why s P tells (Ok x) f t a open_ = absurd cc
+unless-why s P tells (Err fault.Closed) f t a open_ = absurd (open_ a)
+unless-why s P tells (Err fault.Encode) f t a open_ = absurd a
+unless-why s P tells (Err fault.OutOfMemory) f t a open_ = let same : f ≡ fault.OutOfMemory = cc in ap of_fault same
+
+catalog-why : (s : State) (c : CatalogCall) (f : DeskFault) → Err f ≡ reply_of c → AllowsCatalog s.failed s.catalog c → (s.failed ≡ true → ⊥) → of_fault f ≡ OutOfMemory
+catalog-why s (catalog.TypeOf oid answer) f t a open_ = unless-why s (λ (found : Option PgType). found ≡ type_kept s.catalog oid) reply.Type answer f t a open_
+catalog-why s (catalog.SetType oid ty answer) f t a open_ = unless-why s (λ (x : Unit {0}). Unit {0}) (λ x. reply.Type (Some ty)) answer f t a open_
+catalog-why s (catalog.ClearTypes answer) f t a open_ = unless-why s (λ (x : Unit {0}). Unit {0}) (λ x. reply.Cleared) answer f t a open_
+catalog-why s (catalog.LookupOf which answer) f t a open_ = unless-why s (λ (found : Option Statement). found ≡ statement_kept s.catalog which) reply.Statement answer f t a open_
+catalog-why s (catalog.SetLookup which statement answer) f t a open_ = unless-why s (λ (x : Unit {0}). Unit {0}) (λ x. reply.Statement (Some statement)) answer f t a open_
+
 -- a question that it refused
 question-why : (s : State) (q : DeskCall) (e : Event) (f : DeskFault) (es : List Event) → Told q e (Err f) → Allows s e → ended (after_all (after s e) es) ≡ false → of_fault f ≡ OutOfMemory
 question-why s desk_call.NextStatement (NextStatement (Ok n)) f es t a open_ = absurd cc
@@ -113,6 +133,7 @@ question-why s desk_call.NextPortal (NextPortal (Ok n)) f es t a open_ = absurd 
 question-why s desk_call.NextPortal (NextPortal (Err fault.Encode)) f es t a open_ = absurd cc
 question-why s desk_call.NextPortal (NextPortal (Err fault.Closed)) f es t a open_ = absurd (not-ended s es open_ (failed-ends s a))
 question-why s desk_call.NextPortal (NextPortal (Err fault.OutOfMemory)) f es t a open_ = let same : f ≡ fault.OutOfMemory = cc in ap of_fault same
+question-why s q (CatalogEvent c) f es t a open_ = catalog-why s c f t.1 a (λ failed. not-ended (after s (CatalogEvent c)) es open_ (failed-ends s failed))
 question-why s q e f es t a open_ = absurd t
 
 -- one that is told was granted
@@ -125,6 +146,7 @@ told-granted stamp desk_call.NextPortal (NextPortal (Ok n)) r t = (tt, tt)
 told-granted stamp desk_call.NextPortal (NextPortal (Err fault.Encode)) r t = (tt, tt)
 told-granted stamp desk_call.NextPortal (NextPortal (Err fault.Closed)) r t = absurd cc
 told-granted stamp desk_call.NextPortal (NextPortal (Err fault.OutOfMemory)) r t = absurd cc
+told-granted stamp q (CatalogEvent c) r t = (tt, subst (λ (x : Result Reply DeskFault). AreGranted (told_as stamp (question_of c) x)) t.1 tt)
 told-granted stamp q e r t = absurd t
 
 -- nothing was refused by this event and it is faithful still, or memory lacked

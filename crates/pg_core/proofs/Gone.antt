@@ -10,8 +10,9 @@ use Rattle.pg_desk.specs.declared.event.Take.TheVariants as taking
 use Rattle.pg_desk.specs.declared.event.Out.TheVariants as out
 use Rattle.pg_desk.specs.declared.event.Deliver.TheVariants as delivering
 use Rattle.pg_desk.specs.declared.event.Event.{Event}
-use Rattle.pg_desk.specs.declared.event.Event.TheVariants.{Book, Put as PutEvent, EndCopy, Take as TakeEvent, HangUp, NextStatement, NextPortal, NextOut, Deliver as DeliverEvent, CloseRequests, Fail}
+use Rattle.pg_desk.specs.declared.event.Event.TheVariants.{Book, Put as PutEvent, EndCopy, Take as TakeEvent, HangUp, NextStatement, NextPortal, Catalog as CatalogEvent, NextOut, Deliver as DeliverEvent, CloseRequests, Fail}
 use Rattle.pg_desk.specs.History.{State, Change, Booked, Added, Ended, LetGo, change_of, changed, start, has_ended, is_in, is_hung_up, may_let_go, waiting, after, after_all, take_answer, take_of_waiting, Allows, IsLegal}
+use Rattle.pg_desk.specs.Asking.{IsAsking}
 use Rattle.pg_desk.proofs.Parts.{extended-length}
 use Rattle.pg_faults.specs.declared.error.Error.{Error}
 use Rattle.pg_query.specs.Faults.{of_fault}
@@ -19,8 +20,8 @@ use Rattle.pg_query.specs.Dialogue as code
 use Rattle.pg_query.specs.Dialogue.{Dialogue, Answer, feed, feed_one, after_reply, Told, Steps}
 use Rattle.pg_query.specs.Lives.{Deed, Leads}
 use Rattle.pg_query.specs.declared.desk_call.DeskCall.{DeskCall}
-use Rattle.pg_query.specs.declared.desk_call.DeskCall.TheVariants as desk_call
 use Rattle.pg_query.specs.declared.desk_call.Reply.{Reply}
+use Rattle.pg_query.proofs.Questions.{told-asks}
 use Rattle.pg_course.specs.Dialogues.{decided_after}
 use Rattle.pg_core.specs.Lists.{events_of, AddNoParts, IsReached}
 use Rattle.pg_core.specs.Runs.{ReadsNothing}
@@ -213,12 +214,13 @@ kept-as {T} s e d d' id id' is same fits whole not = record {
 data Asks (s : State) (e : Event) : Type 0 where
   Quiet : ((id : ℕ) → IsThere s id → IsThere (after s e) id) → (after s e).failed ≡ s.failed → IsNotGone e → Asks s e
 
-asks : (s : State) (q : DeskCall) (e : Event) (r : Result Reply DeskFault) → Told q e r → Asks s e
-asks s desk_call.NextStatement (NextStatement (Ok n)) r h = Quiet (λ id there. record { booked = there.booked; kept_up = there.kept_up }) refl tt
-asks s desk_call.NextStatement (NextStatement (Err f)) r h = Quiet (λ id there. there) refl tt
-asks s desk_call.NextPortal (NextPortal (Ok n)) r h = Quiet (λ id there. record { booked = there.booked; kept_up = there.kept_up }) refl tt
-asks s desk_call.NextPortal (NextPortal (Err f)) r h = Quiet (λ id there. there) refl tt
-asks s q e r h = absurd h
+asks : (s : State) (e : Event) → IsAsking e → Asks s e
+asks s (NextStatement (Ok n)) h = Quiet (λ id there. record { booked = there.booked; kept_up = there.kept_up }) refl tt
+asks s (NextStatement (Err f)) h = Quiet (λ id there. there) refl tt
+asks s (NextPortal (Ok n)) h = Quiet (λ id there. record { booked = there.booked; kept_up = there.kept_up }) refl tt
+asks s (NextPortal (Err f)) h = Quiet (λ id there. there) refl tt
+asks s (CatalogEvent call) h = Quiet (λ id there. record { booked = there.booked; kept_up = there.kept_up }) refl tt
+asks s e h = absurd h
 
 call-kept : {T : Type 0} (s : State) (q : DeskCall) (refused : Error → Dialogue T) (next : Reply → Dialogue T) (id : ℕ) (e : Event) (r : Result Reply DeskFault) (d' : Dialogue T) (id' : ℕ) → Fits s (code.Call q refused next) id → s.failed ≡ false → Asks s e →
     d' ≡ after_reply r refused next → id' ≡ id → Kept s e d' id'
@@ -264,7 +266,7 @@ kept s stamp (code.Close p d) id e d' id' fits hung whole a st = absurd fits
 kept s stamp (code.HangUp d) id (HangUp which (Ok x)) d' id' (none, sane) hung whole a st = kept-as s (HangUp which (Ok x)) d d' id id' st.1 st.2 (fits-none _ d id sane none) whole tt
 kept s stamp (code.HangUp d) id (HangUp which (Err f)) d' id' fits hung whole a st = kept-as s (HangUp which (Err f)) (Answer _) d' id id' st.1 st.2 tt whole tt
 kept s stamp (code.HangUp d) id e d' id' fits hung whole a st = absurd st
-kept s stamp (code.Call q refused next) id e d' id' fits hung whole a (r, told, is, same) = call-kept s q refused next id e r d' id' fits whole (asks s q e r told) is same
+kept s stamp (code.Call q refused next) id e d' id' fits hung whole a (r, told, is, same) = call-kept s q refused next id e r d' id' fits whole (asks s e (told-asks q e r told)) is same
 kept s stamp (code.Hear next) id e d' id' fits hung whole a st = absurd st
 
 -- ---- a walk
@@ -291,39 +293,18 @@ none-gone s d id (a ∷ ds) q end fits hung whole legal (mid, n, st, l) =
 
 there-one : (s : State) (k : ℕ) (e : Event) → IsNoHangUp k e → IsThere s k → IsThere (after s e) k
 there-one s k (Book given part copying (Ok id)) none h = there-booked s given part copying id k h
-there-one s k (Book given part copying (Err f)) none h = h
 there-one s k (PutEvent id part putting.Took) none h = record { booked = subst (λ (n : ℕ). k < n) (sym (extended-length id part s.book)) h.booked; kept_up = h.kept_up }
-there-one s k (PutEvent id part (putting.Full back)) none h = h
-there-one s k (PutEvent id part (putting.Gone back)) none h = h
-there-one s k (PutEvent id part (putting.OutOfMemory back)) none h = h
 there-one s k (EndCopy id part putting.Took) none h = record { booked = subst (λ (n : ℕ). k < n) (sym (extended-length id part s.book)) h.booked; kept_up = h.kept_up }
-there-one s k (EndCopy id part (putting.Full back)) none h = h
-there-one s k (EndCopy id part (putting.Gone back)) none h = h
-there-one s k (EndCopy id part (putting.OutOfMemory back)) none h = h
 there-one s k (TakeEvent id (Ok (taking.Batch ms))) none h = record { booked = h.booked; kept_up = h.kept_up }
-there-one s k (TakeEvent id (Ok taking.Empty)) none h = h
-there-one s k (TakeEvent id (Ok taking.Over)) none h = h
-there-one s k (TakeEvent id (Ok taking.Gone)) none h = h
-there-one s k (TakeEvent id (Err f)) none h = h
 there-one s k (HangUp id (Ok x)) none h = there-hung s id k none h
-there-one s k (HangUp id (Err f)) none h = h
 there-one s k (NextStatement (Ok n)) none h = record { booked = h.booked; kept_up = h.kept_up }
-there-one s k (NextStatement (Err f)) none h = h
 there-one s k (NextPortal (Ok n)) none h = record { booked = h.booked; kept_up = h.kept_up }
-there-one s k (NextPortal (Err f)) none h = h
+there-one s k (CatalogEvent call) none h = record { booked = h.booked; kept_up = h.kept_up }
 there-one s k (NextOut (Ok (out.Part part))) none h = record { booked = h.booked; kept_up = h.kept_up }
-there-one s k (NextOut (Ok out.CopyWaits)) none h = h
-there-one s k (NextOut (Ok out.Nothing)) none h = h
-there-one s k (NextOut (Ok out.NoMore)) none h = h
-there-one s k (NextOut (Err f)) none h = h
 there-one s k (DeliverEvent batch complete delivering.Taken) none h = record { booked = h.booked; kept_up = h.kept_up }
-there-one s k (DeliverEvent batch complete (delivering.Full back)) none h = h
-there-one s k (DeliverEvent batch complete (delivering.NoRequest back)) none h = h
-there-one s k (DeliverEvent batch complete (delivering.OutOfMemory back)) none h = h
 there-one s k (CloseRequests (Ok x)) none h = record { booked = h.booked; kept_up = h.kept_up }
-there-one s k (CloseRequests (Err f)) none h = h
 there-one s k (Fail (Ok x)) none h = record { booked = h.booked; kept_up = h.kept_up }
-there-one s k (Fail (Err f)) none h = h
+there-one s k e none h = h
 
 pub there-on : (s : State) (k : ℕ) (L : List Deed) → HangsUpNone k L → IsThere s k → IsThere (after_all s (events_of L)) k
 there-on s k [] none h = h

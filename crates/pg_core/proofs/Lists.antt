@@ -1,5 +1,5 @@
 -- One legal list gives each reader of it what comes next.
-use Rattle.std.proofs.Common.{◌≡◌, ℕ, ◌<◌, ◌≤◌, ◌==◌, nat_lt, List, [], ◌∷◌, ◌++◌, length, filter, Bool, true, false, if◌then◌else◌, inl, inr, Ok, Err, refl, sym, ap, subst, ◌∙◌, arith, append_assoc}
+use Rattle.std.proofs.Common.{◌≡◌, ℕ, ◌<◌, ◌≤◌, ◌==◌, nat_lt, List, [], ◌∷◌, ◌++◌, length, filter, Bool, true, false, if◌then◌else◌, inl, inr, Ok, refl, sym, ap, subst, ◌∙◌, arith, append_assoc}
 use Rattle.std.proofs.lemmas.Bool.Decides.{nat_tests, eqb_tells}
 use Rattle.std.proofs.lemmas.List.{append-nil, length-append}
 use Rattle.pg_spec.specs.RawMessages.{RawMessage}
@@ -8,7 +8,7 @@ use Rattle.pg_desk.specs.declared.event.Take.TheVariants as taking
 use Rattle.pg_desk.specs.declared.event.Out.TheVariants as out
 use Rattle.pg_desk.specs.declared.event.Deliver.TheVariants as delivering
 use Rattle.pg_desk.specs.declared.event.Event.{Event}
-use Rattle.pg_desk.specs.declared.event.Event.TheVariants.{Book, Put as PutEvent, EndCopy, Take as TakeEvent, HangUp, NextStatement, NextPortal, NextOut, Deliver as DeliverEvent, CloseRequests, Fail}
+use Rattle.pg_desk.specs.declared.event.Event.TheVariants.{Book, Put as PutEvent, EndCopy, Take as TakeEvent, HangUp, NextStatement, NextPortal, Catalog as CatalogEvent, NextOut, Deliver as DeliverEvent, CloseRequests, Fail}
 use Rattle.pg_desk.specs.History.{State, Change, Booked, Added, Ended, Took, Came, change_of, changed, Admits, next_owner, given, taken, waiting, is_hung_up, after, after_all, take_answer, take_of_waiting, Allows, IsLegal, IsFrontOf, IsSound, joined, leaves_event, kept}
 use Rattle.pg_desk.proofs.Parts.{extended-length}
 use Rattle.pg_desk.proofs.Soundness.{admitted, given-more, taken-own, taken-other}
@@ -51,40 +51,19 @@ takes-own s id ms k = elim (eqb_tells id k) [
 
 -- what was taken by it
 pub takes-one : (s : State) (e : Event) (k : ℕ) → got_of (after s e) k ≡ got_of s k ++ taken_from k e
-takes-one s (Book stamp part copying (Ok id)) k = sym (append-nil (got_of s k))
-takes-one s (Book stamp part copying (Err f)) k = sym (append-nil (got_of s k))
-takes-one s (PutEvent id part putting.Took) k = sym (append-nil (got_of s k))
-takes-one s (PutEvent id part (putting.Full back)) k = sym (append-nil (got_of s k))
-takes-one s (PutEvent id part (putting.Gone back)) k = sym (append-nil (got_of s k))
-takes-one s (PutEvent id part (putting.OutOfMemory back)) k = sym (append-nil (got_of s k))
-takes-one s (EndCopy id part putting.Took) k = sym (append-nil (got_of s k))
-takes-one s (EndCopy id part (putting.Full back)) k = sym (append-nil (got_of s k))
-takes-one s (EndCopy id part (putting.Gone back)) k = sym (append-nil (got_of s k))
-takes-one s (EndCopy id part (putting.OutOfMemory back)) k = sym (append-nil (got_of s k))
 takes-one s (TakeEvent id (Ok (taking.Batch ms))) k = takes-own s id ms k
-takes-one s (TakeEvent id (Ok taking.Empty)) k = sym (append-nil (got_of s k))
-takes-one s (TakeEvent id (Ok taking.Over)) k = sym (append-nil (got_of s k))
-takes-one s (TakeEvent id (Ok taking.Gone)) k = sym (append-nil (got_of s k))
-takes-one s (TakeEvent id (Err f)) k = sym (append-nil (got_of s k))
+takes-one s (Book stamp part copying (Ok id)) k = sym (append-nil (got_of s k))
+takes-one s (PutEvent id part putting.Took) k = sym (append-nil (got_of s k))
+takes-one s (EndCopy id part putting.Took) k = sym (append-nil (got_of s k))
 takes-one s (HangUp id (Ok x)) k = sym (append-nil (got_of s k))
-takes-one s (HangUp id (Err f)) k = sym (append-nil (got_of s k))
 takes-one s (NextStatement (Ok n)) k = sym (append-nil (got_of s k))
-takes-one s (NextStatement (Err f)) k = sym (append-nil (got_of s k))
 takes-one s (NextPortal (Ok n)) k = sym (append-nil (got_of s k))
-takes-one s (NextPortal (Err f)) k = sym (append-nil (got_of s k))
+takes-one s (CatalogEvent call) k = sym (append-nil (got_of s k))
 takes-one s (NextOut (Ok (out.Part part))) k = sym (append-nil (got_of s k))
-takes-one s (NextOut (Ok out.CopyWaits)) k = sym (append-nil (got_of s k))
-takes-one s (NextOut (Ok out.Nothing)) k = sym (append-nil (got_of s k))
-takes-one s (NextOut (Ok out.NoMore)) k = sym (append-nil (got_of s k))
-takes-one s (NextOut (Err f)) k = sym (append-nil (got_of s k))
 takes-one s (DeliverEvent batch complete delivering.Taken) k = sym (append-nil (got_of s k))
-takes-one s (DeliverEvent batch complete (delivering.Full back)) k = sym (append-nil (got_of s k))
-takes-one s (DeliverEvent batch complete (delivering.NoRequest back)) k = sym (append-nil (got_of s k))
-takes-one s (DeliverEvent batch complete (delivering.OutOfMemory back)) k = sym (append-nil (got_of s k))
 takes-one s (CloseRequests (Ok x)) k = sym (append-nil (got_of s k))
-takes-one s (CloseRequests (Err f)) k = sym (append-nil (got_of s k))
 takes-one s (Fail (Ok x)) k = sym (append-nil (got_of s k))
-takes-one s (Fail (Err f)) k = sym (append-nil (got_of s k))
+takes-one s e k = sym (append-nil (got_of s k))
 
 grows-own : (s : State) (ms : List RawMessage) (complete : Bool) (k : ℕ) → IsFrontOf (came_of s k) (came_of (changed s (Came ms complete)) k)
 grows-own s ms complete k = by (next_owner s == k) (given-more s ms complete k)

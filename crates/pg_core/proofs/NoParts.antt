@@ -6,7 +6,7 @@ use Rattle.pg_desk.specs.declared.event.Put.TheVariants as putting
 use Rattle.pg_desk.specs.declared.event.Event.{Event}
 use Rattle.pg_desk.specs.declared.event.Event.TheVariants as event
 use Rattle.pg_query.specs.Dialogue.{Dialogue, Answer, Ask, Send, Leave, Read, Put, Finish, Close, HangUp, Call, Hear, Steps}
-use Rattle.pg_query.specs.declared.desk_call.DeskCall.TheVariants as desk_call
+use Rattle.pg_query.proofs.Questions.{told-asks}
 use Rattle.pg_core.specs.Lists.{AddsNoPart}
 use Rattle.pg_core.specs.Times.{Fits}
 
@@ -20,8 +20,7 @@ puts-not s stamp (Put cleanup p d) id which part d' id' fits st = fits
 puts-not s stamp (Finish p d) id which part d' id' fits st = fits
 puts-not s stamp (Close p d) id which part d' id' fits st = fits
 puts-not s stamp (HangUp d) id which part d' id' fits st = st
-puts-not s stamp (Call desk_call.NextStatement refused next) id which part d' id' fits st = st.1
-puts-not s stamp (Call desk_call.NextPortal refused next) id which part d' id' fits st = st.1
+puts-not s stamp (Call q refused next) id which part d' id' fits st = told-asks q (event.Put which part putting.Took) st.0 st.1
 puts-not s stamp (Hear next) id which part d' id' fits st = st
 
 ends-not : {T : Type 0} (s : State) (stamp : Stamp) (d : Dialogue T) (id which : ℕ) (part : List ℕ) (d' : Dialogue T) (id' : ℕ) → Fits s d id → Steps stamp d id (event.EndCopy which part putting.Took) d' id' → ⊥
@@ -34,25 +33,10 @@ ends-not s stamp (Put cleanup p d) id which part d' id' fits st = fits
 ends-not s stamp (Finish p d) id which part d' id' fits st = fits
 ends-not s stamp (Close p d) id which part d' id' fits st = fits
 ends-not s stamp (HangUp d) id which part d' id' fits st = st
-ends-not s stamp (Call desk_call.NextStatement refused next) id which part d' id' fits st = st.1
-ends-not s stamp (Call desk_call.NextPortal refused next) id which part d' id' fits st = st.1
+ends-not s stamp (Call q refused next) id which part d' id' fits st = told-asks q (event.EndCopy which part putting.Took) st.0 st.1
 ends-not s stamp (Hear next) id which part d' id' fits st = st
 
 pub no-part : {T : Type 0} (s : State) (stamp : Stamp) (d : Dialogue T) (id : ℕ) (e : Event) (d' : Dialogue T) (id' : ℕ) → Fits s d id → Steps stamp d id e d' id' → AddsNoPart e
 no-part s stamp d id (event.Put which part putting.Took) d' id' fits st = puts-not s stamp d id which part d' id' fits st
-no-part s stamp d id (event.Put which part (putting.Full back)) d' id' fits st = tt
-no-part s stamp d id (event.Put which part (putting.Gone back)) d' id' fits st = tt
-no-part s stamp d id (event.Put which part (putting.OutOfMemory back)) d' id' fits st = tt
 no-part s stamp d id (event.EndCopy which part putting.Took) d' id' fits st = ends-not s stamp d id which part d' id' fits st
-no-part s stamp d id (event.EndCopy which part (putting.Full back)) d' id' fits st = tt
-no-part s stamp d id (event.EndCopy which part (putting.Gone back)) d' id' fits st = tt
-no-part s stamp d id (event.EndCopy which part (putting.OutOfMemory back)) d' id' fits st = tt
-no-part s stamp d id (event.Book given part copying answer) d' id' fits st = tt
-no-part s stamp d id (event.Take which answer) d' id' fits st = tt
-no-part s stamp d id (event.HangUp which answer) d' id' fits st = tt
-no-part s stamp d id (event.NextStatement answer) d' id' fits st = tt
-no-part s stamp d id (event.NextPortal answer) d' id' fits st = tt
-no-part s stamp d id (event.NextOut answer) d' id' fits st = tt
-no-part s stamp d id (event.Deliver batch complete answer) d' id' fits st = tt
-no-part s stamp d id (event.CloseRequests answer) d' id' fits st = tt
-no-part s stamp d id (event.Fail answer) d' id' fits st = tt
+no-part s stamp d id e d' id' fits st = tt

@@ -6,7 +6,8 @@ use Rattle.pg_spec.specs.declared.stamps.Stamp.{Stamp}
 use Rattle.pg_desk.specs.declared.event.DeskFault.{DeskFault}
 use Rattle.pg_desk.specs.declared.event.Take.TheVariants as taking
 use Rattle.pg_desk.specs.declared.event.Event.{Event}
-use Rattle.pg_desk.specs.declared.event.Event.TheVariants.{Book, Take as TakeEvent, HangUp, NextStatement, NextPortal}
+use Rattle.pg_desk.specs.declared.event.Event.TheVariants.{Book, Take as TakeEvent, HangUp, NextStatement, NextPortal, Catalog as CatalogEvent}
+use Rattle.pg_desk.specs.Asking.{IsAsking}
 use Rattle.pg_desk.specs.History.{State, after, Allows, IsLegal}
 use Rattle.pg_faults.specs.declared.error.Error.{Error}
 use Rattle.pg_query.specs.Faults.{of_fault}
@@ -14,7 +15,7 @@ use Rattle.pg_query.specs.Dialogue as code
 use Rattle.pg_query.specs.Dialogue.{Dialogue, Answer, feed, after_reply, Told, Steps}
 use Rattle.pg_query.specs.Lives.{Deed, Leads}
 use Rattle.pg_query.specs.declared.desk_call.DeskCall.{DeskCall}
-use Rattle.pg_query.specs.declared.desk_call.DeskCall.TheVariants as desk_call
+use Rattle.pg_query.proofs.Questions.{told-asks}
 use Rattle.pg_query.specs.declared.desk_call.Reply.{Reply}
 use Rattle.pg_core.specs.Lists.{events_of, Spares, SparesAll}
 use Rattle.pg_core.specs.Runs.{ReadsNothing}
@@ -74,12 +75,13 @@ new-other k new s is lt = λ same. (let e : new ≡ k = same in omega (arith, is
 data Quiet (k : ℕ) (s : State) (e : Event) : Type 0 where
   Is : Spares (λ j. j == k) e → IsNoHangUp k e → (after s e).book ≡ s.book → Quiet k s e
 
-quiet : (k : ℕ) (s : State) (q : DeskCall) (e : Event) (r : Result Reply DeskFault) → Told q e r → Quiet k s e
-quiet k s desk_call.NextStatement (NextStatement (Ok n)) r h = Is tt tt refl
-quiet k s desk_call.NextStatement (NextStatement (Err f)) r h = Is tt tt refl
-quiet k s desk_call.NextPortal (NextPortal (Ok n)) r h = Is tt tt refl
-quiet k s desk_call.NextPortal (NextPortal (Err f)) r h = Is tt tt refl
-quiet k s q e r h = absurd h
+quiet : (k : ℕ) (s : State) (e : Event) → IsAsking e → Quiet k s e
+quiet k s (NextStatement (Ok n)) h = Is tt tt refl
+quiet k s (NextStatement (Err f)) h = Is tt tt refl
+quiet k s (NextPortal (Ok n)) h = Is tt tt refl
+quiet k s (NextPortal (Err f)) h = Is tt tt refl
+quiet k s (CatalogEvent call) h = Is tt tt refl
+quiet k s e h = absurd h
 
 call-off : {T : Type 0} (k : ℕ) (s : State) (q : DeskCall) (refused : Error → Dialogue T) (next : Reply → Dialogue T) (id : ℕ) (e : Event) (r : Result Reply DeskFault) (d' : Dialogue T) (id' : ℕ) → IsOff k (code.Call q refused next) id → k < length s.book → Quiet k s e → d' ≡ after_reply r refused next → id' ≡ id → Off-on k s e d' id'
 call-off k s q refused next id e (Ok r) d' id' (sane, inl h) lt (Is a b book) is same = off-as k s e (next r) d' id id' is same (off-none k (next r) id (sane.1 r) (h.1 r)) a b (let n = ap length book in omega (arith, lt, n))
@@ -122,7 +124,7 @@ one-off k s stamp (code.Close p d) id e d' id' off lt a st = absurd off
 one-off k s stamp (code.HangUp d) id (HangUp which (Ok x)) d' id' (sane, h) lt a st = off-as k s (HangUp which (Ok x)) d d' id id' st.1 st.2 (off-other k d id sane h) tt (λ same. h (sym st.0 ∙ same)) lt
 one-off k s stamp (code.HangUp d) id (HangUp which (Err f)) d' id' off lt a st = off-as k s (HangUp which (Err f)) (Answer _) d' id id' st.1 st.2 tt tt tt lt
 one-off k s stamp (code.HangUp d) id e d' id' off lt a st = absurd st
-one-off k s stamp (code.Call q refused next) id e d' id' off lt a (r, told, is, same) = call-off k s q refused next id e r d' id' off lt (quiet k s q e r told) is same
+one-off k s stamp (code.Call q refused next) id e d' id' off lt a (r, told, is, same) = call-off k s q refused next id e r d' id' off lt (quiet k s e (told-asks q e r told)) is same
 one-off k s stamp (code.Hear next) id e d' id' off lt a st = absurd st
 
 pub left-alone : {T : Type 0} (k : ℕ) (s : State) (d : Dialogue T) (id : ℕ) (ds : List Deed) (q : Dialogue T) (end : ℕ) → IsOff k d id → k < length s.book → IsLegal s (events_of ds) → Leads d id ds q end →

@@ -1,14 +1,15 @@
 -- The function of a walk against the outcome of a dialogue.
-use Rattle.std.proofs.Common.{◌≡◌, ◌⊎◌, ℕ, ◌+◌, List, [], ◌∷◌, ◌++◌, length, map, take, drop, Bool, true, false, if◌then◌else◌, Option, Some, None, Result, Ok, Err, refl, sym, ap, subst, ◌∙◌, inl, inr}
+use Rattle.std.proofs.Common.{◌≡◌, ◌⊎◌, ℕ, ◌+◌, List, [], ◌∷◌, ◌++◌, length, map, take, drop, Bool, true, false, if◌then◌else◌, Option, Some, None, Result, Ok, Err, is_ok, refl, sym, ap, subst, ◌∙◌, inl, inr}
 use Rattle.std.proofs.lemmas.List.{drop-drop, length-take-le}
 use Rattle.pg_spec.specs.RawMessages.{RawMessage}
 use Rattle.pg_faults.specs.declared.error.Error.{Error}
 use Rattle.pg_faults.specs.declared.error.Error.TheVariants.{Closed, OutOfMemory}
 use Rattle.pg_spec.specs.declared.stamps.Stamp.{Stamp}
+use Rattle.pg_desk.specs.declared.event.DeskFault.{DeskFault}
 use Rattle.pg_desk.specs.declared.event.DeskFault.TheVariants as fault
 use Rattle.pg_desk.specs.declared.event.Event.{Event}
 use Rattle.pg_desk.specs.declared.event.Event.TheVariants as call
-use Rattle.pg_query.specs.Dialogue.{Dialogue, Answer, Ask, Send, Leave, Read, Put, Finish, Close, HangUp, Call, Hear}
+use Rattle.pg_query.specs.Dialogue.{Dialogue, Answer, Ask, Send, Leave, Read, Put, Finish, Close, HangUp, Call, Hear, question_of, reply_of}
 use Rattle.pg_query.specs.Lives.{Deed, Turn, Leads, Lives, deeds}
 use Rattle.pg_query.specs.Meaning.{Place}
 use Rattle.pg_query.specs.Scripts.{IsRead}
@@ -17,7 +18,7 @@ use Rattle.pg_query.specs.declared.desk_call.Reply.{Reply}
 use Rattle.pg_course.specs.Courses.{Asked, Request, Met, Outcome, outcome, nothing_yet, with_request, with_sent, with_question as with_query}
 use Rattle.pg_course.specs.Dialogues.{decided_after}
 use Rattle.pg_query.proofs.RequestLaws.{lives-lead}
-use Rattle.pg_core.specs.Deeds.{booked_by, bookings_in, told_by, answers_in, granted, AreGranted, requests_in, asked_in, taken_from, Serves, EndsRefused}
+use Rattle.pg_core.specs.Deeds.{booked_by, bookings_in, told_as, told_by, answers_in, granted, AreGranted, requests_in, asked_in, taken_from, Serves, EndsRefused}
 use Rattle.pg_core.specs.Runs.{Ran, of_request, stays, run, ReadsNothing, IsTidy, Holds, Answered, Stands, Gave, Reads, Refused, Comes}
 use Rattle.pg_core.specs.Outcomes.{asked, met_by, parts_in, questions_in, IsOutcome, IsUnderWay, is_granted, unrefused, AnswersSo, LivesSo}
 use Rattle.pg_core.proofs.Core.{comes}
@@ -216,6 +217,10 @@ booked-granted (call.Book stamp part copying (Ok id)) h xs g = g
 booked-granted (call.Book stamp part copying (Err f)) h xs g = absurd cc
 booked-granted e h xs g = g
 
+as-granted : (stamp : Stamp) (q : DeskCall) (r : Result Reply DeskFault) → is_ok r ≡ true → (xs : List (Result (Asked DeskCall Reply) Error)) → AreGranted xs → AreGranted (told_as stamp q r ++ xs)
+as-granted stamp q (Ok r) h xs g = g
+as-granted stamp q (Err f) h xs g = absurd cc
+
 told-granted : (stamp : Stamp) (e : Event) → is_granted e ≡ true → (xs : List (Result (Asked DeskCall Reply) Error)) → AreGranted xs → AreGranted (told_by stamp e ++ xs)
 told-granted stamp (call.NextStatement (Ok n)) h xs g = g
 told-granted stamp (call.NextStatement (Err fault.Encode)) h xs g = g
@@ -225,6 +230,7 @@ told-granted stamp (call.NextPortal (Ok n)) h xs g = g
 told-granted stamp (call.NextPortal (Err fault.Encode)) h xs g = g
 told-granted stamp (call.NextPortal (Err fault.Closed)) h xs g = absurd cc
 told-granted stamp (call.NextPortal (Err fault.OutOfMemory)) h xs g = absurd cc
+told-granted stamp (call.Catalog c) h xs g = as-granted stamp (question_of c) (reply_of c) h xs g
 told-granted stamp e h xs g = g
 
 -- what stands before it leads somewhere, is served, and nothing of it was refused

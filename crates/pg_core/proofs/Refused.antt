@@ -18,11 +18,11 @@ use Rattle.pg_faults.specs.declared.error.Error.TheVariants.{OutOfMemory}
 use Rattle.pg_query.specs.Faults.{of_fault}
 use Rattle.pg_query.specs.Dialogue as code
 use Rattle.pg_query.specs.Dialogue.{Dialogue, Answer, Steps, feed}
-use Rattle.pg_query.specs.declared.desk_call.DeskCall.TheVariants as desk_call
 use Rattle.pg_query.specs.Lives.{Deed, Leads}
 use Rattle.pg_query.specs.Meaning.{Place}
 use Rattle.pg_query.specs.Requests.{IsBehind, Refuses, IsRefused}
 use Rattle.pg_query.specs.Scripts.{IsRead}
+use Rattle.pg_query.proofs.Questions.{told-asks}
 use Rattle.pg_core.specs.Deeds.{Serves, EndsRefused, got_after}
 use Rattle.pg_core.specs.Lists.{events_of, came_of, got_of, state_behind, IsReached}
 use Rattle.pg_core.specs.Runs.{Ran, of_request, At, Waits, ReadsNothing}
@@ -138,8 +138,7 @@ over-there stamp (code.Put cleanup p d) id which d' id' s = absurd s
 over-there stamp (code.Finish p d) id which d' id' s = absurd s
 over-there stamp (code.Close p d) id which d' id' s = absurd s
 over-there stamp (code.HangUp d) id which d' id' s = absurd s
-over-there stamp (code.Call desk_call.NextStatement refused next) id which d' id' s = absurd s.1
-over-there stamp (code.Call desk_call.NextPortal refused next) id which d' id' s = absurd s.1
+over-there stamp (code.Call q refused next) id which d' id' s = absurd (told-asks q (TakeEvent which (Ok taking.Over)) s.0 s.1)
 over-there stamp (code.Hear next) id which d' id' s = absurd s
 
 -- a request that is gone is hung up behind it; behind all other refusals nothing is done

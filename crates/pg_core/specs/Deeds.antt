@@ -4,13 +4,14 @@ use Rattle.pg_query.specs.Requests.{IsRefused}
 use Rattle.pg_spec.specs.RawMessages.{RawMessage}
 use Rattle.pg_desk.specs.History.{IsFrontOf}
 use Rattle.pg_spec.specs.declared.stamps.Stamp.{Stamp}
+use Rattle.pg_desk.specs.declared.event.DeskFault.{DeskFault}
 use Rattle.pg_desk.specs.declared.event.DeskFault.TheVariants as fault
 use Rattle.pg_desk.specs.declared.event.Take.TheVariants as taking
 use Rattle.pg_desk.specs.declared.event.Event.{Event}
 use Rattle.pg_desk.specs.declared.event.Event.TheVariants as call
 use Rattle.pg_faults.specs.declared.error.Error.{Error}
 use Rattle.pg_query.specs.Faults.{of_fault}
-use Rattle.pg_query.specs.Dialogue.{Dialogue, Answer}
+use Rattle.pg_query.specs.Dialogue.{Dialogue, Answer, question_of, reply_of}
 use Rattle.pg_query.specs.Lives.{Deed}
 use Rattle.pg_query.specs.declared.desk_call.DeskCall.{DeskCall}
 use Rattle.pg_query.specs.declared.desk_call.DeskCall.TheVariants as desk_call
@@ -29,6 +30,11 @@ abbrev pub bookings_in : List Deed → List (Result Request Error)
 bookings_in [] = []
 bookings_in (a ∷ ds) = booked_by a.event ++ bookings_in ds
 
+-- a question that was told this, or why it wasn't
+abbrev pub told_as : Stamp → DeskCall → Result Reply DeskFault → List (Result (Asked DeskCall Reply) Error)
+told_as stamp q (Ok r) = Ok (record { stamp = stamp; question = q; reply = r }) ∷ []
+told_as stamp q (Err f) = Err (of_fault f) ∷ []
+
 -- what a desk tells by an event, or why it doesn't
 abbrev pub told_by : Stamp → Event → List (Result (Asked DeskCall Reply) Error)
 told_by stamp (call.NextStatement (Ok n)) = Ok (record { stamp = stamp; question = desk_call.NextStatement; reply = reply.Number n }) ∷ []
@@ -37,6 +43,7 @@ told_by stamp (call.NextStatement (Err f)) = Err (of_fault f) ∷ []
 told_by stamp (call.NextPortal (Ok n)) = Ok (record { stamp = stamp; question = desk_call.NextPortal; reply = reply.Number n }) ∷ []
 told_by stamp (call.NextPortal (Err fault.Encode)) = Ok (record { stamp = stamp; question = desk_call.NextPortal; reply = reply.Spent }) ∷ []
 told_by stamp (call.NextPortal (Err f)) = Err (of_fault f) ∷ []
+told_by stamp (call.Catalog c) = told_as stamp (question_of c) (reply_of c)
 told_by stamp _ = []
 
 -- what it tells by all of them, in order

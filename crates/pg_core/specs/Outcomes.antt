@@ -1,5 +1,5 @@
 -- The outcome of a command's life, without turns.
-use Rattle.std.specs.Prelude.{◌≡◌, ◌⊎◌, ℕ, List, [], ◌∷◌, ◌++◌, map, Bool, true, false, None, Some, Result, Err, if◌then◌else◌}
+use Rattle.std.specs.Prelude.{◌≡◌, ◌⊎◌, ℕ, List, [], ◌∷◌, ◌++◌, map, Bool, true, false, None, Some, Result, Err, is_ok, if◌then◌else◌}
 use Rattle.pg_spec.specs.RawMessages.{RawMessage}
 use Rattle.pg_faults.specs.declared.error.Error.{Error}
 use Rattle.pg_faults.specs.declared.error.Error.TheVariants.{Closed, OutOfMemory}
@@ -60,6 +60,7 @@ is_granted (call.NextStatement (Err fault.Encode)) = true
 is_granted (call.NextStatement (Err f)) = false
 is_granted (call.NextPortal (Err fault.Encode)) = true
 is_granted (call.NextPortal (Err f)) = false
+is_granted (call.Catalog c) = is_ok (code.reply_of c)
 is_granted _ = true
 
 -- the deeds before the first booking or question that the desk refused: all, where it refused none
