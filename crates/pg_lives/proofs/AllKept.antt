@@ -1,5 +1,5 @@
 -- What holds of all handles is kept by each turn.
-use Rattle.std.proofs.Common.{◌≡◌, ◌≢◌, ◌⊎◌, inl, inr, ℕ, suc, ◌-◌, ◌^◌, ◌<◌, ◌≤◌, ◌==◌, ◌&&◌, List, [], ◌∷◌, ◌++◌, length, map, set, Bool, true, false, Option, Some, refl, sym, ap, subst, ◌∙◌, arith, slice_get, take, sum_by}
+use Rattle.std.proofs.Common.{◌≡◌, ◌≢◌, ◌⊎◌, inl, inr, ℕ, suc, ◌<◌, ◌≤◌, ◌==◌, ◌&&◌, List, [], ◌∷◌, ◌++◌, length, map, set, Bool, true, false, Option, Some, refl, sym, ap, subst, ◌∙◌, arith, slice_get, take, sum_by}
 use Rattle.std.specs.Prelude.{IsSome, is_some}
 use Rattle.std.specs.Option.{option_and_then}
 use Rattle.std.proofs.lemmas.Bool.{cases_eq, cases_lt}
@@ -16,11 +16,12 @@ use Rattle.pg_query.specs.declared.desk_call.DeskCall.{DeskCall}
 use Rattle.pg_query.specs.declared.desk_call.Reply.{Reply}
 use Rattle.pg_course.specs.Courses.{Asked, Course, requests_of}
 use Rattle.pg_course.specs.Meanings.{booked_in}
-use Rattle.pg_core.specs.Counters.{Counts, number_to, tells}
+use Rattle.pg_core.specs.Counters.{Counts, tells}
 use Rattle.pg_core.specs.Deeds.{asked_in, requests_in}
 use Rattle.pg_core.specs.Lists.{SparesAll, events_of}
 use Rattle.pg_core.specs.Times.{HangsUpNone}
 use Rattle.pg_core.specs.Trails.{said_booking}
+use Rattle.pg_core.proofs.Counted.{counts-same}
 use Rattle.pg_core.proofs.Counts.{came-by}
 use Rattle.pg_core.proofs.Owned.{others-questions, others-requests-apart}
 use Rattle.pg_core.proofs.Steps.{firm, reached-on}
@@ -163,6 +164,7 @@ pub record AreNobodys (course : Course DeskCall Reply) (handles : ℕ) (now : No
   pub book : (after_all now.state (events_of L)).book ≡ now.state.book
   pub statements : (after_all now.state (events_of L)).statements ≡ now.state.statements
   pub portals : (after_all now.state (events_of L)).portals ≡ now.state.portals
+  pub catalog : (after_all now.state (events_of L)).catalog ≡ now.state.catalog
 
 pub nobodys-keep : {C T A E : Type 0} (speech : Speech C T A E) (scripts : List (List C)) (course : Course DeskCall Reply) (now : Now) (handles : List (HandleState T A E)) (L : List Deed) (turns : ℕ) → AreNobodys course (length scripts) now L turns →
     AllKept speech scripts course now handles → AllKept speech scripts course (record { turns = turns; asked = now.asked; state = after_all now.state (events_of L) }) handles
@@ -170,10 +172,7 @@ nobodys-keep {C} {T} {A} {E} speech scripts course now handles L turns a k =
     let same : map said_booking (after_all now.state (events_of L)).book ≡ book_of now = ap (map said_booking) a.book in
     record {
       reached = reached-on now.state (events_of L) k.reached a.legal;
-      counts = record {
-        statements = k.counts.statements ∙ ap (number_to (2 ^ 32 - 1)) (sym a.statements);
-        portals = k.counts.portals ∙ ap (number_to (2 ^ 32 - 1)) (sym a.portals);
-      };
+      counts = counts-same (map (λ (a : Asked DeskCall Reply). a.question) now.asked) now.state (after_all now.state (events_of L)) a.statements a.portals a.catalog k.counts;
       pasts = k.pasts;
       as_many = k.as_many;
       each = λ i script h past e f g.

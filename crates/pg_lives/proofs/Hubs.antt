@@ -5,7 +5,7 @@ use Rattle.pg_connect.specs.Passed.{AllEngineCalls, IsEngineCall}
 use Rattle.pg_desk.specs.declared.event.Deliver.TheVariants as delivering
 use Rattle.pg_desk.specs.declared.event.Out.TheVariants as out
 use Rattle.pg_desk.specs.declared.event.Event.{Event}
-use Rattle.pg_desk.specs.declared.event.Event.TheVariants.{Book, Put as PutEvent, EndCopy, Take as TakeEvent, HangUp, NextStatement, NextPortal, NextOut, Deliver as DeliverEvent, CloseRequests, Fail}
+use Rattle.pg_desk.specs.declared.event.Event.TheVariants.{Book, Put as PutEvent, EndCopy, Take as TakeEvent, HangUp, NextStatement, NextPortal, Catalog as CatalogEvent, NextOut, Deliver as DeliverEvent, CloseRequests, Fail}
 use Rattle.pg_desk.specs.History.{State, after, after_all, given, IsLegal}
 use Rattle.pg_desk.specs.Kept.{legal-if-exact}
 use Rattle.pg_hub.specs.Fits.{Fits, HubBecomes}
@@ -77,17 +77,18 @@ record Quiet (s t : State) (e : Event) : Type 0 where
   book : t.book ≡ s.book
   statements : t.statements ≡ s.statements
   portals : t.portals ≡ s.portals
+  catalog : t.catalog ≡ s.catalog
 
 engine-quiet : (s : State) (e : Event) → IsEngineCall e → Quiet s (after s e) e
-engine-quiet s (NextOut (Ok (out.Part part))) h = record { spares = λ n. ((tt, tt), (tt, tt)); book = refl; statements = refl; portals = refl }
-engine-quiet s (NextOut (Ok out.CopyWaits)) h = record { spares = λ n. ((tt, tt), (tt, tt)); book = refl; statements = refl; portals = refl }
-engine-quiet s (NextOut (Ok out.Nothing)) h = record { spares = λ n. ((tt, tt), (tt, tt)); book = refl; statements = refl; portals = refl }
-engine-quiet s (NextOut (Ok out.NoMore)) h = record { spares = λ n. ((tt, tt), (tt, tt)); book = refl; statements = refl; portals = refl }
-engine-quiet s (NextOut (Err e)) h = record { spares = λ n. ((tt, tt), (tt, tt)); book = refl; statements = refl; portals = refl }
-engine-quiet s (DeliverEvent batch complete delivering.Taken) h = record { spares = λ n. ((tt, tt), (tt, tt)); book = refl; statements = refl; portals = refl }
-engine-quiet s (DeliverEvent batch complete (delivering.Full back)) h = record { spares = λ n. ((tt, tt), (tt, tt)); book = refl; statements = refl; portals = refl }
-engine-quiet s (DeliverEvent batch complete (delivering.NoRequest back)) h = record { spares = λ n. ((tt, tt), (tt, tt)); book = refl; statements = refl; portals = refl }
-engine-quiet s (DeliverEvent batch complete (delivering.OutOfMemory back)) h = record { spares = λ n. ((tt, tt), (tt, tt)); book = refl; statements = refl; portals = refl }
+engine-quiet s (NextOut (Ok (out.Part part))) h = record { spares = λ n. ((tt, tt), (tt, tt)); book = refl; statements = refl; portals = refl; catalog = refl }
+engine-quiet s (NextOut (Ok out.CopyWaits)) h = record { spares = λ n. ((tt, tt), (tt, tt)); book = refl; statements = refl; portals = refl; catalog = refl }
+engine-quiet s (NextOut (Ok out.Nothing)) h = record { spares = λ n. ((tt, tt), (tt, tt)); book = refl; statements = refl; portals = refl; catalog = refl }
+engine-quiet s (NextOut (Ok out.NoMore)) h = record { spares = λ n. ((tt, tt), (tt, tt)); book = refl; statements = refl; portals = refl; catalog = refl }
+engine-quiet s (NextOut (Err e)) h = record { spares = λ n. ((tt, tt), (tt, tt)); book = refl; statements = refl; portals = refl; catalog = refl }
+engine-quiet s (DeliverEvent batch complete delivering.Taken) h = record { spares = λ n. ((tt, tt), (tt, tt)); book = refl; statements = refl; portals = refl; catalog = refl }
+engine-quiet s (DeliverEvent batch complete (delivering.Full back)) h = record { spares = λ n. ((tt, tt), (tt, tt)); book = refl; statements = refl; portals = refl; catalog = refl }
+engine-quiet s (DeliverEvent batch complete (delivering.NoRequest back)) h = record { spares = λ n. ((tt, tt), (tt, tt)); book = refl; statements = refl; portals = refl; catalog = refl }
+engine-quiet s (DeliverEvent batch complete (delivering.OutOfMemory back)) h = record { spares = λ n. ((tt, tt), (tt, tt)); book = refl; statements = refl; portals = refl; catalog = refl }
 engine-quiet s (Book stamp part copying r) h = absurd h
 engine-quiet s (PutEvent id part r) h = absurd h
 engine-quiet s (EndCopy id part r) h = absurd h
@@ -95,6 +96,7 @@ engine-quiet s (TakeEvent id r) h = absurd h
 engine-quiet s (HangUp id r) h = absurd h
 engine-quiet s (NextStatement r) h = absurd h
 engine-quiet s (NextPortal r) h = absurd h
+engine-quiet s (CatalogEvent call) h = absurd h
 engine-quiet s (CloseRequests r) h = absurd h
 engine-quiet s (Fail r) h = absurd h
 
@@ -111,9 +113,10 @@ record QuietAll (s t : State) (es : List Event) : Type 0 where
   book : t.book ≡ s.book
   statements : t.statements ≡ s.statements
   portals : t.portals ≡ s.portals
+  catalog : t.catalog ≡ s.catalog
 
 engine-all-quiet : (s : State) (es : List Event) → AllEngineCalls es → QuietAll s (after_all s es) es
-engine-all-quiet s [] h = record { spares = λ n. (tt, tt); book = refl; statements = refl; portals = refl }
+engine-all-quiet s [] h = record { spares = λ n. (tt, tt); book = refl; statements = refl; portals = refl; catalog = refl }
 engine-all-quiet s (e ∷ es) h =
     let one = engine-quiet s e h.0 in
     let more = engine-all-quiet (after s e) es h.1 in
@@ -122,6 +125,7 @@ engine-all-quiet s (e ∷ es) h =
       book = more.book ∙ one.book;
       statements = more.statements ∙ one.statements;
       portals = more.portals ∙ one.portals;
+      catalog = more.catalog ∙ one.catalog;
     }
 
 pub engine-nobodys : (course : Course DeskCall Reply) (handles : ℕ) (now : Now) (es : List Event) (turns : ℕ) → now.turns ≤ turns → ((i : ℕ) → i < handles → NoneFrom course i now.turns turns) → IsLegal now.state es → AllEngineCalls es →
@@ -137,6 +141,7 @@ engine-nobodys course handles now es turns le none legal calls =
       book = ap (λ (xs : List Event). (after_all now.state xs).book) same ∙ q.book;
       statements = ap (λ (xs : List Event). (after_all now.state xs).statements) same ∙ q.statements;
       portals = ap (λ (xs : List Event). (after_all now.state xs).portals) same ∙ q.portals;
+      catalog = ap (λ (xs : List Event). (after_all now.state xs).catalog) same ∙ q.catalog;
     }
 
 -- so is a closing
@@ -149,4 +154,5 @@ closing-nobodys course handles now = record {
   book = refl;
   statements = refl;
   portals = refl;
+  catalog = refl;
 }

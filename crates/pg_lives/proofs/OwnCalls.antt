@@ -3,12 +3,12 @@ use Rattle.std.proofs.Common.{◌≡◌, ℕ, List, [], ◌∷◌, Ok, Err, refl
 use Rattle.pg_desk.specs.declared.event.Put.TheVariants as putting
 use Rattle.pg_desk.specs.declared.event.Take.TheVariants as taking
 use Rattle.pg_desk.specs.declared.event.Event.{Event}
-use Rattle.pg_desk.specs.declared.event.Event.TheVariants.{Book, Put as PutEvent, EndCopy, Take, HangUp as HangUpEvent, NextStatement, NextPortal, NextOut, Deliver, CloseRequests, Fail}
+use Rattle.pg_desk.specs.declared.event.Event.TheVariants.{Book, Put as PutEvent, EndCopy, Take, HangUp as HangUpEvent, NextStatement, NextPortal, Catalog as CatalogEvent, NextOut, Deliver, CloseRequests, Fail}
 use Rattle.pg_spec.specs.declared.stamps.Stamp.{Stamp}
 use Rattle.pg_desk.specs.History.{State, after, after_all}
 use Rattle.pg_query.specs.Dialogue.{Dialogue, Answer, Ask, Send, Leave, Read, Put, Finish, Close, HangUp, Call, Hear, Steps}
 use Rattle.pg_query.specs.Lives.{Deed, Leads}
-use Rattle.pg_query.specs.declared.desk_call.DeskCall.TheVariants as desk_call
+use Rattle.pg_query.proofs.Questions.{told-asks}
 use Rattle.pg_core.specs.Lists.{events_of}
 
 -- nothing came, and requests are as open as they were
@@ -50,6 +50,7 @@ call-keeps s (NextStatement (Ok n)) h = record { deliveries = refl; closed = ref
 call-keeps s (NextStatement (Err f)) h = same-here s
 call-keeps s (NextPortal (Ok n)) h = record { deliveries = refl; closed = refl; failed = refl }
 call-keeps s (NextPortal (Err f)) h = same-here s
+call-keeps s (CatalogEvent call) h = record { deliveries = refl; closed = refl; failed = refl }
 call-keeps s (NextOut r) h = absurd h
 call-keeps s (Deliver batch complete r) h = absurd h
 call-keeps s (CloseRequests r) h = absurd h
@@ -63,6 +64,7 @@ step-calls stamp d id (Take which r) d' id' st = tt
 step-calls stamp d id (HangUpEvent which r) d' id' st = tt
 step-calls stamp d id (NextStatement r) d' id' st = tt
 step-calls stamp d id (NextPortal r) d' id' st = tt
+step-calls stamp d id (CatalogEvent call) d' id' st = tt
 step-calls stamp (Answer r) id (NextOut o) d' id' st = absurd st
 step-calls stamp (Ask c p d) id (NextOut o) d' id' st = absurd st
 step-calls stamp (Send p refused d) id (NextOut o) d' id' st = absurd st
@@ -72,8 +74,7 @@ step-calls stamp (Put cleanup p d) id (NextOut o) d' id' st = absurd st
 step-calls stamp (Finish p d) id (NextOut o) d' id' st = absurd st
 step-calls stamp (Close p d) id (NextOut o) d' id' st = absurd st
 step-calls stamp (HangUp d) id (NextOut o) d' id' st = absurd st
-step-calls stamp (Call desk_call.NextStatement refused next) id (NextOut o) d' id' (reply, told, is, same) = absurd told
-step-calls stamp (Call desk_call.NextPortal refused next) id (NextOut o) d' id' (reply, told, is, same) = absurd told
+step-calls stamp (Call q refused next) id (NextOut o) d' id' (reply, told, is, same) = absurd (told-asks q (NextOut o) reply told)
 step-calls stamp (Hear next) id (NextOut o) d' id' st = absurd st
 step-calls stamp (Answer r) id (Deliver batch complete o) d' id' st = absurd st
 step-calls stamp (Ask c p d) id (Deliver batch complete o) d' id' st = absurd st
@@ -84,8 +85,7 @@ step-calls stamp (Put cleanup p d) id (Deliver batch complete o) d' id' st = abs
 step-calls stamp (Finish p d) id (Deliver batch complete o) d' id' st = absurd st
 step-calls stamp (Close p d) id (Deliver batch complete o) d' id' st = absurd st
 step-calls stamp (HangUp d) id (Deliver batch complete o) d' id' st = absurd st
-step-calls stamp (Call desk_call.NextStatement refused next) id (Deliver batch complete o) d' id' (reply, told, is, same) = absurd told
-step-calls stamp (Call desk_call.NextPortal refused next) id (Deliver batch complete o) d' id' (reply, told, is, same) = absurd told
+step-calls stamp (Call q refused next) id (Deliver batch complete o) d' id' (reply, told, is, same) = absurd (told-asks q (Deliver batch complete o) reply told)
 step-calls stamp (Hear next) id (Deliver batch complete o) d' id' st = absurd st
 step-calls stamp (Answer r) id (CloseRequests o) d' id' st = absurd st
 step-calls stamp (Ask c p d) id (CloseRequests o) d' id' st = absurd st
@@ -96,8 +96,7 @@ step-calls stamp (Put cleanup p d) id (CloseRequests o) d' id' st = absurd st
 step-calls stamp (Finish p d) id (CloseRequests o) d' id' st = absurd st
 step-calls stamp (Close p d) id (CloseRequests o) d' id' st = absurd st
 step-calls stamp (HangUp d) id (CloseRequests o) d' id' st = absurd st
-step-calls stamp (Call desk_call.NextStatement refused next) id (CloseRequests o) d' id' (reply, told, is, same) = absurd told
-step-calls stamp (Call desk_call.NextPortal refused next) id (CloseRequests o) d' id' (reply, told, is, same) = absurd told
+step-calls stamp (Call q refused next) id (CloseRequests o) d' id' (reply, told, is, same) = absurd (told-asks q (CloseRequests o) reply told)
 step-calls stamp (Hear next) id (CloseRequests o) d' id' st = absurd st
 step-calls stamp (Answer r) id (Fail o) d' id' st = absurd st
 step-calls stamp (Ask c p d) id (Fail o) d' id' st = absurd st
@@ -108,8 +107,7 @@ step-calls stamp (Put cleanup p d) id (Fail o) d' id' st = absurd st
 step-calls stamp (Finish p d) id (Fail o) d' id' st = absurd st
 step-calls stamp (Close p d) id (Fail o) d' id' st = absurd st
 step-calls stamp (HangUp d) id (Fail o) d' id' st = absurd st
-step-calls stamp (Call desk_call.NextStatement refused next) id (Fail o) d' id' (reply, told, is, same) = absurd told
-step-calls stamp (Call desk_call.NextPortal refused next) id (Fail o) d' id' (reply, told, is, same) = absurd told
+step-calls stamp (Call q refused next) id (Fail o) d' id' (reply, told, is, same) = absurd (told-asks q (Fail o) reply told)
 step-calls stamp (Hear next) id (Fail o) d' id' st = absurd st
 
 -- all that a command did in a turn

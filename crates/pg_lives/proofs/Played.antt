@@ -14,6 +14,7 @@ use Rattle.pg_hub.specs.Standing.{Standing}
 use Rattle.pg_query.specs.declared.desk_call.DeskCall.{DeskCall}
 use Rattle.pg_query.specs.declared.desk_call.Reply.{Reply}
 use Rattle.pg_course.specs.Courses.{Asked, Course}
+use Rattle.pg_core.proofs.Counted.{counts-start}
 use Rattle.pg_core.proofs.Steps.{reached-start}
 use Rattle.pg_turns.specs.Turns.{Closes}
 use Rattle.pg_turns.specs.Speeches.{AreCommands, Speech}
@@ -117,7 +118,7 @@ idle-kept speech course script i = record {
 all-new : {C T A E : Type 0} (speech : Speech C T A E) (scripts : List (List C)) (course : Course DeskCall Reply) → AllKept speech scripts course (record { turns = 0; asked = []; state = start 0 0 }) (new_handles {C = C} {T = T} {A = A} speech.begins scripts)
 all-new {C} {T} {A} {E} speech scripts course = record {
   reached = reached-start 0 0;
-  counts = record { statements = refl; portals = refl };
+  counts = counts-start;
   pasts = map (λ (script : List C). let none : List (Past A E) = [] in none) scripts;
   as_many = length-map scripts (λ (script : List C). let none : List (Past A E) = [] in none);
   each = λ i script h past e f g.

@@ -4,7 +4,7 @@ use Rattle.pg_desk.specs.declared.event.Deliver.TheVariants as delivering
 use Rattle.pg_desk.specs.declared.event.Out.TheVariants as out
 use Rattle.pg_desk.specs.declared.event.Take.TheVariants as taking
 use Rattle.pg_desk.specs.declared.event.Event.{Event}
-use Rattle.pg_desk.specs.declared.event.Event.TheVariants.{Book, Put as PutEvent, EndCopy, Take as TakeEvent, HangUp, NextStatement, NextPortal, NextOut, Deliver as DeliverEvent, CloseRequests, Fail}
+use Rattle.pg_desk.specs.declared.event.Event.TheVariants.{Book, Put as PutEvent, EndCopy, Take as TakeEvent, HangUp, NextStatement, NextPortal, Catalog as CatalogEvent, NextOut, Deliver as DeliverEvent, CloseRequests, Fail}
 use Rattle.pg_spec.specs.declared.stamps.Stamp.{Stamp}
 use Rattle.pg_desk.specs.History.{State, has_open, last_out, out_answer, after, after_all, Allows, IsExact}
 use Rattle.pg_desk.proofs.Outs.{Stands, Whole, Waits, Part, stands}
@@ -41,6 +41,7 @@ engine-keeps s (TakeEvent id r) h = absurd h
 engine-keeps s (HangUp id r) h = absurd h
 engine-keeps s (NextStatement r) h = absurd h
 engine-keeps s (NextPortal r) h = absurd h
+engine-keeps s (CatalogEvent call) h = absurd h
 engine-keeps s (PutEvent which part r) h = absurd h
 engine-keeps s (EndCopy which part r) h = absurd h
 engine-keeps s (CloseRequests r) h = absurd h
@@ -76,6 +77,7 @@ last-closed s (TakeEvent id r) h k = absurd cc
 last-closed s (HangUp id r) h k = absurd cc
 last-closed s (NextStatement r) h k = absurd cc
 last-closed s (NextPortal r) h k = absurd cc
+last-closed s (CatalogEvent call) h k = absurd cc
 last-closed s (PutEvent which part r) h k = absurd cc
 last-closed s (EndCopy which part r) h k = absurd cc
 last-closed s (CloseRequests r) h k = absurd cc
@@ -99,6 +101,7 @@ own-keeps s id (HangUp k (Err e)) h = same-here s
 own-keeps s id (Book stamp part copying r) h = absurd h
 own-keeps s id (NextStatement r) h = absurd h
 own-keeps s id (NextPortal r) h = absurd h
+own-keeps s id (CatalogEvent call) h = absurd h
 own-keeps s id (PutEvent which part r) h = absurd h
 own-keeps s id (EndCopy which part r) h = absurd h
 own-keeps s id (NextOut r) h = absurd h

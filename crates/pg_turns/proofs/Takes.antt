@@ -8,7 +8,7 @@ use Rattle.pg_connect.specs.Passed.{delivered_by}
 use Rattle.pg_desk.specs.declared.event.Deliver.TheVariants as delivering
 use Rattle.pg_desk.specs.declared.event.Put.TheVariants as putting
 use Rattle.pg_desk.specs.declared.event.Event.{Event}
-use Rattle.pg_desk.specs.declared.event.Event.TheVariants.{Book, Put as PutEvent, EndCopy, Take as TakeEvent, HangUp, NextStatement, NextPortal, NextOut, Deliver as DeliverEvent, CloseRequests, Fail}
+use Rattle.pg_desk.specs.declared.event.Event.TheVariants.{Book, Put as PutEvent, EndCopy, Take as TakeEvent, HangUp, NextStatement, NextPortal, Catalog as CatalogEvent, NextOut, Deliver as DeliverEvent, CloseRequests, Fail}
 use Rattle.pg_desk.specs.declared.event.Out.TheVariants as out
 use Rattle.pg_spec.specs.declared.stamps.Stamp.{Stamp}
 use Rattle.pg_desk.specs.declared.event.Take.TheVariants as taking
@@ -61,6 +61,7 @@ other-reader s j k (HangUp which (Err e)) apart h = reader-here j s
 other-reader s j k (Book stamp part copying r) apart h = absurd h
 other-reader s j k (NextStatement r) apart h = absurd h
 other-reader s j k (NextPortal r) apart h = absurd h
+other-reader s j k (CatalogEvent call) apart h = absurd h
 other-reader s j k (PutEvent which part r) apart h = absurd h
 other-reader s j k (EndCopy which part r) apart h = absurd h
 other-reader s j k (NextOut r) apart h = absurd h
@@ -83,6 +84,7 @@ own-delivery s k (HangUp which (Err e)) h = refl
 own-delivery s k (Book stamp part copying r) h = absurd h
 own-delivery s k (NextStatement r) h = absurd h
 own-delivery s k (NextPortal r) h = absurd h
+own-delivery s k (CatalogEvent call) h = absurd h
 own-delivery s k (PutEvent which part r) h = absurd h
 own-delivery s k (EndCopy which part r) h = absurd h
 own-delivery s k (NextOut r) h = absurd h
@@ -110,6 +112,7 @@ own-take s k (HangUp which (Err e)) h = sym (append-nil (joined (taken k s.takes
 own-take s k (Book stamp part copying r) h = absurd h
 own-take s k (NextStatement r) h = absurd h
 own-take s k (NextPortal r) h = absurd h
+own-take s k (CatalogEvent call) h = absurd h
 own-take s k (PutEvent which part r) h = absurd h
 own-take s k (EndCopy which part r) h = absurd h
 own-take s k (NextOut r) h = absurd h
@@ -135,6 +138,7 @@ own-stay s j k (HangUp which r) none h = absurd (none tt)
 own-stay s j k (Book stamp part copying r) none h = absurd h
 own-stay s j k (NextStatement r) none h = absurd h
 own-stay s j k (NextPortal r) none h = absurd h
+own-stay s j k (CatalogEvent call) none h = absurd h
 own-stay s j k (PutEvent which part r) none h = absurd h
 own-stay s j k (EndCopy which part r) none h = absurd h
 own-stay s j k (NextOut r) none h = absurd h
@@ -179,6 +183,7 @@ engine-one s (TakeEvent id r) h = absurd h
 engine-one s (HangUp id r) h = absurd h
 engine-one s (NextStatement r) h = absurd h
 engine-one s (NextPortal r) h = absurd h
+engine-one s (CatalogEvent call) h = absurd h
 engine-one s (PutEvent which part r) h = absurd h
 engine-one s (EndCopy which part r) h = absurd h
 engine-one s (CloseRequests r) h = absurd h
@@ -307,6 +312,7 @@ cut-one s (EndCopy id part (putting.Gone back)) a h = h
 cut-one s (EndCopy id part (putting.OutOfMemory back)) a h = h
 cut-one s (NextPortal (Ok n)) a h = h
 cut-one s (NextPortal (Err e)) a h = h
+cut-one s (CatalogEvent call) a h = h
 cut-one s (CloseRequests (Ok x)) a h = h
 cut-one s (CloseRequests (Err e)) a h = h
 cut-one s (Fail (Ok x)) a h = h

@@ -9,6 +9,7 @@ use Rattle.futures.specs.declared.task.Poll.TheVariants.{Ready, Pending}
 use Rattle.pg_errors.specs.declared.async_message.AsyncMessage.{AsyncMessage}
 use Rattle.pg_faults.specs.declared.error.Error.{Error}
 use Rattle.pg_desk.specs.declared.event.Booking.{Booking}
+use Rattle.pg_desk.specs.Asking.{IsAsking}
 use Rattle.pg_desk.specs.declared.event.DeskFault.{DeskFault}
 use Rattle.pg_desk.specs.declared.event.DeskFault.TheVariants as desk
 use Rattle.pg_spec.specs.declared.stamps.Stamp.{Stamp}
@@ -16,7 +17,7 @@ use Rattle.pg_desk.specs.declared.event.Take.TheVariants as taking
 use Rattle.pg_desk.specs.declared.event.Out.TheVariants as out
 use Rattle.pg_desk.specs.declared.event.Deliver.TheVariants as delivering
 use Rattle.pg_desk.specs.declared.event.Event.{Event}
-use Rattle.pg_desk.specs.declared.event.Event.TheVariants.{Book, Put as PutEvent, EndCopy, Take as TakeEvent, HangUp as HangUpEvent, NextStatement, NextPortal, NextOut, Deliver as DeliverEvent, CloseRequests, Fail}
+use Rattle.pg_desk.specs.declared.event.Event.TheVariants.{Book, Put as PutEvent, EndCopy, Take as TakeEvent, HangUp as HangUpEvent, NextStatement, NextPortal, Catalog as CatalogEvent, NextOut, Deliver as DeliverEvent, CloseRequests, Fail}
 use Rattle.pg_desk.specs.History.{State, rest_flags, start, started, started_of, after, after_all, wire, IsLegal}
 use Rattle.pg_desk.specs.Order.{InOrder}
 use Rattle.pg_desk.proofs.Outs.{AllEnded, ended-more}
@@ -29,11 +30,10 @@ use Rattle.pg_connect.specs.declared.streams.Streams.{Streams}
 use Rattle.pg_connect.specs.Answers.{PollAnswers}
 use Rattle.pg_connect.specs.Ends.{last_is, is_closed_out}
 use Rattle.pg_connect.specs.Passed.{IsEngineCall, AllEngineCalls}
-use Rattle.pg_query.specs.declared.desk_call.DeskCall.{DeskCall}
-use Rattle.pg_query.specs.declared.desk_call.DeskCall.TheVariants as desk_call
+use Rattle.pg_query.proofs.Questions.{told-asks}
 use Rattle.pg_query.specs.declared.desk_call.Reply.{Reply}
 use Rattle.pg_query.specs.Faults.{of_fault}
-use Rattle.pg_query.specs.Dialogue.{Dialogue, Answer, Ask, Send, Leave, Read, Put, Finish, Close, HangUp, Call, Hear, Steps, Walks, Told, feed_one, feed, after_reply}
+use Rattle.pg_query.specs.Dialogue.{Dialogue, Answer, Ask, Send, Leave, Read, Put, Finish, Close, HangUp, Call, Hear, Steps, Walks, feed_one, feed, after_reply}
 use Rattle.pg_query.specs.Meaning.{Place}
 use Rattle.pg_query.specs.Meaning as meaning
 use Rattle.pg_turns.specs.declared.handle_turn.Polling.{Polling}
@@ -120,6 +120,7 @@ tame-one s (NextStatement (Ok n)) q h = h
 tame-one s (NextStatement (Err e)) q h = h
 tame-one s (NextPortal (Ok n)) q h = h
 tame-one s (NextPortal (Err e)) q h = h
+tame-one s (CatalogEvent call) q h = h
 tame-one s (NextOut (Ok (out.Part part))) q h = h
 tame-one s (NextOut (Ok x)) q h = h
 tame-one s (NextOut (Err e)) q h = h
@@ -231,11 +232,11 @@ asks-fed : {T : Type 0} (ms : List RawMessage) (d : Dialogue T) → BooksWhole d
 asks-fed [] d h = h
 asks-fed (m ∷ ms) d h = asks-fed ms (feed_one m d) (asks-fed-one m d h)
 
-mild-told : (q : DeskCall) (e : Event) (r : Result Reply DeskFault) → Told q e r → IsMild e
-mild-told desk_call.NextStatement (NextStatement answer) r h = tt
-mild-told desk_call.NextStatement _ r h = absurd h
-mild-told desk_call.NextPortal (NextPortal answer) r h = tt
-mild-told desk_call.NextPortal _ r h = absurd h
+mild-asking : (e : Event) → IsAsking e → IsMild e
+mild-asking (NextStatement answer) h = tt
+mild-asking (NextPortal answer) h = tt
+mild-asking (CatalogEvent call) h = tt
+mild-asking _ h = absurd h
 
 asks-reply : {T : Type 0} (r : Result Reply DeskFault) (refused : Error → Dialogue T) (next : Reply → Dialogue T) → ((e : Error) → BooksWhole (refused e)) → ((r : Reply) → BooksWhole (next r)) → BooksWhole (after_reply r refused next)
 asks-reply (Ok r) refused next k h = h r
@@ -273,7 +274,7 @@ step stamp (HangUp d) id _ d' id' h q = absurd h
 step stamp (Put cleanup part d) id e d' id' h q = absurd q
 step stamp (Finish part d) id e d' id' h q = absurd q
 step stamp (Close part d) id e d' id' h q = absurd q
-step stamp (Call ask refused next) id e d' id' h q = on e (after_reply h.0 refused next) d' (mild-told ask e h.0 h.1) (asks-reply h.0 refused next q.0 q.1) h.2
+step stamp (Call ask refused next) id e d' id' h q = on e (after_reply h.0 refused next) d' (mild-asking e (told-asks ask e h.0 h.1)) (asks-reply h.0 refused next q.0 q.1) h.2
 step stamp (Hear next) id e d' id' h q = absurd h
 
 -- the same of several

@@ -9,7 +9,6 @@ use Rattle.pg_spec.specs.Report as said
 use Rattle.pg_errors.specs.declared.async_message.AsyncMessage.{AsyncMessage}
 use Rattle.pg_faults.specs.declared.error.Error.{Error}
 use Rattle.pg_errors.specs.Views.{async_of as aside_of}
-use Rattle.pg_desk.specs.declared.event.DeskFault.{DeskFault}
 use Rattle.pg_spec.specs.declared.stamps.Stamp.{Stamp}
 use Rattle.pg_desk.specs.declared.event.Out.TheVariants as out
 use Rattle.pg_desk.specs.declared.event.Deliver.TheVariants as delivering
@@ -22,10 +21,8 @@ use Rattle.pg_connect.specs.declared.streams.Streams.{Streams}
 use Rattle.pg_connect.specs.Answers.{PollAnswers}
 use Rattle.pg_connect.specs.Passed.{delivered_in, delivered_by, bytes_out_in, bytes_out_by}
 use Rattle.pg_connect.specs.Reads.{Carries}
-use Rattle.pg_query.specs.declared.desk_call.DeskCall.{DeskCall}
-use Rattle.pg_query.specs.declared.desk_call.DeskCall.TheVariants as desk_call
-use Rattle.pg_query.specs.declared.desk_call.Reply.{Reply}
-use Rattle.pg_query.specs.Dialogue.{Dialogue, Answer, Ask, Send, Leave, Read, Put, Finish, Close, HangUp, Call, Hear, Steps, Walks, Told}
+use Rattle.pg_query.proofs.Questions.{told-asks}
+use Rattle.pg_query.specs.Dialogue.{Dialogue, Answer, Ask, Send, Leave, Read, Put, Finish, Close, HangUp, Call, Hear, Steps, Walks}
 use Rattle.pg_query.specs.Meaning.{Place}
 use Rattle.pg_query.specs.Meaning as meaning
 use Rattle.pg_turns.specs.declared.handle_turn.Polling.{Polling}
@@ -41,11 +38,6 @@ use Rattle.pg_turns.specs.Speeches.{Speech}
 
 -- ---- a dialogue delivers nothing and lets nothing out
 
-not_told : (q : DeskCall) (e : Event) (r : Result Reply DeskFault) → ((r : Result Reply DeskFault) → Told desk_call.NextStatement e r → ⊥) →
-    ((r : Result Reply DeskFault) → Told desk_call.NextPortal e r → ⊥) → Told q e r → ⊥
-not_told desk_call.NextStatement e r f g told = f r told
-not_told desk_call.NextPortal e r f g told = g r told
-
 never_out : {T : Type 0} (stamp : Stamp) (d : Dialogue T) (id : ℕ) (part : List ℕ) (d' : Dialogue T) (id' : ℕ) →
     Steps stamp d id (NextOut (Ok (out.Part part))) d' id' → ⊥
 never_out stamp (Answer r) id part d' id' h = h
@@ -57,7 +49,7 @@ never_out stamp (Close p d) id part d' id' h = h
 never_out stamp (Leave sent d) id part d' id' h = h
 never_out stamp (Read cleanup decides next) id part d' id' h = h
 never_out stamp (HangUp d) id part d' id' h = h
-never_out stamp (Call q refused next) id part d' id' h = not_told q (NextOut (Ok (out.Part part))) h.0 (λ r told. told) (λ r told. told) h.1
+never_out stamp (Call q refused next) id part d' id' h = told-asks q (NextOut (Ok (out.Part part))) h.0 h.1
 never_out stamp (Hear next) id part d' id' h = h
 
 never_in : {T : Type 0} (stamp : Stamp) (d : Dialogue T) (id : ℕ) (batch : List RawMessage) (complete : Bool) (d' : Dialogue T) (id' : ℕ) →
@@ -71,7 +63,7 @@ never_in stamp (Close p d) id batch complete d' id' h = h
 never_in stamp (Leave sent d) id batch complete d' id' h = h
 never_in stamp (Read cleanup decides next) id batch complete d' id' h = h
 never_in stamp (HangUp d) id batch complete d' id' h = h
-never_in stamp (Call q refused next) id batch complete d' id' h = not_told q (DeliverEvent batch complete delivering.Taken) h.0 (λ r told. told) (λ r told. told) h.1
+never_in stamp (Call q refused next) id batch complete d' id' h = told-asks q (DeliverEvent batch complete delivering.Taken) h.0 h.1
 never_in stamp (Hear next) id batch complete d' id' h = h
 
 -- the same of one event

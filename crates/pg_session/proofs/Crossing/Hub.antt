@@ -9,7 +9,7 @@ use Rattle.pg_desk.specs.declared.event.Take.TheVariants as taking
 use Rattle.pg_desk.specs.declared.event.Out.TheVariants as out
 use Rattle.pg_desk.specs.declared.event.Deliver.TheVariants as delivering
 use Rattle.pg_desk.specs.declared.event.Event.{Event}
-use Rattle.pg_desk.specs.declared.event.Event.TheVariants.{Book, Put as PutEvent, EndCopy, Take as TakeEvent, HangUp, NextStatement, NextPortal, NextOut, Deliver as DeliverEvent, CloseRequests, Fail}
+use Rattle.pg_desk.specs.declared.event.Event.TheVariants.{Book, Put as PutEvent, EndCopy, Take as TakeEvent, HangUp, NextStatement, NextPortal, Catalog as CatalogEvent, NextOut, Deliver as DeliverEvent, CloseRequests, Fail}
 use Rattle.pg_desk.specs.History.{State, Delivery, wire, started, started_of, finished, received, joined, has_open, is_running, next_owner, last_out, start, after, after_all, Allows, IsLegal}
 use Rattle.pg_desk.specs.Order.{InOrder}
 use Rattle.pg_desk.proofs.Owners.{open-less}
@@ -62,6 +62,7 @@ by_kind P books goes comes closes puts ends other (NextStatement (Ok n)) = other
 by_kind P books goes comes closes puts ends other (NextStatement (Err e)) = other _ (record { same = λ s. record { book = refl; copying = refl; gone_out = refl; deliveries = refl; closed = refl }; none_in = refl; none_out = refl })
 by_kind P books goes comes closes puts ends other (NextPortal (Ok n)) = other _ (record { same = λ s. record { book = refl; copying = refl; gone_out = refl; deliveries = refl; closed = refl }; none_in = refl; none_out = refl })
 by_kind P books goes comes closes puts ends other (NextPortal (Err e)) = other _ (record { same = λ s. record { book = refl; copying = refl; gone_out = refl; deliveries = refl; closed = refl }; none_in = refl; none_out = refl })
+by_kind P books goes comes closes puts ends other (CatalogEvent call) = other _ (record { same = λ s. record { book = refl; copying = refl; gone_out = refl; deliveries = refl; closed = refl }; none_in = refl; none_out = refl })
 by_kind P books goes comes closes puts ends other (NextOut (Ok x)) = other _ (record { same = λ s. record { book = refl; copying = refl; gone_out = refl; deliveries = refl; closed = refl }; none_in = refl; none_out = refl })
 by_kind P books goes comes closes puts ends other (NextOut (Err e)) = other _ (record { same = λ s. record { book = refl; copying = refl; gone_out = refl; deliveries = refl; closed = refl }; none_in = refl; none_out = refl })
 by_kind P books goes comes closes puts ends other (DeliverEvent batch complete x) = other _ (record { same = λ s. record { book = refl; copying = refl; gone_out = refl; deliveries = refl; closed = refl }; none_in = refl; none_out = refl })

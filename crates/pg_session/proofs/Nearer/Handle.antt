@@ -1,27 +1,25 @@
 -- What the walk of a command leaves in the hub.
 use Rattle.std.proofs.Common.{◌≡◌, ℕ, ◌+◌, ◌≤◌, List, [], ◌∷◌, false, Result, Ok, Err, refl, sym, subst, arith}
 use Rattle.pg_faults.specs.declared.error.Error.{Error}
-use Rattle.pg_desk.specs.declared.event.DeskFault.{DeskFault}
+use Rattle.pg_desk.specs.Asking.{IsAsking}
 use Rattle.pg_desk.specs.declared.event.Event.{Event}
-use Rattle.pg_desk.specs.declared.event.Event.TheVariants.{Book, Put as PutEvent, EndCopy, Take as TakeEvent, HangUp as HangUpEvent, NextStatement, NextPortal}
+use Rattle.pg_desk.specs.declared.event.Event.TheVariants.{Book, Put as PutEvent, EndCopy, Take as TakeEvent, HangUp as HangUpEvent, NextStatement, NextPortal, Catalog as CatalogEvent}
 use Rattle.pg_spec.specs.declared.stamps.Stamp.{Stamp}
 use Rattle.pg_desk.specs.declared.event.Take.TheVariants as taking
 use Rattle.pg_desk.specs.History.{State, after, after_all, IsLegal}
 use Rattle.pg_hub.specs.Fits.{moves}
-use Rattle.pg_query.specs.Dialogue.{Dialogue, Answer, Ask, Send, Leave, Read, Put, Finish, Close, HangUp, Call, Hear, Steps, Told, Walks}
+use Rattle.pg_query.specs.Dialogue.{Dialogue, Answer, Ask, Send, Leave, Read, Put, Finish, Close, HangUp, Call, Hear, Steps, Walks}
 use Rattle.pg_query.specs.Scripts.{IsRead}
-use Rattle.pg_query.specs.declared.desk_call.DeskCall.{DeskCall}
-use Rattle.pg_query.specs.declared.desk_call.DeskCall.TheVariants as desk_call
-use Rattle.pg_query.specs.declared.desk_call.Reply.{Reply}
+use Rattle.pg_query.proofs.Questions.{told-asks}
 use Rattle.pg_session.proofs.Nearer.Hub.{batches_left, NoneGiven, IsHandleCall, AreHandleCalls, calls-add-none, take-left}
 
 -- ---- a walk makes a handle's calls
 
-told-call : (q : DeskCall) (e : Event) (r : Result Reply DeskFault) → Told q e r → IsHandleCall e
-told-call desk_call.NextStatement (NextStatement answer) r h = tt
-told-call desk_call.NextStatement e r h = absurd h
-told-call desk_call.NextPortal (NextPortal answer) r h = tt
-told-call desk_call.NextPortal e r h = absurd h
+asking-call : (e : Event) → IsAsking e → IsHandleCall e
+asking-call (NextStatement answer) h = tt
+asking-call (NextPortal answer) h = tt
+asking-call (CatalogEvent call) h = tt
+asking-call e h = absurd h
 
 step-calls : {T : Type 0} (stamp : Stamp) (d : Dialogue T) (id : ℕ) (e : Event) (d' : Dialogue T) (id' : ℕ) → Steps stamp d id e d' id' → IsHandleCall e
 step-calls stamp (Answer r) id e d' id' h = absurd h
@@ -41,7 +39,7 @@ step-calls stamp (Close part d) id (EndCopy which part' r) d' id' h = tt
 step-calls stamp (Close part d) id e d' id' h = absurd h
 step-calls stamp (HangUp d) id (HangUpEvent which r) d' id' h = tt
 step-calls stamp (HangUp d) id e d' id' h = absurd h
-step-calls stamp (Call q refused next) id e d' id' h = told-call q e h.0 h.1
+step-calls stamp (Call q refused next) id e d' id' h = asking-call e (told-asks q e h.0 h.1)
 step-calls stamp (Hear next) id e d' id' h = absurd h
 
 pub walk-calls : {T : Type 0} (stamp : Stamp) (d : Dialogue T) (id : ℕ) (es : List Event) (d' : Dialogue T) (id' : ℕ) → Walks stamp d id es d' id' → AreHandleCalls es

@@ -8,7 +8,7 @@ use Rattle.pg_connect.specs.Passed.{IsEngineCall, AllEngineCalls, delivered_in, 
 use Rattle.pg_desk.specs.declared.event.Booking.{Booking}
 use Rattle.pg_desk.specs.declared.event.Deliver.TheVariants as delivering
 use Rattle.pg_desk.specs.declared.event.Event.{Event}
-use Rattle.pg_desk.specs.declared.event.Event.TheVariants.{Book, Put as PutEvent, EndCopy, Take as TakeEvent, HangUp, NextStatement, NextPortal, NextOut, Deliver as DeliverEvent, CloseRequests, Fail}
+use Rattle.pg_desk.specs.declared.event.Event.TheVariants.{Book, Put as PutEvent, EndCopy, Take as TakeEvent, HangUp, NextStatement, NextPortal, Catalog as CatalogEvent, NextOut, Deliver as DeliverEvent, CloseRequests, Fail}
 use Rattle.pg_desk.specs.declared.event.Out.TheVariants as out
 use Rattle.pg_spec.specs.declared.stamps.Stamp.{Stamp}
 use Rattle.pg_desk.specs.declared.event.Put.TheVariants as putting
@@ -190,6 +190,7 @@ IsHandleCall (TakeEvent id r) = Unit {0}
 IsHandleCall (HangUp id r) = Unit {0}
 IsHandleCall (NextStatement r) = Unit {0}
 IsHandleCall (NextPortal r) = Unit {0}
+IsHandleCall (CatalogEvent c) = Unit {0}
 IsHandleCall _ = ⊥
 
 abbrev pub AreHandleCalls : List Event → Type 0
@@ -218,6 +219,7 @@ call-adds-none s (NextStatement (Ok n)) call a none = record { left = omega arit
 call-adds-none s (NextStatement (Err e)) call a none = record { left = omega arith; none = none }
 call-adds-none s (NextPortal (Ok n)) call a none = record { left = omega arith; none = none }
 call-adds-none s (NextPortal (Err e)) call a none = record { left = omega arith; none = none }
+call-adds-none s (CatalogEvent c) call a none = record { left = omega arith; none = none }
 call-adds-none s (NextOut r) call a none = absurd call
 call-adds-none s (DeliverEvent batch complete r) call a none = absurd call
 call-adds-none s (CloseRequests r) call a none = absurd call
@@ -298,6 +300,7 @@ call-passed s (TakeEvent id r) call a = absurd call
 call-passed s (HangUp id r) call a = absurd call
 call-passed s (NextStatement r) call a = absurd call
 call-passed s (NextPortal r) call a = absurd call
+call-passed s (CatalogEvent c) call a = absurd call
 call-passed s (PutEvent which part r) call a = absurd call
 call-passed s (EndCopy which part r) call a = absurd call
 call-passed s (CloseRequests r) call a = absurd call

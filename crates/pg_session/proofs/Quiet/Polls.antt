@@ -13,7 +13,7 @@ use Rattle.pg_connect.specs.declared.ends.TurnEnd.{TurnEnd}
 use Rattle.pg_connect.specs.declared.streams.Streams.{Streams}
 use Rattle.pg_desk.specs.declared.event.Deliver.TheVariants as delivering
 use Rattle.pg_desk.specs.declared.event.Event.{Event}
-use Rattle.pg_desk.specs.declared.event.Event.TheVariants.{Book, Put as PutEvent, EndCopy, Take as TakeEvent, HangUp, NextStatement, NextPortal, NextOut, Deliver as DeliverEvent, CloseRequests, Fail}
+use Rattle.pg_desk.specs.declared.event.Event.TheVariants.{Book, Put as PutEvent, EndCopy, Take as TakeEvent, HangUp, NextStatement, NextPortal, Catalog as CatalogEvent, NextOut, Deliver as DeliverEvent, CloseRequests, Fail}
 use Rattle.pg_desk.specs.declared.event.Out.TheVariants as out
 use Rattle.pg_desk.specs.declared.event.Take.TheVariants as taking
 use Rattle.pg_desk.specs.History.{State, waiting, is_hung_up, has_begun, has_ended, has_open, next_owner, after, after_all, take_answer, take_of_waiting, Allows, IsExact, IsOldestOpen}
@@ -46,6 +46,7 @@ still-one s (TakeEvent id r) h none = absurd h
 still-one s (HangUp id r) h none = absurd h
 still-one s (NextStatement r) h none = absurd h
 still-one s (NextPortal r) h none = absurd h
+still-one s (CatalogEvent call) h none = absurd h
 still-one s (PutEvent which part r) h none = absurd h
 still-one s (EndCopy which part r) h none = absurd h
 still-one s (CloseRequests r) h none = absurd h
@@ -93,6 +94,7 @@ full-not s (TakeEvent id r) room allows = refl
 full-not s (HangUp id r) room allows = refl
 full-not s (NextStatement r) room allows = refl
 full-not s (NextPortal r) room allows = refl
+full-not s (CatalogEvent call) room allows = refl
 full-not s (PutEvent which part r) room allows = refl
 full-not s (EndCopy which part r) room allows = refl
 full-not s (CloseRequests r) room allows = refl

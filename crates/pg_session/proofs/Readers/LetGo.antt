@@ -8,7 +8,7 @@ use Rattle.pg_desk.proofs.Soundness.{AllCut, take-first}
 use Rattle.pg_desk.specs.declared.event.Deliver.TheVariants as delivering
 use Rattle.pg_desk.specs.declared.event.Put.TheVariants as putting
 use Rattle.pg_desk.specs.declared.event.Event.{Event}
-use Rattle.pg_desk.specs.declared.event.Event.TheVariants.{Book, Put as PutEvent, EndCopy, Take as TakeEvent, HangUp, NextStatement, NextPortal, NextOut, Deliver as DeliverEvent, CloseRequests, Fail}
+use Rattle.pg_desk.specs.declared.event.Event.TheVariants.{Book, Put as PutEvent, EndCopy, Take as TakeEvent, HangUp, NextStatement, NextPortal, Catalog as CatalogEvent, NextOut, Deliver as DeliverEvent, CloseRequests, Fail}
 use Rattle.pg_desk.specs.declared.event.Out.TheVariants as out
 use Rattle.pg_desk.specs.declared.event.Take.TheVariants as taking
 use Rattle.pg_desk.specs.History.{State, Delivery, given, has_ended, next_owner, may_let_go, taken, is_in, is_hung_up, after, after_all, take_answer}
@@ -85,6 +85,7 @@ stays-one s (EndCopy id part (putting.Gone back)) = stays-here s
 stays-one s (EndCopy id part (putting.OutOfMemory back)) = stays-here s
 stays-one s (NextPortal (Ok n)) = record { let_go = λ k h. h; closed = λ h. h }
 stays-one s (NextPortal (Err e)) = stays-here s
+stays-one s (CatalogEvent call) = record { let_go = λ k h. h; closed = λ h. h }
 stays-one s (NextOut (Ok (out.Part part))) = record { let_go = λ k h. h; closed = λ h. h }
 stays-one s (NextOut (Ok out.CopyWaits)) = stays-here s
 stays-one s (NextOut (Ok out.Nothing)) = stays-here s

@@ -8,6 +8,7 @@ use Rattle.pg_desk.proofs.Parts.{extended-length}
 use Rattle.pg_desk.proofs.Soundness.{AllCut}
 use Rattle.pg_desk.specs.History.{State, after, after_all, take_answer, Allows, Needs, IsExact}
 use Rattle.pg_desk.specs.declared.event.Booking.{Booking}
+use Rattle.pg_desk.specs.Asking.{IsAsking}
 use Rattle.pg_desk.specs.declared.event.DeskFault.{DeskFault}
 use Rattle.pg_desk.specs.declared.event.Event.{Event}
 use Rattle.pg_desk.specs.declared.event.Event.TheVariants as call
@@ -23,7 +24,7 @@ use Rattle.pg_query.specs.Leaving.{Holds, Nothing, Request, IsHeld, IsLetGo as I
 use Rattle.pg_query.specs.Scripts.{IsRead}
 use Rattle.pg_query.specs.declared.desk_call.Cleanup.{Cleanup}
 use Rattle.pg_query.specs.declared.desk_call.DeskCall.{DeskCall}
-use Rattle.pg_query.specs.declared.desk_call.DeskCall.TheVariants as desk_call
+use Rattle.pg_query.proofs.Questions.{told-asks}
 use Rattle.pg_query.specs.declared.desk_call.Reply.{Reply}
 use Rattle.pg_turns.proofs.Lists.{one-more}
 use Rattle.pg_turns.proofs.Takes.{all-cut, took-over}
@@ -181,12 +182,13 @@ read-step mine stamp s cleanup decides next k (call.Take which (Err x)) d' k' cu
 read-step mine stamp s cleanup decides next k e d' k' cut allows needs h st = absurd st
 
 -- a question moves no request
-asks-none : (s : State) (q : DeskCall) (e : Event) (r : Result Reply DeskFault) → Told q e r → (after s e).book ≡ s.book
-asks-none s desk_call.NextStatement (call.NextStatement (Ok n)) r told = refl
-asks-none s desk_call.NextStatement (call.NextStatement (Err x)) r told = refl
-asks-none s desk_call.NextPortal (call.NextPortal (Ok n)) r told = refl
-asks-none s desk_call.NextPortal (call.NextPortal (Err x)) r told = refl
-asks-none s q e r told = absurd told
+asks-none : (s : State) (e : Event) → IsAsking e → (after s e).book ≡ s.book
+asks-none s (call.NextStatement (Ok n)) h = refl
+asks-none s (call.NextStatement (Err x)) h = refl
+asks-none s (call.NextPortal (Ok n)) h = refl
+asks-none s (call.NextPortal (Err x)) h = refl
+asks-none s (call.Catalog c) h = refl
+asks-none s e h = absurd h
 
 lets-reply : {T : Type 0} (holds : Holds) (q : DeskCall) (refused : Error → Dialogue T) (next : Reply → Dialogue T) (e : Event) (r : Result Reply DeskFault) → Told q e r → LetsGo holds (Call q refused next) →
     LetsGo holds (after_reply r refused next)
@@ -200,7 +202,7 @@ call-step {T} mine stamp s q refused next k e d' k' h (r, told, is, same) =
       holds = h.holds;
       lets = lets-reply h.holds q refused next e r told h.lets;
       covers = λ j m lt.
-          let less : j < length s.book = subst (λ (bs : List Booking). j < length bs) (asks-none s q e r told) lt in
+          let less : j < length s.book = subst (λ (bs : List Booking). j < length bs) (asks-none s e (told-asks q e r told)) lt in
           before j (h.covers j m less);
     })
   where
