@@ -1,0 +1,4 @@
+pub mod Sequences
+pub mod Maybes
+pub mod Thens
+pub mod Numbers
