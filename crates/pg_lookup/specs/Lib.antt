@@ -1,0 +1,11 @@
+pub mod Composing
+pub mod Cells
+pub mod QueryReplies
+pub mod Descriptions
+pub mod Prepares
+pub mod Lookups
+pub mod Searches
+pub mod Worlds
+pub mod Sent
+pub mod Replies
+pub mod Examples
