@@ -12,8 +12,11 @@ pub mod SettledLaws
 pub mod ReachLaws
 pub mod FeedingLaws
 pub mod ServedLaws
+pub mod ByteLaws
+pub mod FaultCourseLaws
 pub mod FaultLaws
 pub mod EchoLaws
+pub mod EchoCalmLaws
 pub mod TrafficLaws
 pub mod LinkLaws
 pub mod ParsedLaws

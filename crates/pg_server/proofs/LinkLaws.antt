@@ -19,16 +19,19 @@ use Rattle.pg_server.specs.declared.fault.ServerFault.{ServerFault}
 use Rattle.pg_server.specs.declared.fault.ServerFault.TheVariants as faults
 use Rattle.pg_server.specs.declared.session.Stage.TheVariants.{Over}
 use Rattle.pg_server.specs.Answers.{answer_bytes}
+use Rattle.pg_server.specs.ByteLists.{are_bytes, is_ended}
 use Rattle.pg_server.specs.Crossings as crossing
 use Rattle.pg_server.specs.Crossings.{Crossed, GivesFront, took_less, failed}
 use Rattle.pg_server.specs.Handlers.{Step}
 use Rattle.pg_server.specs.Hearing.{Said, said_to}
 use Rattle.pg_server.specs.Reaches.{reach_of}
-use Rattle.pg_server.specs.Servers.{Heard, TakesFront, fed_with}
-use Rattle.pg_server.specs.ServerLinks.{Served, link_of, Reads, offered, front_by, TakesBy, RefusesBy, TakesIn, TakesAt, TakesUp, StopsBy, KeepsItsPromise}
+use Rattle.pg_server.specs.Servers.{Heard, TakesFront}
+use Rattle.pg_server.specs.ServerLinks.{Served, link_of, told_by, Reads, offered, front_by, TakesBy, TakesIn, TakesAt, TakesUp, StopsBy, KeepsItsPromise}
 use Rattle.pg_server.specs.Settled.{is_settled}
 use Rattle.pg_server.specs.Standings.{Standing, Front, Waits, Says, Stops, front}
+use Rattle.pg_server.proofs.ByteLaws.{bytes-end, bytes-take}
 use Rattle.pg_server.proofs.CutLaws.{Knows, front-known}
+use Rattle.pg_server.proofs.FaultCourseLaws.{FaultsOn, SaysOn, says-FaultsOn, stops-FaultsOn, tells-on, waits-FaultsOn}
 use Rattle.pg_server.proofs.HearingLaws.{said_to-says, said_to-stops}
 use Rattle.pg_server.proofs.ReachLaws.{reach-stops}
 use Rattle.pg_server.proofs.SettledLaws.{settled-silent, over-silent, settled-piece, IsPiece}
@@ -38,8 +41,8 @@ pub settled-IsInCourse : {S : Type 0} (step : Step S) (m : Served S) → is_sett
 settled-IsInCourse step m settled =
     let all : List ℕ = m.crossed.given ++ m.crossed.due in
     let none : drop (length m.crossed.taken) m.crossed.taken ≡ [] = ap (drop (length m.crossed.taken)) (sym (append-nil m.crossed.taken)) ∙ drop_at m.crossed.taken [] (length m.crossed.taken) refl in
-    let silent : (fed_with step m.heard (drop (length m.crossed.taken) m.crossed.taken)).said ≡ []
-    = ap (λ (b : List ℕ). (said_to step m.heard.standing (m.heard.left ++ b)).said) none ∙ ap (λ (b : List ℕ). (said_to step m.heard.standing b).said) (append-nil m.heard.left)
+    let silent : told_by step m (drop (length m.crossed.taken) m.crossed.taken) ≡ []
+    = ap (told_by step m) none ∙ ap (λ (b : List ℕ). (said_to step m.heard.standing b).said) (append-nil m.heard.left)
     ∙ settled-silent step m.heard.standing m.heard.left settled in
     sym (ap (λ (b : List ℕ). all ++ b) silent ∙ append-nil all)
 
@@ -65,7 +68,7 @@ gave-well : {S : Type 0} (step : Step S) (m : Served S) (out : List ℕ) (n : �
     ReadsWell step m (record m { crossed = given_more m.crossed n }) out (reads.Got n)
 gave-well step m out n some fits enough front =
     let c : Crossed = m.crossed in
-    let more : List ℕ = (fed_with step m.heard (drop (length c.taken) c.taken)).said in (
+    let more : List ℕ = told_by step m (drop (length c.taken) c.taken) in (
       (
         record {
           some = some;
@@ -83,7 +86,7 @@ gave-well step m out n some fits enough front =
       record {
         counts = record { faults = omega arith; quiet = omega arith; dry = omega arith; blocked = omega arith; lulls = omega arith; ends = omega arith };
         plan = refl;
-        course = λ bytes on. (on, ap (λ (all : List ℕ). Some (all ++ (fed_with step m.heard (drop (length c.taken) bytes)).said)) (same-all c.given c.due n));
+        course = λ bytes on. (on, ap (λ (all : List ℕ). Some (all ++ told_by step m (drop (length c.taken) bytes))) (same-all c.given c.due n));
         steady = λ steady. refl;
         shut = λ shut. shut;
         in_plan = λ within. within;
@@ -135,13 +138,9 @@ read-answers {S = S} step m m' out answer kept (crosses, does) =
 
 -- ---- what a write keeps of the course
 
--- What is said now and what will be said from there is what would have been said.
-abbrev SaysOn : {S : Type 0} → Step S → (old new : Heard S) → (piece said : List ℕ) → Type 0
-SaysOn step old new piece said = (rest : List ℕ) → said ++ (fed_with step new rest).said ≡ (fed_with step old (piece ++ rest)).said
-
-took-KeepsCourse : {S : Type 0} (step : Step S) (m m' : Served S) (piece said : List ℕ) → m'.crossed ≡ crossing.took m.crossed piece said → SaysOn step m.heard m'.heard piece said →
-    KeepsCourse (link_of step m) (link_of step m')
-took-KeepsCourse {S = S} step m m' piece said crossed says bytes on =
+took-KeepsCourse : {S : Type 0} (step : Step S) (m m' : Served S) (piece said : List ℕ) → m'.crossed ≡ crossing.took m.crossed piece said → is_ended piece ≡ false →
+    SaysOn step m.heard m'.heard piece said → FaultsOn step m m' piece → KeepsCourse (link_of step m) (link_of step m')
+took-KeepsCourse {S = S} step m m' piece said crossed byte says faults bytes on =
     let c : Crossed = m.crossed in
     let given : List ℕ = c.given ++ c.due in
     let onto : (rest : List ℕ) × ((c.taken ++ piece) ++ rest ≡ bytes) = subst (λ (x : Crossed). (rest : List ℕ) × (x.taken ++ rest ≡ bytes)) crossed on in
@@ -150,12 +149,12 @@ took-KeepsCourse {S = S} step m m' piece said crossed says bytes on =
     let left : drop (length (c.taken ++ piece)) bytes ≡ rest = ap (drop (length (c.taken ++ piece))) (sym onto.1) ∙ drop_at (c.taken ++ piece) rest (length (c.taken ++ piece)) refl in
     let left' : drop (length c.taken) bytes ≡ piece ++ rest = ap (drop (length c.taken)) (sym behind) ∙ drop_at c.taken (piece ++ rest) (length c.taken) refl in (
       (piece ++ rest, behind),
-      ap (λ (x : Crossed). Some ((x.given ++ x.due) ++ (fed_with step m'.heard (drop (length x.taken) bytes)).said)) crossed
-          ∙ ap (λ (b : List ℕ). Some ((c.given ++ (c.due ++ said)) ++ (fed_with step m'.heard b).said)) left
-          ∙ ap (λ (b : List ℕ). Some (b ++ (fed_with step m'.heard rest).said)) (sym (append_assoc c.given c.due said))
-          ∙ ap (λ (b : List ℕ). Some b) (append_assoc given said (fed_with step m'.heard rest).said)
-          ∙ ap (λ (b : List ℕ). Some (given ++ b)) (says rest)
-          ∙ ap (λ (b : List ℕ). Some (given ++ (fed_with step m.heard b).said)) (sym left'),
+      ap (λ (x : Crossed). Some ((x.given ++ x.due) ++ told_by step m' (drop (length x.taken) bytes))) crossed
+          ∙ ap (λ (b : List ℕ). Some ((c.given ++ (c.due ++ said)) ++ told_by step m' b)) left
+          ∙ ap (λ (b : List ℕ). Some (b ++ told_by step m' rest)) (sym (append_assoc c.given c.due said))
+          ∙ ap (λ (b : List ℕ). Some b) (append_assoc given said (told_by step m' rest))
+          ∙ ap (λ (b : List ℕ). Some (given ++ b)) (tells-on step m m' piece said byte says faults rest)
+          ∙ ap (λ (b : List ℕ). Some (given ++ told_by step m b)) (sym left'),
     )
 
 waits-SaysOn : {S : Type 0} (step : Step S) (old : Heard S) (piece : List ℕ) → SaysOn step old (record old { left = old.left ++ piece }) piece []
@@ -182,9 +181,10 @@ stopped-SaysOn {S = S} step old new piece fault is over rest =
 abbrev WritesWell : {S : Type 0} → Step S → (m m' : Served S) → List ℕ → LinkWrite → Type 0
 WritesWell step m m' bytes answer = WriteAnswers (link_of step m) (link_of step m') bytes answer × Keeps (link_of step m) (link_of step m') × KeepsPromise (link_of step m) (link_of step m') (took answer)
 
-took-well : {S : Type 0} (step : Step S) (m m' : Served S) (bytes piece said : List ℕ) (n : ℕ) → 1 ≤ n → n ≤ length bytes → piece ≡ take n bytes → m'.crossed ≡ crossing.took m.crossed piece said →
-    SaysOn step m.heard m'.heard piece said → IsInCourse (link_of step m') → WritesWell step m m' bytes (writes.Took n)
-took-well step m m' bytes piece said n some fits piece_is crossed says course =
+took-well : {S : Type 0} (step : Step S) (m m' : Served S) (bytes piece said : List ℕ) (n : ℕ) → are_bytes bytes ≡ true → 1 ≤ n → n ≤ length bytes → piece ≡ take n bytes →
+    m'.crossed ≡ crossing.took m.crossed piece said → SaysOn step m.heard m'.heard piece said → FaultsOn step m m' piece → IsInCourse (link_of step m') → WritesWell step m m' bytes (writes.Took n)
+took-well step m m' bytes piece said n are some fits piece_is crossed says on course =
+    let byte : is_ended piece ≡ false = ap is_ended piece_is ∙ bytes-end (take n bytes) (bytes-take n bytes are) in
     let faults : m'.crossed.faults ≡ m.crossed.faults = ap (λ (c : Crossed). c.faults) crossed in
     let quiet : m'.crossed.quiet ≡ m.crossed.quiet = ap (λ (c : Crossed). c.quiet) crossed in
     let dry : m'.crossed.dry ≡ m.crossed.dry = ap (λ (c : Crossed). c.dry) crossed in
@@ -204,7 +204,7 @@ took-well step m m' bytes piece said n some fits piece_is crossed says course =
       record {
         counts = record { faults = omega (arith, faults); quiet = omega (arith, quiet); dry = omega (arith, dry); blocked = omega arith; lulls = omega (arith, lulls); ends = omega arith };
         plan = refl;
-        course = took-KeepsCourse step m m' piece said crossed says;
+        course = took-KeepsCourse step m m' piece said crossed byte says on;
         steady = λ steady. refl;
         shut = λ shut. ap (λ (c : Crossed). c.shut) crossed ∙ shut;
         in_plan = λ within. within;
@@ -213,8 +213,8 @@ took-well step m m' bytes piece said n some fits piece_is crossed says course =
       record { kept = λ moved. absurd (false≢true (sym moved)); no_lull = λ steady. ap as_count lulls },
     )
 
-failed-well : {S : Type 0} (step : Step S) (m : Served S) (bytes : List ℕ) (fault : Option ServerFault) → WritesWell step m (record m { crossed = failed m.crossed; fault = fault }) bytes writes.Failed
-failed-well step m bytes fault = (
+failed-well : {S : Type 0} (step : Step S) (m : Served S) (bytes : List ℕ) → WritesWell step m (record m { crossed = failed m.crossed }) bytes writes.Failed
+failed-well step m bytes = (
   record {
     rose = rose m.crossed.faults;
     planned = tt;
@@ -261,8 +261,8 @@ front-offered : (bytes : List ℕ) (k n : ℕ) → n ≤ length (take k bytes) �
 front-offered bytes k n fits = take-take n k bytes (omega (arith, fits, length-take k bytes))
 
 took-by : {S : Type 0} (step : Step S) (m m' : Served S) (bytes : List ℕ) (n : ℕ) → is_settled m.heard.standing.stage m.heard.left ≡ true → 0 < m.crossed.room → 0 < length bytes →
-    TakesBy m m' (offered m bytes) n (front_by step m (offered m bytes)) → IsInCourse (link_of step m') → WritesWell step m m' bytes (writes.Took n)
-took-by {S = S} step m m' bytes n settled room some does course = by_front (front_by step m (offered m bytes)) refl does
+    are_bytes bytes ≡ true → m.fault ≡ None → TakesBy m m' (offered m bytes) n (front_by step m (offered m bytes)) → IsInCourse (link_of step m') → WritesWell step m m' bytes (writes.Took n)
+took-by {S = S} step m m' bytes n settled room some are none does course = by_front (front_by step m (offered m bytes)) refl does
   where
     size : length (offered m bytes) ≡ min m.crossed.room (length bytes)
     size = length-take-le (min m.crossed.room (length bytes)) bytes (omega arith)
@@ -270,55 +270,49 @@ took-by {S = S} step m m' bytes n settled room some does course = by_front (fron
     all : n ≡ length (offered m bytes) → offered m bytes ≡ take n bytes
     all is = ap (λ (k : ℕ). take k bytes) (sym (is ∙ size))
 
-    by_stop : (fault : ServerFault) → front_by step m (offered m bytes) ≡ Stops fault → TakesBy m m' (offered m bytes) n (Stops fault) → WritesWell step m m' bytes (writes.Took n)
-    by_stop (faults.BadEffect k) is (reach, over, crossed, fault) =
-        let cut = reach-stops step m.heard.standing m.heard.left (offered m bytes) n (faults.BadEffect k) settled reach (omega (arith, size, room, some)) is in
-        took-well step m m' bytes (take n (offered m bytes)) [] n cut.0 (omega (arith, cut.1, size)) (front-offered bytes (min m.crossed.room (length bytes)) n cut.1) crossed
-        (stopped-SaysOn step m.heard m'.heard (take n (offered m bytes)) (faults.BadEffect k) cut.2 over) course
-    by_stop faults.BadStartup is d = absurd d
-    by_stop (faults.Version v) is d = absurd d
-    by_stop faults.Cancel is d = absurd d
-    by_stop (faults.BadFrame f) is d = absurd d
-    by_stop faults.Ended is d = absurd d
-    by_stop faults.OutOfMemory is d = absurd d
+    piece_size : n ≤ length (offered m bytes) → length (take n (offered m bytes)) ≡ n
+    piece_size fits = length-take-le n (offered m bytes) fits
 
     by_front : (x : Front S) → front_by step m (offered m bytes) ≡ x → TakesBy m m' (offered m bytes) n x → WritesWell step m m' bytes (writes.Took n)
     by_front Waits is (count, new) =
-        took-well step m m' bytes (offered m bytes) [] n (omega (arith, count, size, room, some)) (omega (arith, count, size)) (all count) (ap (λ (x : Served S). x.crossed) new)
-        (subst (λ (h : Heard S). SaysOn step m.heard h (offered m bytes) []) (sym (ap (λ (x : Served S). x.heard) new)) (waits-SaysOn step m.heard (offered m bytes))) course
+        took-well step m m' bytes (offered m bytes) [] n are (omega (arith, count, size, room, some)) (omega (arith, count, size)) (all count) (ap (λ (x : Served S). x.crossed) new)
+        (subst (λ (h : Heard S). SaysOn step m.heard h (offered m bytes) []) (sym (ap (λ (x : Served S). x.heard) new)) (waits-SaysOn step m.heard (offered m bytes)))
+        (waits-FaultsOn step m m' (offered m bytes) (omega (arith, size, room, some)) none (ap (λ (x : Served S). x.fault) new ∙ none) (ap (λ (x : Served S). x.heard) new) is) course
     by_front (Says said next rest) is (least, count, new) =
         let cut : IsPiece step m.heard.standing m.heard.left (offered m bytes) said next rest
         = settled-piece step m.heard.standing m.heard.left (offered m bytes) said next rest settled is in
         let long : length cut.piece ≡ n = omega (arith, count, length-append cut.piece rest, ap length cut.is) in
         let piece : take n (offered m bytes) ≡ cut.piece = ap (take n) (sym cut.is) ∙ take_at cut.piece rest n long in
-        took-well step m m' bytes (take n (offered m bytes)) said n least (omega (arith, count, size))
+        let here : front step m.heard.standing (m.heard.left ++ take n (offered m bytes)) ≡ Says said next []
+        = ap (λ (b : List ℕ). front step m.heard.standing (m.heard.left ++ b)) piece ∙ cut.front_is in
+        took-well step m m' bytes (take n (offered m bytes)) said n are least (omega (arith, count, size))
         (front-offered bytes (min m.crossed.room (length bytes)) n (omega (arith, count))) (ap (λ (x : Served S). x.crossed) new)
         (subst (λ (h : Heard S). SaysOn step m.heard h (take n (offered m bytes)) said) (sym (ap (λ (x : Served S). x.heard) new))
-        (answered-SaysOn step m.heard (take n (offered m bytes)) said next (ap (λ (b : List ℕ). front step m.heard.standing (m.heard.left ++ b)) piece ∙ cut.front_is))) course
-    by_front (Stops fault) is d = by_stop fault is d
+        (answered-SaysOn step m.heard (take n (offered m bytes)) said next here))
+        (says-FaultsOn step m m' (take n (offered m bytes)) said next (omega (arith, least, piece_size (omega (arith, count)))) none (ap (λ (x : Served S). x.fault) new ∙ none)
+        (ap (λ (x : Served S). x.heard) new) here) course
+    by_front (Stops fault) is (reach, over, crossed, kept) =
+        let cut = reach-stops step m.heard.standing m.heard.left (offered m bytes) n fault settled reach (omega (arith, size, room, some)) is in
+        took-well step m m' bytes (take n (offered m bytes)) [] n are cut.0 (omega (arith, cut.1, size)) (front-offered bytes (min m.crossed.room (length bytes)) n cut.1) crossed
+        (stopped-SaysOn step m.heard m'.heard (take n (offered m bytes)) fault cut.2 over)
+        (stops-FaultsOn step m m' (take n (offered m bytes)) fault (omega (arith, cut.0, piece_size cut.1)) none kept cut.2) course
 
 pub write-answers : {S : Type 0} (step : Step S) (m m' : Served S) (bytes : List ℕ) (answer : LinkWrite) → is_settled m.heard.standing.stage m.heard.left ≡ true → 0 < m.crossed.room → 0 < length bytes →
-    TakesUp step m m' bytes answer → IsInCourse (link_of step m') → WritesWell step m m' bytes answer
-write-answers {S = S} step m m' bytes answer settled room some does course = by_fault m.fault does
+    are_bytes bytes ≡ true → TakesUp step m m' bytes answer → IsInCourse (link_of step m') → WritesWell step m m' bytes answer
+write-answers {S = S} step m m' bytes answer settled room some are does course = by_fault m.fault refl does
   where
-    by_answer : (answer : LinkWrite) → TakesIn m m' (offered m bytes) (front_by step m (offered m bytes)) answer → WritesWell step m m' bytes answer
-    by_answer (writes.Took n) d = took-by step m m' bytes n settled room some d course
-    by_answer writes.Failed (new, refused) = subst (λ (x : Served S). WritesWell step m x bytes writes.Failed) (sym new) (failed-well step m bytes m'.fault)
-    by_answer writes.OutOfMemory new = subst (λ (x : Served S). WritesWell step m x bytes writes.OutOfMemory) (sym new) (kept-well step m bytes)
-    by_answer writes.NotReady d = absurd d
+    by_answer : m.fault ≡ None → (answer : LinkWrite) → TakesIn m m' (offered m bytes) (front_by step m (offered m bytes)) answer → WritesWell step m m' bytes answer
+    by_answer none (writes.Took n) d = took-by step m m' bytes n settled room some are none d course
+    by_answer none writes.Failed d = absurd d
+    by_answer none writes.OutOfMemory new = subst (λ (x : Served S). WritesWell step m x bytes writes.OutOfMemory) (sym new) (kept-well step m bytes)
+    by_answer none writes.NotReady d = absurd d
 
-    by_fault : (fault : Option ServerFault) → TakesAt step m m' (offered m bytes) answer fault → WritesWell step m m' bytes answer
-    by_fault None d = by_answer answer d
-    by_fault (Some fault) (is, new) =
-        subst (λ (a : LinkWrite). WritesWell step m m' bytes a) (sym is) (subst (λ (x : Served S). WritesWell step m x bytes writes.Failed) (sym new) (failed-well step m bytes m.fault))
+    by_fault : (fault : Option ServerFault) → m.fault ≡ fault → TakesAt step m m' (offered m bytes) answer fault → WritesWell step m m' bytes answer
+    by_fault None none d = by_answer none answer d
+    by_fault (Some fault) is (failed_is, new) =
+        subst (λ (a : LinkWrite). WritesWell step m m' bytes a) (sym failed_is) (subst (λ (x : Served S). WritesWell step m x bytes writes.Failed) (sym new) (failed-well step m bytes))
 
 -- ---- a write meets a fault
-
-pub stops-effect : {S : Type 0} (old : Served S) (crossed : Crossed) (n k : ℕ) (fault : ServerFault) → fault ≡ faults.BadEffect k → crossed ≡ record old.crossed { promised = false; flushed = false } →
-    StopsBy old (record old { crossed = crossed; fault = Some fault }) n fault (writes.Took n)
-stops-effect old crossed n k fault is crossed_is =
-    subst (λ (f : ServerFault). StopsBy old (record old { crossed = crossed; fault = Some f }) n f (writes.Took n)) (sym is)
-    (refl, ap (λ (c : Crossed). record old { crossed = c; fault = Some (faults.BadEffect k) }) crossed_is)
 
 pub stops-memory : {S : Type 0} (old : Served S) (crossed : Crossed) (n : ℕ) (fault : ServerFault) → fault ≡ faults.OutOfMemory → crossed ≡ took_less old.crossed n →
     StopsBy old (record old { crossed = crossed }) n fault writes.OutOfMemory
@@ -326,21 +320,21 @@ stops-memory old crossed n fault is crossed_is =
     subst (λ (f : ServerFault). StopsBy old (record old { crossed = crossed }) n f writes.OutOfMemory) (sym is)
     (refl, ap (λ (c : Crossed). record old { crossed = c }) crossed_is)
 
-pub stops-other : {S : Type 0} (old : Served S) (less crossed : Crossed) (n : ℕ) (fault : ServerFault) → ((k : ℕ) → fault ≡ faults.BadEffect k → ⊥) → (fault ≡ faults.OutOfMemory → ⊥) →
-    less ≡ took_less old.crossed n → crossed ≡ failed less → StopsBy old (record old { crossed = crossed; fault = Some fault }) n fault writes.Failed
-stops-other {S = S} old less crossed n fault effect memory less_is crossed_is = by_fault fault effect memory
+pub stops-other : {S : Type 0} (old : Served S) (crossed : Crossed) (n : ℕ) (fault : ServerFault) → (fault ≡ faults.OutOfMemory → ⊥) → crossed ≡ record old.crossed { promised = false; flushed = false } →
+    StopsBy old (record old { crossed = crossed; fault = Some fault }) n fault (writes.Took n)
+stops-other {S = S} old crossed n fault memory crossed_is = by_fault fault memory
   where
-    after : (f : ServerFault) → record old { crossed = crossed; fault = Some f } ≡ record old { crossed = failed (took_less old.crossed n); fault = Some f }
-    after f = ap (λ (c : Crossed). record old { crossed = c; fault = Some f }) (crossed_is ∙ ap failed less_is)
+    after : (f : ServerFault) → record old { crossed = crossed; fault = Some f } ≡ record old { crossed = record old.crossed { promised = false; flushed = false }; fault = Some f }
+    after f = ap (λ (c : Crossed). record old { crossed = c; fault = Some f }) crossed_is
 
-    by_fault : (f : ServerFault) → ((k : ℕ) → f ≡ faults.BadEffect k → ⊥) → (f ≡ faults.OutOfMemory → ⊥) → StopsBy old (record old { crossed = crossed; fault = Some f }) n f writes.Failed
-    by_fault faults.BadStartup effect memory = (refl, after faults.BadStartup)
-    by_fault (faults.Version v) effect memory = (refl, after (faults.Version v))
-    by_fault faults.Cancel effect memory = (refl, after faults.Cancel)
-    by_fault (faults.BadFrame f) effect memory = (refl, after (faults.BadFrame f))
-    by_fault (faults.BadEffect k) effect memory = absurd (effect k refl)
-    by_fault faults.Ended effect memory = (refl, after faults.Ended)
-    by_fault faults.OutOfMemory effect memory = absurd (memory refl)
+    by_fault : (f : ServerFault) → (f ≡ faults.OutOfMemory → ⊥) → StopsBy old (record old { crossed = crossed; fault = Some f }) n f (writes.Took n)
+    by_fault faults.BadStartup memory = (refl, after faults.BadStartup)
+    by_fault (faults.Version v) memory = (refl, after (faults.Version v))
+    by_fault faults.Cancel memory = (refl, after faults.Cancel)
+    by_fault (faults.BadFrame f) memory = (refl, after (faults.BadFrame f))
+    by_fault (faults.BadEffect k) memory = (refl, after (faults.BadEffect k))
+    by_fault faults.Ended memory = (refl, after faults.Ended)
+    by_fault faults.OutOfMemory memory = absurd (memory refl)
 
 -- ---- a write of the bytes that can be taken
 
@@ -401,30 +395,23 @@ stopped-TakesIn {S = S} old mid new bytes found fault r ends offer same takes st
     back : took_less mid.crossed (length bytes) ≡ old.crossed
     back = ap (λ (c : Crossed). took_less c (length bytes)) offer ∙ kept_none old.crossed bytes
 
-    refused : (f : ServerFault) → RefusesBy {S = S} (Some f) (Stops f) → (found ≡ Stops f) × (mid.heard ≡ old.heard) →
-        (r ≡ writes.Failed) × (new ≡ record mid { crossed = failed (took_less mid.crossed (length bytes)); fault = Some f }) → TakesIn old new bytes found r
-    refused f by (found_is, heard_is) (r_is, new_is) =
-        let all : new ≡ record old { crossed = failed old.crossed; fault = Some f }
-        = new_is ∙ ap (λ (h : Heard S). record { heard = h; crossed = failed (took_less mid.crossed (length bytes)); fault = Some f }) heard_is
-        ∙ ap (λ (c : Crossed). record { heard = old.heard; crossed = failed c; fault = Some f }) back in
-        subst (λ (a : LinkWrite). TakesIn old new bytes found a) (sym r_is) (
-          all ∙ ap (λ (o : Option ServerFault). record old { crossed = failed old.crossed; fault = o }) (sym (ap (λ (m : Served S). m.fault) all)),
-          subst (λ (o : Option ServerFault). RefusesBy o found) (sym (ap (λ (m : Served S). m.fault) all)) (subst (λ (x : Front S). RefusesBy (Some f) x) (sym found_is) by),
-        )
-
-    by_fault : (f : ServerFault) → TakesFront found old.heard mid.heard bytes (Err f) → StopsBy mid new (length bytes) f r → TakesIn old new bytes found r
-    by_fault faults.BadStartup t s = refused faults.BadStartup refl t s
-    by_fault (faults.Version v) t s = refused (faults.Version v) refl t s
-    by_fault faults.Cancel t s = refused faults.Cancel refl t s
-    by_fault (faults.BadFrame f) t s = refused (faults.BadFrame f) refl t s
-    by_fault faults.Ended t s = refused faults.Ended refl t s
-    by_fault (faults.BadEffect k) (found_is, over) (r_is, new_is) =
+    refused : (f : ServerFault) → (found ≡ Stops f) × (mid.heard.standing.stage ≡ Over) →
+        (r ≡ writes.Took (length bytes)) × (new ≡ record mid { crossed = record mid.crossed { promised = false; flushed = false }; fault = Some f }) → TakesIn old new bytes found r
+    refused f (found_is, over) (r_is, new_is) =
         let crossed : new.crossed ≡ crossing.took old.crossed (take (length bytes) bytes) []
         = ap (λ (m : Served S). m.crossed) new_is ∙ ap (λ (c : Crossed). record c { promised = false; flushed = false }) offer
         ∙ ap (λ (d : List ℕ). record old.crossed { taken = old.crossed.taken ++ bytes; due = d; promised = false; flushed = false }) (sym (append-nil old.crossed.due))
         ∙ ap (λ (b : List ℕ). crossing.took old.crossed b []) (sym (take-length bytes)) in
         subst (λ (a : LinkWrite). TakesIn old new bytes found a) (sym r_is) (subst (λ (x : Front S). TakesBy old new bytes (length bytes) x) (sym found_is)
         (sym ends, ap (λ (m : Served S). m.heard.standing.stage) new_is ∙ over, crossed, ap (λ (m : Served S). m.fault) new_is))
+
+    by_fault : (f : ServerFault) → TakesFront found old.heard mid.heard bytes (Err f) → StopsBy mid new (length bytes) f r → TakesIn old new bytes found r
+    by_fault faults.BadStartup t s = refused faults.BadStartup t s
+    by_fault (faults.Version v) t s = refused (faults.Version v) t s
+    by_fault faults.Cancel t s = refused faults.Cancel t s
+    by_fault (faults.BadFrame f) t s = refused (faults.BadFrame f) t s
+    by_fault (faults.BadEffect k) t s = refused (faults.BadEffect k) t s
+    by_fault faults.Ended t s = refused faults.Ended t s
     by_fault faults.OutOfMemory heard_is (r_is, new_is) =
         subst (λ (a : LinkWrite). TakesIn old new bytes found a) (sym r_is) (
         new_is ∙ ap (λ (h : Heard S). record { heard = h; crossed = took_less mid.crossed (length bytes); fault = mid.fault }) heard_is

@@ -269,23 +269,17 @@ reach-TakesIn {S = S} step old new bytes n r settled n_is takes = by_reach (reac
     same_piece : (piece rest : List ℕ) (k : ℕ) → piece ++ rest ≡ bytes → k ≡ length piece → take k piece ≡ take k bytes
     same_piece piece rest k is all = ap (λ (j : ℕ). take j piece) all ∙ take-length piece ∙ sym (piece_is piece rest bytes k is all)
 
-    refused : (piece : List ℕ) (f : WireFault) (r : LinkWrite) → TakesIn old new piece (Stops (faults.BadFrame f)) r → TakesIn old new bytes (Stops (faults.BadFrame f)) r
-    refused piece f (writes.Took k) d = absurd d
-    refused piece f writes.Failed d = d
-    refused piece f writes.OutOfMemory d = d
-    refused piece f writes.NotReady d = absurd d
-
-    broken : (piece rest : List ℕ) (i : ℕ) (r : LinkWrite) → piece ++ rest ≡ bytes → n ≡ length piece → reach_of at.stage old.heard.left piece ≡ length piece →
-        TakesIn old new piece (Stops (faults.BadEffect i)) r → TakesIn old new bytes (Stops (faults.BadEffect i)) r
-    broken piece rest i (writes.Took k) is count ends (reach, over, crossed, fault) = (
+    stopped : (piece rest : List ℕ) (f : ServerFault) (r : LinkWrite) → piece ++ rest ≡ bytes → n ≡ length piece → reach_of at.stage old.heard.left piece ≡ length piece →
+        TakesIn old new piece (Stops f) r → TakesIn old new bytes (Stops f) r
+    stopped piece rest f (writes.Took k) is count ends (reach, over, crossed, fault) = (
       reach ∙ ends ∙ sym count ∙ n_is,
       over,
       crossed ∙ ap (λ (b : List ℕ). crossing.took old.crossed b []) (same_piece piece rest k is (reach ∙ ends)),
       fault,
     )
-    broken piece rest i writes.Failed is count ends d = d
-    broken piece rest i writes.OutOfMemory is count ends d = d
-    broken piece rest i writes.NotReady is count ends d = absurd d
+    stopped piece rest f writes.Failed is count ends d = absurd d
+    stopped piece rest f writes.OutOfMemory is count ends d = d
+    stopped piece rest f writes.NotReady is count ends d = absurd d
 
     answered : (piece rest said : List ℕ) (next : Standing S) (r : LinkWrite) → piece ++ rest ≡ bytes → TakesIn old new piece (Says said next []) r → TakesIn old new bytes (Says said next rest) r
     answered piece rest said next (writes.Took k) is (least, count, new_is) =
@@ -294,20 +288,20 @@ reach-TakesIn {S = S} step old new bytes n r settled n_is takes = by_reach (reac
           omega (arith, all, length-append piece rest, ap length is),
           new_is ∙ ap (λ (b : List ℕ). record old { heard = record { standing = next; left = [] }; crossed = crossing.took old.crossed b said }) (same_piece piece rest k is all),
         )
-    answered piece rest said next writes.Failed is d = d
+    answered piece rest said next writes.Failed is d = absurd d
     answered piece rest said next writes.OutOfMemory is d = d
     answered piece rest said next writes.NotReady is d = absurd d
 
     by_frame : (piece rest : List ℕ) (m : RawMessage) (f : Result ClientFrame WireFault) → piece ++ rest ≡ bytes → n ≡ length piece → reach_of at.stage old.heard.left piece ≡ length piece →
         TakesIn old new piece (reading step at m [] f) r → TakesIn old new bytes (reading step at m rest f) r
-    by_frame piece rest m (Err f) is count ends d = refused piece f r d
+    by_frame piece rest m (Err f) is count ends d = stopped piece rest (faults.BadFrame f) r is count ends d
     by_frame piece rest m (Ok frame) is count ends d = by_test (is_broken step at m frame) d
       where
         chosen : Bool → List ℕ → Front S
         chosen t rest = cond t (Stops (faults.BadEffect at.answered)) (Says (spoken (replied step at m).reply) (behind_frame at m (replied step at m).next) rest)
 
         by_test : (t : Bool) → TakesIn old new piece (chosen t []) r → TakesIn old new bytes (chosen t rest) r
-        by_test true d = broken piece rest at.answered r is count ends d
+        by_test true d = stopped piece rest (faults.BadEffect at.answered) r is count ends d
         by_test false d = answered piece rest (spoken (replied step at m).reply) (behind_frame at m (replied step at m).next) r is d
 
     by_reach : Reached at.stage old.heard.left bytes n → TakesIn old new bytes (front_by step old bytes) r

@@ -185,37 +185,34 @@ settled-piece {S = S} step at left bytes said next rest settled e =
 
 -- ---- what is taken up to the end of a frame
 
--- it stands as before, or is over
-pub refused-settled : {S : Type 0} (found : Front S) (old new : Standing S) (s left : List ℕ) (fault : ServerFault) → Steps found old new s (Err fault) → is_settled old.stage left ≡ true → is_settled new.stage left ≡ true
-refused-settled {S = S} found old new s left fault does settled = by_fault fault does
+-- where memory lacks it stands as before
+kept-standing : {S : Type 0} (found : Front S) (old new : Standing S) (s : List ℕ) (fault : ServerFault) → fault ≡ faults.OutOfMemory → Steps found old new s (Err fault) → new ≡ old
+kept-standing {S = S} found old new s fault is does = subst (λ (f : ServerFault). Steps found old new s (Err f)) is does
+
+pub kept-settled : {S : Type 0} (step : Step S) (old new : Standing S) (s left : List ℕ) (fault : ServerFault) → fault ≡ faults.OutOfMemory → Steps (front step old s) old new s (Err fault) →
+    is_settled old.stage left ≡ true → is_settled new.stage left ≡ true
+kept-settled {S = S} step old new s left fault is does settled =
+    ap (λ (at : Standing S). is_settled at.stage left) (kept-standing (front step old s) old new s fault is does) ∙ settled
+
+pub kept-takes : {S : Type 0} (step : Step S) (old new : Heard S) (s bytes : List ℕ) (fault : ServerFault) → fault ≡ faults.OutOfMemory → Steps (front step old.standing s) old.standing new.standing s (Err fault) →
+    new.left ≡ old.left → TakesFront (front step old.standing (old.left ++ bytes)) old new bytes (Err fault)
+kept-takes {S = S} step old new s bytes fault is does left =
+    subst (λ (f : ServerFault). TakesFront (front step old.standing (old.left ++ bytes)) old new bytes (Err f)) (sym is)
+    (ap (λ (at : Standing S). record { standing = at; left = new.left }) (kept-standing (front step old.standing s) old.standing new.standing s fault is does) ∙ ap (λ (l : List ℕ). record old { left = l }) left)
+
+-- it is over
+pub stopped-takes : {S : Type 0} (found : Front S) (old new : Heard S) (mid : Standing S) (s bytes : List ℕ) (fault : ServerFault) → (fault ≡ faults.OutOfMemory → ⊥) → Steps found old.standing mid s (Err fault) →
+    new.standing.stage ≡ Over → TakesFront found old new bytes (Err fault)
+stopped-takes {S = S} found old new mid s bytes fault memory does over = by_fault fault memory does
   where
-    same : new ≡ old → is_settled new.stage left ≡ true
-    same is = ap (λ (at : Standing S). is_settled at.stage left) is ∙ settled
-
-    by_fault : (fault : ServerFault) → Steps found old new s (Err fault) → is_settled new.stage left ≡ true
-    by_fault faults.BadStartup d = same d.1
-    by_fault (faults.Version n) d = same d.1
-    by_fault faults.Cancel d = same d.1
-    by_fault (faults.BadFrame f) d = same d.1
-    by_fault (faults.BadEffect n) d = ap (λ (stage : Stage). is_settled stage left) d.1
-    by_fault faults.Ended d = same d.1
-    by_fault faults.OutOfMemory d = same d
-
--- the same of a server
-pub refused-takes : {S : Type 0} (found : Front S) (old new : Heard S) (s bytes : List ℕ) (fault : ServerFault) → Steps found old.standing new.standing s (Err fault) → new.left ≡ old.left → TakesFront found old new bytes (Err fault)
-refused-takes {S = S} found old new s bytes fault does left = by_fault fault does
-  where
-    same : new.standing ≡ old.standing → new ≡ old
-    same is = ap (λ (at : Standing S). record { standing = at; left = new.left }) is ∙ ap (λ (l : List ℕ). record old { left = l }) left
-
-    by_fault : (fault : ServerFault) → Steps found old.standing new.standing s (Err fault) → TakesFront found old new bytes (Err fault)
-    by_fault faults.BadStartup d = (d.0, same d.1)
-    by_fault (faults.Version n) d = (d.0, same d.1)
-    by_fault faults.Cancel d = (d.0, same d.1)
-    by_fault (faults.BadFrame f) d = (d.0, same d.1)
-    by_fault (faults.BadEffect n) d = (d.0, d.1)
-    by_fault faults.Ended d = (d.0, same d.1)
-    by_fault faults.OutOfMemory d = same d
+    by_fault : (fault : ServerFault) → (fault ≡ faults.OutOfMemory → ⊥) → Steps found old.standing mid s (Err fault) → TakesFront found old new bytes (Err fault)
+    by_fault faults.BadStartup memory d = (d.0, over)
+    by_fault (faults.Version n) memory d = (d.0, over)
+    by_fault faults.Cancel memory d = (d.0, over)
+    by_fault (faults.BadFrame f) memory d = (d.0, over)
+    by_fault (faults.BadEffect n) memory d = (d.0, over)
+    by_fault faults.Ended memory d = (d.0, over)
+    by_fault faults.OutOfMemory memory d = absurd (memory refl)
 
 -- a frame was whole by some of the bytes
 pub answered-takes : {S : Type 0} (step : Step S) (old new : Heard S) (s bytes : List ℕ) (said : Answer × ℕ) → s ≡ old.left ++ bytes → is_settled old.standing.stage old.left ≡ true →

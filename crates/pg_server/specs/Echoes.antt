@@ -1,10 +1,11 @@
 -- What a handler answers that gives a query its own text back (PostgreSQL documentation, "Message Formats": RowDescription,
 -- DataRow, CommandComplete, ErrorResponse).
-use Rattle.std.specs.Prelude.{ℕ, ◌+◌, ◌^◌, false, List, [], ◌∷◌, ◌++◌, length, nat_lt, if◌then◌else◌, codes}
+use Rattle.std.specs.Prelude.{◌≡◌, ℕ, ◌+◌, ◌^◌, true, false, Ok, List, [], ◌∷◌, ◌++◌, length, nat_lt, if◌then◌else◌, codes}
 use Rattle.std.specs.Int.{w16, w32, to_be_bytes}
-use Rattle.std.specs.Str.{byte}
+use Rattle.std.specs.Str.{byte, is_utf8}
 use Rattle.pg_spec.specs.Bytes.{text0}
 use Rattle.pg_spec.specs.ClientFrames.{ClientFrame, Query}
+use Rattle.pg_spec.specs.Frames.{query_frame}
 use Rattle.pg_spec.specs.RawMessages.{RawMessage, message_bytes}
 use Rattle.pg_server.specs.declared.handler.Effect.{Effect}
 
@@ -47,3 +48,9 @@ echo_reply frame = message_bytes not_here
 -- it has one state
 abbrev pub echo_step : Unit {0} → ClientFrame → Effect × Unit {0}
 echo_step state frame = (record { reply = echo_reply frame; opens = false }, state)
+
+-- the frame of a simple query in UTF-8
+pub record IsTextQuery (frame : List ℕ) : Type 0 where
+  pub text : List ℕ
+  pub is_text : is_utf8 text ≡ true
+  pub is : query_frame text ≡ Ok frame

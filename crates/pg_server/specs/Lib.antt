@@ -1,7 +1,9 @@
 pub mod Answers
+pub mod ByteLists
 pub mod Copies
 pub mod Crossings
 pub mod Echoes
+pub mod FaultNumbers
 pub mod FaultPlaces
 pub mod Frames
 pub mod Handlers

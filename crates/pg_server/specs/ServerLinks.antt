@@ -1,6 +1,6 @@
--- A link to a server: what it gives follows from the bytes taken, no call is held back, and it never ends. A write takes at most to
--- the end of the first frame that is whole by it.
-use Rattle.std.specs.Prelude.{◌≡◌, ℕ, ◌+◌, ◌-◌, ◌^◌, ◌<◌, ◌≤◌, true, false, List, [], ◌++◌, length, take, drop, min, Option, Some, None, refl}
+-- A link to a server: what it gives and its fault follow from the bytes taken, no call is held back, and it never ends. A write takes
+-- at most to the end of the first frame that it answers.
+use Rattle.std.specs.Prelude.{◌≡◌, ℕ, ◌+◌, ◌-◌, ◌^◌, ◌<◌, ◌≤◌, true, false, List, [], ◌∷◌, ◌++◌, length, take, drop, min, Option, Some, None, refl, if◌then◌else◌}
 use Rattle.std.proofs.Math.Nat.{min-le_right, lt-suc_self, zero-lt-suc, lt_of_le_of_lt}
 use Rattle.pg_spec.specs.Links.{LinkView}
 use Rattle.pg_wire.specs.LinkCalls.{Tells}
@@ -15,8 +15,10 @@ use Rattle.pg_server.specs.declared.fault.ServerFault.{ServerFault}
 use Rattle.pg_server.specs.declared.fault.ServerFault.TheVariants as faults
 use Rattle.pg_server.specs.declared.server_link.ServerLink.{ServerLink}
 use Rattle.pg_server.specs.declared.session.Stage.TheVariants.{Over}
+use Rattle.pg_server.specs.ByteLists.{but_last, is_ended}
 use Rattle.pg_server.specs.Crossings as crossing
 use Rattle.pg_server.specs.Crossings.{Crossed, crossed_of, untouched, took, took_less, failed}
+use Rattle.pg_server.specs.FaultNumbers.{fault_numbers}
 use Rattle.pg_server.specs.Handlers.{Step}
 use Rattle.pg_server.specs.Reaches.{reach_of}
 use Rattle.pg_server.specs.Servers.{Heard, heard_of, fed_with}
@@ -37,9 +39,27 @@ new_link heard cut room = record { heard = heard; crossed = untouched cut room; 
 abbrev pub FailsByFault : {S : Type 0} → Served S → Type 0
 FailsByFault m = m.fault ≡ None → m.crossed.faults ≡ 0
 
--- All that it gives, by the bytes taken: what was said already, and what is said to the bytes from here.
+-- the first fault stays
+abbrev pub first_fault : Option ServerFault → Option ServerFault → Option ServerFault
+first_fault None later = later
+first_fault (Some fault) later = Some fault
+
+-- the fault that it has once it took these bytes too
+abbrev pub fault_by : {S : Type 0} → Step S → Served S → List ℕ → Option ServerFault
+fault_by step m [] = m.fault
+fault_by step m (b ∷ bytes) = first_fault m.fault (fed_with step m.heard (b ∷ bytes)).fault
+
+-- What is said to bytes that come. A number that is no byte is never taken: where one stands behind them, the fault by these bytes is
+-- told behind what is said, in numbers.
+abbrev pub told_by : {S : Type 0} → Step S → Served S → List ℕ → List ℕ
+told_by step m bytes =
+    if is_ended bytes then (fed_with step m.heard (but_last bytes)).said ++ fault_numbers (fault_by step m (but_last bytes))
+    else (fed_with step m.heard bytes).said
+
+-- All that it gives, by the bytes taken: what was said already, and what is said to the bytes from here. So its fault by them follows
+-- from its course, too.
 abbrev pub course_of : {S : Type 0} → Step S → Served S → List ℕ → List ℕ
-course_of step m taken = (m.crossed.given ++ m.crossed.due) ++ (fed_with step m.heard (drop (length m.crossed.taken) taken)).said
+course_of step m taken = (m.crossed.given ++ m.crossed.due) ++ told_by step m (drop (length m.crossed.taken) taken)
 
 -- it tells its bytes, those that are due and its course, and is steady
 abbrev pub link_of : {S : Type 0} → Step S → Served S → LinkView
@@ -81,31 +101,23 @@ offered m bytes = take (min m.crossed.room (length bytes)) bytes
 abbrev pub front_by : {S : Type 0} → Step S → Served S → List ℕ → Front S
 front_by step m bytes = front step m.heard.standing (m.heard.left ++ bytes)
 
--- A write took n of these bytes: all where no frame is whole by them, else the frame, which is answered. Where the handler's answer
--- may not be given the frame was taken too, and that is kept as the fault.
+-- A write took n of these bytes: all where no frame is whole by them, else the frame, which is answered. What the server refuses is
+-- taken too, without an answer, and the fault is kept.
 abbrev pub TakesBy : {S : Type 0} → (old new : Served S) → (bytes : List ℕ) → ℕ → Front S → Type 0
 TakesBy old new bytes n Waits =
     (n ≡ length bytes) × (new ≡ record old { heard = record old.heard { left = old.heard.left ++ bytes }; crossed = took old.crossed bytes [] })
 TakesBy old new bytes n (Says said next rest) =
     (1 ≤ n) × (n + length rest ≡ length bytes)
     × (new ≡ record old { heard = record { standing = next; left = [] }; crossed = took old.crossed (take n bytes) said })
-TakesBy old new bytes n (Stops (faults.BadEffect k)) =
+TakesBy old new bytes n (Stops fault) =
     (n ≡ reach_of old.heard.standing.stage old.heard.left bytes) × (new.heard.standing.stage ≡ Over) × (new.crossed ≡ took old.crossed (take n bytes) [])
-    × (new.fault ≡ Some (faults.BadEffect k))
-TakesBy old new bytes n (Stops fault) = ⊥
-
--- a frame was refused by this fault; a handler's answer that may not be given is none
-abbrev pub RefusesBy : {S : Type 0} → Option ServerFault → Front S → Type 0
-RefusesBy fault (Stops (faults.BadEffect k)) = ⊥
-RefusesBy fault (Stops other) = fault ≡ Some other
-RefusesBy fault found = ⊥
+    × (new.fault ≡ Some fault)
 
 -- What `write` answers and does with the bytes that it can take, where the server has no fault. Want of memory changes nothing.
 abbrev pub TakesIn : {S : Type 0} → (old new : Served S) → (bytes : List ℕ) → Front S → LinkWrite → Type 0
 TakesIn old new bytes found (writes.Took n) = TakesBy old new bytes n found
-TakesIn old new bytes found writes.Failed = (new ≡ record old { crossed = failed old.crossed; fault = new.fault }) × RefusesBy new.fault found
 TakesIn old new bytes found writes.OutOfMemory = new ≡ old
-TakesIn old new bytes found writes.NotReady = ⊥
+TakesIn old new bytes found other = ⊥
 
 -- behind a fault it fails
 abbrev pub TakesAt : {S : Type 0} → Step S → (old new : Served S) → (bytes : List ℕ) → LinkWrite → Option ServerFault → Type 0
@@ -131,10 +143,9 @@ EndsWriting old new r = DoesAt old new (record old.crossed { shut = true }) r ol
 
 -- what a write does about a fault of the server, where it took n bytes already
 abbrev pub StopsBy : {S : Type 0} → (old new : Served S) → (n : ℕ) → ServerFault → LinkWrite → Type 0
-StopsBy old new n (faults.BadEffect k) r =
-    (r ≡ writes.Took n) × (new ≡ record old { crossed = record old.crossed { promised = false; flushed = false }; fault = Some (faults.BadEffect k) })
 StopsBy old new n faults.OutOfMemory r = (r ≡ writes.OutOfMemory) × (new ≡ record old { crossed = took_less old.crossed n })
-StopsBy old new n fault r = (r ≡ writes.Failed) × (new ≡ record old { crossed = failed (took_less old.crossed n); fault = Some fault })
+StopsBy old new n fault r =
+    (r ≡ writes.Took n) × (new ≡ record old { crossed = record old.crossed { promised = false; flushed = false }; fault = Some fault })
 
 -- a promise is kept
 abbrev pub KeepsItsPromise : {S : Type 0} → Served S → Type 0

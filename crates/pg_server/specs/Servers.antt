@@ -57,12 +57,11 @@ FeedsAt step old new bytes out later (Err fault) stage = Takes step old new byte
 abbrev pub Feeds : {S : Type 0} → Step S → (old new : Heard S) → (bytes out later : List ℕ) → Result (Unit {0}) ServerFault → Type 0
 Feeds step old new bytes out later r = FeedsAt step old new bytes out later r old.standing.stage
 
--- Bytes were taken up to the end of the first frame that is whole by them, and so many of them weren't taken. After a fault it
--- stands as before; but it is over where an effect may not be given.
+-- Bytes were taken up to the end of the first frame that is whole by them, and so many of them weren't taken. It is over after a fault;
+-- where memory lacks it is as before.
 abbrev pub TakesFront : {S : Type 0} → Front S → (old new : Heard S) → (bytes : List ℕ) → Result (Option (Answer × ℕ)) ServerFault → Type 0
 TakesFront found old new bytes (Ok None) = (found ≡ Waits) × (new ≡ record old { left = old.left ++ bytes })
 TakesFront found old new bytes (Ok (Some said)) =
     (rest : List ℕ) × (found ≡ Says (answer_bytes said.0) new.standing rest) × (said.1 ≡ length rest) × (said.1 < length bytes) × (new.left ≡ [])
 TakesFront found old new bytes (Err faults.OutOfMemory) = new ≡ old
-TakesFront found old new bytes (Err (faults.BadEffect n)) = (found ≡ Stops (faults.BadEffect n)) × (new.standing.stage ≡ Over)
-TakesFront found old new bytes (Err fault) = (found ≡ Stops fault) × (new ≡ old)
+TakesFront found old new bytes (Err fault) = (found ≡ Stops fault) × (new.standing.stage ≡ Over)

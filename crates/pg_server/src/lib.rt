@@ -26,7 +26,8 @@ pub use fault::ServerFault;
 pub use frame::Frame;
 pub use handler::{Effect, Handler};
 pub use laws::{
-    a_fault_comes_behind_what_was_said, a_server_says_what_the_rules_say, cuttings_of_what_is_fed,
+    a_fault_comes_behind_what_was_said, a_fault_follows_from_what_was_taken,
+    a_server_says_what_the_rules_say, an_echo_has_no_fault, cuttings_of_what_is_fed,
     what_is_laid_out_is_read,
 };
 pub use server::Server;

@@ -86,7 +86,7 @@ impl<H: Handler> Server<H> {
     }
 
     /// Takes these bytes up to the end of the first frame that is whole by them. What is said to it, and how many of the bytes
-    /// weren't taken; None where no frame is whole by them. After a fault all is as before; but behind BadEffect it is over.
+    /// weren't taken; None where no frame is whole by them. It is over after a fault; where memory lacks all is as before.
     pub(crate) fn take_up(&mut self, bytes: &[u8]) -> Result<Option<(Answer, usize)>, ServerFault>
         ensures { TakesFront (front H.step (heard_of H.state self.old).standing ((heard_of H.state self.old).left ++ bytes.now)) (heard_of H.state self.old) (heard_of H.state self.new) bytes.now result }
     {
@@ -100,10 +100,16 @@ impl<H: Handler> Server<H> {
                 Ok(Some(said))
             }
             Ok(None) => Ok(None),
-            Err(fault) => {
-                self.left.truncate(len);
-                Err(fault)
-            }
+            Err(fault) => match fault {
+                ServerFault::OutOfMemory => {
+                    self.left.truncate(len);
+                    Err(fault)
+                }
+                _ => {
+                    self.session.end();
+                    Err(fault)
+                }
+            },
         }
     }
 }

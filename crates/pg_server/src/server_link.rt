@@ -1,7 +1,8 @@
 //! A link to a server.
 
-ghost use Rattle.std.specs.Prelude.{◌≡◌, ◌<◌, ◌≤◌, length, false, None, option_map};
+ghost use Rattle.std.specs.Prelude.{◌≡◌, ◌<◌, ◌≤◌, length, false, true, None, option_map};
 ghost use Rattle.pg_wire.specs.LinkCalls.{Keeps, KeepsPromise, ReadAnswers, WriteAnswers, FlushAnswers, ShutdownAnswers, WaitAnswers, IsInCourse, gave, took};
+ghost use Rattle.pg_server.specs.ByteLists.{are_bytes};
 ghost use Rattle.pg_server.specs.Reaches.{reach_of};
 ghost use Rattle.pg_server.specs.Servers.{heard_of};
 
@@ -12,12 +13,12 @@ use crate::traffic::Traffic;
 use pg_wire::{Link, LinkRead, LinkStep, LinkWait, LinkWrite};
 use std::alloc::Global;
 
-/// A link to a server. A write takes at most to the end of the first frame that is whole by it, and what is said to that
+/// A link to a server. A write takes at most to the end of the first frame that it answers, and what is said to that
 /// frame is due then. It keeps all bytes that it took and gave.
 ///
-/// A frame that the server refuses makes its write fail, and nothing of it is taken. An answer of the handler that may not
-/// be given is known only once the frame was taken. Behind such a fault each write, flush and shutdown fails; what was said
-/// before can still be read.
+/// What the server refuses is taken as well, and nothing is said to it: a frame up to its end, or all bytes behind which no
+/// frame's end can be told. Behind such a fault each write, flush and shutdown fails; what was said before can still be read.
+/// So the fault follows from the bytes taken, as what is given does.
 #[derive(Drop)]
 pub struct ServerLink<H> {
     server: Server<H>,
@@ -57,6 +58,13 @@ impl<H: Handler> ServerLink<H> {
         let _ = &self.server;
     }
 
+    /// A law, which does nothing when it runs: what was taken are bytes.
+    pub fn bytes_law(&self)
+        ensures { are_bytes (served_of H.state self.now).crossed.taken ≡ true }
+    {
+        let _ = &self.traffic;
+    }
+
     /// A law, which does nothing when it runs: no call fails before the server has a fault.
     pub fn fault_law(&self)
         ensures { FailsByFault (served_of H.state self.now) }
@@ -74,20 +82,14 @@ impl<H: Handler> ServerLink<H> {
         ensures { StopsBy (served_of H.state self.old) (served_of H.state self.new) n fault result }
     {
         match fault {
-            ServerFault::BadEffect(_) => {
-                self.traffic.move_on();
-                self.fault = Some(fault);
-                LinkWrite::Took(n)
-            }
             ServerFault::OutOfMemory => {
                 self.traffic.take_back(n);
                 LinkWrite::OutOfMemory
             }
             _ => {
-                self.traffic.take_back(n);
+                self.traffic.move_on();
                 self.fault = Some(fault);
-                self.traffic.fail();
-                LinkWrite::Failed
+                LinkWrite::Took(n)
             }
         }
     }
@@ -116,8 +118,8 @@ impl<H: Handler> ServerLink<H> {
         }
     }
 
-    /// Takes bytes up to the end of the first frame that is whole by them, and answers it. Bytes behind that frame aren't
-    /// copied. Where memory lacks all is as before.
+    /// Takes bytes up to the end of the first frame that is whole by them, and answers it unless the server refuses it. Bytes
+    /// behind that frame aren't copied. Where memory lacks all is as before.
     fn take_in(&mut self, bytes: &[u8]) -> LinkWrite
         ensures { TakesIn (served_of H.state self.old) (served_of H.state self.new) bytes.now (front_by H.step (served_of H.state self.old) bytes.now) result }
     {

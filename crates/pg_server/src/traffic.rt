@@ -2,6 +2,7 @@
 
 ghost use Rattle.std.specs.Prelude.{◌≡◌, ◌+◌, ◌<◌, ◌≤◌, ◌++◌, ◌||◌, [], length, take, drop, nat_lt, true, false, OnOk, OnErr};
 ghost use Rattle.pg_server.specs.Answers.{answer_bytes};
+ghost use Rattle.pg_server.specs.ByteLists.{are_bytes};
 ghost use Rattle.pg_server.specs.Copies.{Copied};
 
 use crate::answer::{Answer, put, ready};
@@ -31,6 +32,7 @@ pub(crate) struct Traffic {
     quiet: u64,
     dry: u64,
     lulls: u64,
+    ghost bytes: { are_bytes taken.items ≡ true },
     ghost within: { gave ≤ length said.items },
     ghost within_last: { over ≤ length (answer_bytes last) },
     ghost in_order: { gave < length said.items → over ≡ 0 },

@@ -1,11 +1,7 @@
 use Rattle.pg_server.specs.Crossings.{crossed_of}
 use Rattle.pg_server.specs.ServerLinks.{served_of}
-use Rattle.pg_server.proofs.LinkLaws.{stops-effect, stops-memory, stops-other}
+use Rattle.pg_server.proofs.LinkLaws.{stops-memory, stops-other}
 use Rattle.pg_server.proofs.server_link.ServerLink.stop.Goals as goal
-
-pub returns-in-BadEffect : goal.returns-in-BadEffect
-returns-in-BadEffect g c =
-    stops-effect (served_of g.H.Handler.state c.args.self.now) (crossed_of c.move_on.new.self) c.args.n c.in-BadEffect.field-0 c.args.fault c.in-BadEffect.is c.move_on.ensures.crossed
 
 pub returns-in-OutOfMemory : goal.returns-in-OutOfMemory
 returns-in-OutOfMemory g c =
@@ -13,5 +9,4 @@ returns-in-OutOfMemory g c =
 
 pub returns-in_default : goal.returns-in_default
 returns-in_default g c =
-    stops-other (served_of g.H.Handler.state c.args.self.now) (crossed_of c.take_back-in_default.new.self) (crossed_of c.fail.new.self) c.args.n c.args.fault
-    c.in_default.not-BadEffect c.in_default.not-OutOfMemory c.take_back-in_default.ensures.crossed c.fail.ensures
+    stops-other (served_of g.H.Handler.state c.args.self.now) (crossed_of c.move_on.new.self) c.args.n c.args.fault c.in_default.not-OutOfMemory c.move_on.ensures.crossed
