@@ -34,9 +34,10 @@ query_of (command.Simple text take) = Some (text, take)
 abbrev pub simply : Simply Command Answer
 simply = record { simple = query_of; said = λ a. kept_answer (answer_from a) }
 
--- a handle of such scripts, and a session of them
+-- a handle of such scripts
 abbrev pub TableHandle : Type 0
 TableHandle = HandleState (List SimpleMessage) Answer (Unit {0})
 
+-- a session of such scripts
 abbrev pub TableSession : Type 0
 TableSession = SessionState (List SimpleMessage) Answer (Unit {0})

@@ -26,3 +26,4 @@ pub mod WellMade
 pub mod Neither
 pub mod Requiring
 pub mod Numbering
+pub mod Piped

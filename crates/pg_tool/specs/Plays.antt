@@ -55,7 +55,7 @@ pub record IsShort (x : Left) : Type 0 where
   pub commands : x.commands < 2 ^ 128
   pub unsent : x.unsent < 2 ^ 128
 
--- What is left to do as one number: where it is short then, the number falls where the first that changes does.
+-- What is left to do as one number. It falls where the first of the three that changes falls, if what is left then is short.
 abbrev pub as_number : Left → ℕ
 as_number x = (x.unread * 2 ^ 128 + x.commands) * 2 ^ 128 + x.unsent
 

@@ -86,7 +86,8 @@ WasPlayed text before after (Ok report) = (s : Settings) × Means text.config s
     × HasPlayed table s text.nonce scripts text.turns before after (told_in told)
 WasPlayed text before after (Err failure) = ⊤
 
--- The same by what the commands of the table mean: it keeps that contract with its scripts as they are run, and answered this.
+-- By what the commands of the table mean it keeps the contract of a session, with the text's scripts as they are run, and what it
+-- answered, as it is reported, is this.
 abbrev pub KeepsTable : SessionText → (before after : LinkView) → SessionResult → Type 0
 KeepsTable text before after result = (scripts : List (List Command)) × (scripts_of scripts ≡ text.scripts)
     × (answered : Result Report Error) × (result_of answered ≡ result)
