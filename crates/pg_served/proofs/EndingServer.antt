@@ -1,41 +1,48 @@
--- A session over a link to a server that was just made: want of memory is left, and its link where the server has a fault.
-use Rattle.std.proofs.Common.{◌≡◌, ℕ, ◌+◌, Bool, true, false, List, [], ◌∷◌, ◌++◌, length, Option, Some, None, Result, Ok, Err, inl, inr, ◌⊎◌, refl, sym, ap, ◌∙◌, subst, append_assoc, append-nil, arith}
-use Rattle.std.specs.Prelude.{IsSome, map}
+-- A session over a link to a server that was just made: its link has a fault only where the server has one for what was sent, and else want
+-- of memory alone is left.
+use Rattle.std.proofs.Common.{◌≡◌, ℕ, Bool, true, false, List, [], ◌∷◌, ◌++◌, length, Option, Some, None, Result, Ok, Err, inl, inr, ◌⊎◌, refl, sym, ap, ◌∙◌, subst, append_assoc, append-nil, arith}
+use Rattle.std.specs.Prelude.{IfOk, IsSome, map}
 use Rattle.std.specs.List.{AllByRecursion, concat}
 use Rattle.std.proofs.lemmas.Bool.{true≢false}
 use Rattle.std.proofs.lemmas.List.{length-append}
 use Rattle.std.proofs.lemmas.Option.{none-some}
 use Rattle.pg_promises.specs.Causes.{Call, HasCause, startup_after}
 use Rattle.pg_promises.specs.ConnectionStrings.{Means}
-use Rattle.pg_promises.specs.Promises.{EndsWell, IsFront, SentInOrder}
+use Rattle.pg_promises.specs.EndedWell.{EndedWell}
+use Rattle.pg_promises.specs.Promises.{IsFront, SentInOrder}
 use Rattle.pg_spec.specs.Book.{Booking, wire}
 use Rattle.pg_spec.specs.Faults.{Failure, FrameFault}
 use Rattle.pg_spec.specs.Faults as errors
 use Rattle.pg_spec.specs.Frames.{startup_frame, terminate_frame}
 use Rattle.pg_spec.specs.Links.{Rose}
 use Rattle.pg_spec.specs.RawMessages.{RawMessage, messages}
+use Rattle.pg_spec.specs.Report.{Report}
 use Rattle.pg_spec.specs.Settings.{Settings, startup_parameters}
-use Rattle.pg_spec.specs.Startup.{First, begun_by, dialogue, plain_login, startup}
+use Rattle.pg_spec.specs.Startup.{First, begun_by, dialogue, plain_login}
+use Rattle.pg_wire.specs.LinkCalls.{Continues}
 use Rattle.pg_wire.specs.Memory.{as_count}
 use Rattle.pg_serving.specs.Serving.{Service, joined, served}
 use Rattle.pg_serving.specs.Requests.{SoundAlong}
-use Rattle.pg_serving.specs.Sessions.{begun, frames_of, spoken}
+use Rattle.pg_serving.specs.Sessions.{IsStartup, begun, frames_of, spoken}
 use Rattle.pg_serving.proofs.ServingLaws.{SoundAlong-append}
 use Rattle.pg_serving.proofs.SessionLaws.{terminate, terminate-messages, wire-messages}
 use Rattle.pg_server.specs.declared.fault.ServerFault.{ServerFault}
+use Rattle.pg_server.specs.ByteLists.{are_bytes}
 use Rattle.pg_server.specs.Handlers.{Step, service_of}
 use Rattle.pg_server.specs.Hearing.{Said, before, said_to}
 use Rattle.pg_server.specs.Openings.{opening_in_front}
-use Rattle.pg_server.specs.ServerLinks.{FailsByFault, Served, new_link}
+use Rattle.pg_server.specs.ServerLinks.{FailsByFault, Served, link_of, new_link}
 use Rattle.pg_server.specs.Servers.{new_heard}
 use Rattle.pg_server.specs.Standings.{Front, Standing, front, opened, unfed}
 use Rattle.pg_server.specs.Standings as fronts
+use Rattle.pg_server.proofs.ByteLaws.{bytes-end}
 use Rattle.pg_server.proofs.CutLaws.{Knows, front-known}
+use Rattle.pg_server.proofs.FaultCourseLaws.{fault-of-new}
 use Rattle.pg_server.proofs.HearingLaws.{said_to-says, said_to-stops, said_to-waits}
 use Rattle.pg_server.proofs.ServedLaws.{goes_on}
-use Rattle.pg_tool.specs.SessionContract.{SessionContract, SessionResult}
-use Rattle.pg_served.specs.Conforming.{Conforms, EndsWellUnless, HasNoFault, IsValid, MayBook, ServerMustEndWell}
-use Rattle.pg_served.specs.Runs.{Asked, FailsByServer, call_over_server}
+use Rattle.pg_tool.specs.SessionContract.{SessionContract, SessionResult, session_of}
+use Rattle.pg_served.specs.Conforming.{Conforms, HasNoFault, HasNoneBehind, IsValid, MayBook, ServerMustEndWell}
+use Rattle.pg_served.specs.Runs.{Asked, FailsByServer, HasItsFault, call_over_server}
 use Rattle.pg_served.proofs.Booked.{booked-asks, came}
 use Rattle.pg_served.proofs.Crossed.{server-said}
 use Rattle.pg_served.proofs.Ending.{HasCrossed, Left, Opens, Part, Past, Says, Silent, Stands, Taken, dialogue-says, frame-made, frames-written, never-rose, sent-front, taken-of, what-is-left}
@@ -161,7 +168,8 @@ module _ (S : Type 0) (step : Step S) (asked : Asked) (state : S) (startup : Lis
     (contract : SessionContract (call_over_server step asked (new_link (new_heard state startup) cut room) new) (Err f)) (means : Means asked.config s)
     (v : IsValid (call_over_server step asked (new_link (new_heard state startup) cut room) new) s)
     (c : Conforms (call_over_server step asked (new_link (new_heard state startup) cut room) new) s (service_of step) state startup)
-    (none : (book : List Booking) → MayBook (call_over_server step asked (new_link (new_heard state startup) cut room) new).scripts book → HasNoFault step state startup c.starts.frame book) where
+    (none : (book : List Booking) → MayBook (call_over_server step asked (new_link (new_heard state startup) cut room) new).scripts book → HasNoFault step state startup c.starts.frame book)
+    (bytes : are_bytes new.crossed.taken ≡ true) where
   abbrev service : Service S
   service = service_of step
 
@@ -184,7 +192,7 @@ module _ (S : Type 0) (step : Step S) (asked : Asked) (state : S) (startup : Lis
   k = record { none_given = refl; none_taken = refl; given_is = refl; taken_is = refl; due_is = refl; steady = refl; no_end = never-rose 0 0 refl }
 
   told : given ≡ (said_to step (unfed state startup) taken).said
-  told = server-said step state startup cut room new contract.link
+  told = server-said step state startup cut room new contract.link (bytes-end taken bytes)
 
   sent : SentInOrder call s new.crossed.given taken
   sent = dialogue-says call s new.crossed.given taken new.crossed.due means k (λ s g t. SentInOrder call s g t) (contract.sent (s, means, tt))
@@ -216,17 +224,32 @@ module _ (S : Type 0) (step : Step S) (asked : Asked) (state : S) (startup : Lis
       (SoundAlong-append service (begun state) (joined (map frames_of book)) (terminate ∷ [])
       (subst (SoundAlong service (begun state)) all (says-all S step state startup s frame made sends calm).sound)).0
 
+  was-taken : Taken frame sends taken
+  was-taken = taken-of frame sends taken (sent-front call s frame new.crossed.given taken v sent (frames-written s call.nonce startup c.starts new.crossed.given new.crossed.due opens))
+
+  -- no fault for a front of all that may be sent
+  quiet-front : (front unsent : List ℕ) → front ++ unsent ≡ frame ++ sends → (said_to step (unfed state startup) front).fault ≡ None
+  quiet-front front unsent is =
+      calm-front S step state startup s frame made front unsent (ap (λ (l : List ℕ). (said_to step (unfed state startup) l).fault) is ∙ calm)
+
   stands : Stands service state startup frame book given taken
-  stands = by (taken-of frame sends taken (sent-front call s frame new.crossed.given taken v sent (frames-written s call.nonce startup c.starts new.crossed.given new.crossed.due opens)))
+  stands = by was-taken
     where
       by : Taken frame sends taken → Stands service state startup frame book given taken
       by (Part rest x e) = Silent rest x e (told ∙ part-said S step state startup s frame made taken rest x e)
       by (Past more unsent e ends) =
           let quiet : (said_to step (unfed state startup) (frame ++ more)).fault ≡ None
-          = calm-front S step state startup s frame made (frame ++ more) unsent
-          (ap (λ (l : List ℕ). (said_to step (unfed state startup) l).fault) (append_assoc frame more unsent ∙ ap (λ (l : List ℕ). frame ++ l) ends) ∙ calm) in
+          = quiet-front (frame ++ more) unsent (append_assoc frame more unsent ∙ ap (λ (l : List ℕ). frame ++ l) ends) in
           Says (came service state startup s frame made book asks given taken more unsent e ends
           (told ∙ ap (λ (l : List ℕ). (said_to step (unfed state startup) l).said) e ∙ (says-all S step state startup s frame made more quiet).says))
+
+  pub none-new : new.fault ≡ None
+  none-new = fault-of-new step state startup cut room new contract.link bytes ∙ by was-taken
+    where
+      by : Taken frame sends taken → (said_to step (unfed state startup) taken).fault ≡ None
+      by (Part rest x e) = quiet-front taken (x ∷ rest ++ sends) (sym (append_assoc taken (x ∷ rest) sends) ∙ ap (λ (l : List ℕ). l ++ sends) e)
+      by (Past more unsent e ends) =
+          quiet-front taken unsent (ap (λ (l : List ℕ). l ++ unsent) e ∙ append_assoc frame more unsent ∙ ap (λ (l : List ℕ). frame ++ l) ends)
 
   pub left-new : Left call f
   left-new = what-is-left S service state startup call s means v c.starts book asks (c.gives book may) sound new.crossed.given taken new.crossed.due k stands f contract.cause
@@ -234,32 +257,29 @@ module _ (S : Type 0) (step : Step S) (asked : Asked) (state : S) (startup : Lis
 -- ---- the fault
 
 -- its link fails only where the server has a fault
+no-rise : {S : Type 0} (new : Served S) (before : ℕ) → FailsByFault new → Rose before (as_count new.crossed.faults) → new.fault ≡ None → ⊥
+no-rise new before fails rose is = let none : new.crossed.faults ≡ 0 = fails is in omega (arith, none, rose)
+
 has-fault : {S : Type 0} (new : Served S) (before : ℕ) → FailsByFault new → Rose before (as_count new.crossed.faults) → IsSome new.fault
 has-fault new before fails rose = by new.fault refl
   where
     by : (o : Option ServerFault) → new.fault ≡ o → IsSome o
-    by None is = absurd (let none : new.crossed.faults ≡ 0 = fails is in omega (arith, none, rose))
+    by None is = absurd (no-rise new before fails rose is)
     by (Some fault) is = refl
 
-well-unless : (fault : Option ServerFault) (f : Failure) → EndsWell (Err f) → EndsWellUnless fault (Err f)
-well-unless fault errors.OutOfMemory well = tt
-well-unless fault _ well = absurd well
-
-unless-link : (fault : Option ServerFault) (f : Failure) → f ≡ errors.Io errors.Link → IsSome fault → EndsWellUnless fault (Err f)
-unless-link fault f is some = subst (λ (x : Failure). EndsWellUnless fault (Err x)) (sym is) some
-
-pub server-ends : {S : Type 0} (step : Step S) (asked : Asked) (old new : Served S) (r : SessionResult) → FailsByFault new → SessionContract (call_over_server step asked old new) r →
-    ServerMustEndWell step asked old new r
-server-ends step asked old new (Ok report) fails contract = λ state startup s made means v c none. tt
-server-ends {S = S} step asked old new (Err f) fails contract = λ state startup s made means v c none.
+pub server-ends : {S : Type 0} (step : Step S) (asked : Asked) (old new : Served S) (r : SessionResult) → FailsByFault new → are_bytes new.crossed.taken ≡ true →
+    SessionContract (call_over_server step asked old new) r → ServerMustEndWell step asked old new r
+server-ends step asked old new (Ok report) fails bytes contract = λ state startup s made means v c none. tt
+server-ends {S = S} step asked old new (Err f) fails bytes contract = λ state startup s made means v c none.
     let from : old ≡ new_link (new_heard state startup) made.cut made.room = made.link_is in
     let c' : Conforms (call_over_server step asked (new_link (new_heard state startup) made.cut made.room) new) s (service_of step) state startup
     = record { starts = c.starts; gives = c.gives } in
     let v' : IsValid (call_over_server step asked (new_link (new_heard state startup) made.cut made.room) new) s = record { user = v.user; nonce = v.nonce; no_tls = v.no_tls } in
-    elim (left-new S step asked state startup made.cut made.room new s f
-    (subst (λ (m : Served S). SessionContract (call_over_server step asked m new) (Err f)) from contract) means v' c' none) [
-      | inl well ↦ well-unless new.fault f well
-      | inr link ↦ unless-link new.fault f link.0 (has-fault new 0 fails link.1)
+    let contract' : SessionContract (call_over_server step asked (new_link (new_heard state startup) made.cut made.room) new) (Err f)
+    = subst (λ (m : Served S). SessionContract (call_over_server step asked m new) (Err f)) from contract in
+    elim (left-new S step asked state startup made.cut made.room new s f contract' means v' c' none bytes) [
+      | inl well ↦ well
+      | inr link ↦ absurd (no-rise new 0 fails link.1 (none-new S step asked state startup made.cut made.room new s f contract' means v' c' none bytes))
     ]
 
 pub server-fails : {S : Type 0} (step : Step S) (asked : Asked) (old new : Served S) (r : SessionResult) → FailsByFault new → SessionContract (call_over_server step asked old new) r → FailsByServer new r
@@ -267,3 +287,62 @@ server-fails step asked old new (Ok report) fails contract is = absurd cc
 server-fails {S = S} step asked old new (Err f) fails contract is =
     let same : f ≡ errors.Io errors.Link = cc in
     has-fault new (as_count old.crossed.faults) fails (subst (HasCause (call_over_server step asked old new)) same contract.cause)
+
+-- its fault follows from the bytes taken
+pub its-fault : {S : Type 0} (step : Step S) (asked : Asked) (old new : Served S) (r : SessionResult) → are_bytes new.crossed.taken ≡ true → SessionContract (call_over_server step asked old new) r → HasItsFault step old new
+its-fault {S = S} step asked old new r bytes contract = λ state startup made.
+    fault-of-new step state startup made.cut made.room new (subst (λ (m : Served S). Continues (link_of step m) (link_of step new)) made.link_is contract.link) bytes
+
+-- ---- behind an answer of Ok
+
+module _ (S : Type 0) (step : Step S) (asked : Asked) (state : S) (startup : List ℕ) (cut room : ℕ) (new : Served S) (s : Settings) (report : Report)
+    (contract : SessionContract (call_over_server step asked (new_link (new_heard state startup) cut room) new) (Ok report)) (means : Means asked.config s)
+    (starts : IsStartup s asked.nonce startup) (none : HasNoFault step state startup starts.frame report.book) (bytes : are_bytes new.crossed.taken ≡ true) where
+  abbrev over : Call
+  over = call_over_server step asked (new_link (new_heard state startup) cut room) new
+
+  abbrev first : List ℕ
+  first = starts.frame
+
+  written : startup_frame (startup_parameters s) ≡ Ok first
+  written = frame-made s asked.nonce startup starts
+
+  abbrev others : List (List ℕ)
+  others = (dialogue (plain_login s asked.nonce) First (messages new.crossed.given)).frames
+
+  frames : (startup_after over s new.crossed.given).frames ≡ first ∷ others
+  frames = ap (λ (r : Result (List ℕ) FrameFault). (begun_by r (dialogue (plain_login s asked.nonce) First (messages new.crossed.given))).frames) written
+
+  ended : EndedWell (session_of over s new.crossed.given report) new.crossed.taken
+  ended =
+      dialogue-says over s new.crossed.given new.crossed.taken new.crossed.due means
+      (record { none_given = refl; none_taken = refl; given_is = refl; taken_is = refl; due_is = refl; steady = refl; no_end = never-rose 0 0 refl })
+      (λ s g t. EndedWell (session_of over s g report) t) contract.ended_well
+
+  -- it wrote one frame in its startup
+  one-written : (startup_after over s new.crossed.given).frames ≡ first ∷ []
+  one-written =
+      let sends : List ℕ = (concat others ++ wire report.book) ++ terminate_frame in
+      let front : IsFront new.crossed.taken (first ++ sends) = (
+        [],
+        append-nil new.crossed.taken ∙ ended.sent ∙ ap (λ (fs : List (List ℕ)). (concat fs ++ wire report.book) ++ terminate_frame) frames
+            ∙ ap (λ (l : List ℕ). l ++ terminate_frame) (append_assoc first (concat others) (wire report.book)) ∙ append_assoc first (concat others ++ wire report.book) terminate_frame,
+      ) in
+      frames-written s asked.nonce startup starts new.crossed.given new.crossed.due
+      (subst (Opens startup) (sym (server-said step state startup cut room new contract.link (bytes-end new.crossed.taken bytes)))
+      (server-opens S step state startup s first written sends new.crossed.taken front))
+
+  pub none-behind : new.fault ≡ None
+  none-behind =
+      fault-of-new step state startup cut room new contract.link bytes
+      ∙ ap (λ (l : List ℕ). (said_to step (unfed state startup) l).fault)
+      (ended.sent ∙ ap (λ (fs : List (List ℕ)). (concat fs ++ wire report.book) ++ terminate_frame) one-written
+      ∙ ap (λ (l : List ℕ). (l ++ wire report.book) ++ terminate_frame) (append-nil first))
+      ∙ none
+
+pub server-calm : {S : Type 0} (step : Step S) (asked : Asked) (old new : Served S) (r : SessionResult) → are_bytes new.crossed.taken ≡ true → SessionContract (call_over_server step asked old new) r →
+    IfOk r (HasNoneBehind step asked old new)
+server-calm step asked old new (Err f) bytes contract = tt
+server-calm {S = S} step asked old new (Ok report) bytes contract = λ state startup s made means starts none.
+    none-behind S step asked state startup made.cut made.room new s report
+    (subst (λ (m : Served S). SessionContract (call_over_server step asked m new) (Ok report)) made.link_is contract) means starts none bytes

@@ -14,3 +14,4 @@ mod EndingServer
 mod Played
 mod WorkedEnding
 mod Feeding
+mod Echoing

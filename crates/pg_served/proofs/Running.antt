@@ -1,8 +1,10 @@
 -- A session over a link that was just made to a server, or to a machine.
-use Rattle.std.proofs.Common.{◌≡◌, ℕ, true, List, [], Ok, Err, refl, sym, ap, ◌∙◌, subst}
+use Rattle.std.proofs.Common.{◌≡◌, ℕ, true, List, [], ◌++◌, Ok, Err, refl, sym, ap, ◌∙◌, subst}
 use Rattle.std.specs.Prelude.{IfOk, map}
+use Rattle.std.specs.List.{concat}
 use Rattle.pg_promises.specs.Causes.{Call}
-use Rattle.pg_promises.specs.EndedWell.{Session, EndedWell}
+use Rattle.pg_promises.specs.EndedWell.{Session, EndedWell, startup_of}
+use Rattle.pg_spec.specs.Book.{wire}
 use Rattle.pg_spec.specs.Links.{LinkView, OfBytes}
 use Rattle.pg_spec.specs.Report.{Report}
 use Rattle.pg_wire.specs.LinkCalls.{Continues}
@@ -12,6 +14,7 @@ use Rattle.pg_machine.specs.Machines.{Table, IsMachine}
 use Rattle.pg_machine.specs.Machines as machines
 use Rattle.pg_machine.specs.MachineLinks as machine_links
 use Rattle.pg_machine.proofs.SoundLaws.{machine-SoundAlong}
+use Rattle.pg_server.specs.ByteLists.{is_ended}
 use Rattle.pg_server.specs.Handlers.{Step, service_of}
 use Rattle.pg_server.specs.ServerLinks as server_links
 use Rattle.pg_server.specs.Servers.{new_heard}
@@ -19,7 +22,7 @@ use Rattle.pg_server.specs.Startups.{is_startup}
 use Rattle.pg_tool.specs.SessionContract.{IsEndedWell, SessionContract, SessionResult, session_of}
 use Rattle.pg_served.specs.OneAtATime.{AsksInRequests, IsOneAtATime}
 use Rattle.pg_served.specs.Runs.{Asked, IsNewMachine, IsNewServer, MachineOneAtATime, RanOneAtATime, ServesOneAtATime, call_over_machine, call_over_server}
-use Rattle.pg_served.proofs.Crossed.{machine-said, server-said}
+use Rattle.pg_served.proofs.Crossed.{ended-by-Terminate, machine-said, server-said}
 use Rattle.pg_served.proofs.Requests.{ask-queries, queries-asked}
 use Rattle.pg_served.proofs.Serving.{IsServed, served-session}
 use Rattle.pg_served.proofs.Sessions.{alone-session}
@@ -42,7 +45,8 @@ over-server {S = S} step state startup cut room after s form asks goes ended =
     let given : List ℕ = after.crossed.given in
     let taken : List ℕ = after.crossed.taken in
     let served : IsServed step state startup (record s { given = given }) taken
-    = served-session step state startup (record s { given = given }) taken after.crossed.due ended form (server-said step state startup cut room after goes) asks in
+    = served-session step state startup (record s { given = given }) taken after.crossed.due ended form
+    (server-said step state startup cut room after goes (ap is_ended ended.sent ∙ ended-by-Terminate (concat (startup_of (record s { given = given })).frames ++ wire s.report.book))) asks in
     alone-session (service_of step) state startup (record s { given = given }) taken ended form served.over served.sound asks
 
 pub ran-server : {S : Type 0} (step : Step S) (old new : server_links.Served S) (call : Call) (report : Report) (state : S) (startup : List ℕ) →

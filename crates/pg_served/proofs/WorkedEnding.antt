@@ -1,8 +1,9 @@
--- A session whose server conforms: one simple query, to a machine that refuses all.
-use Rattle.std.proofs.Common.{◌≡◌, ◌⊎◌, ℕ, ◌<◌, cond, ◌==◌, List, [], ◌∷◌, ◌++◌, None, refl, sym, ap, subst, ◌∙◌, inl, inr, arith, codes, length}
+-- Sessions whose server conforms: one simple query, to a machine that refuses all, and to a server that echoes.
+use Rattle.std.proofs.Common.{◌≡◌, ◌⊎◌, ℕ, ◌<◌, cond, ◌==◌, List, [], ◌∷◌, ◌++◌, None, true, refl, sym, ap, subst, ◌∙◌, inl, inr, arith, codes, length}
 use Rattle.std.specs.Prelude.{filter, map}
 use Rattle.std.specs.List.{AllByRecursion}
-use Rattle.std.specs.Str.{is_utf8}
+use Rattle.std.specs.Str.{chars, is_utf8}
+use lib.Utf8.{encode}
 use Rattle.std.proofs.lemmas.List.Elements.{recursion_from_All}
 use Rattle.pg_promises.specs.Causes.{Call}
 use Rattle.pg_promises.specs.ConnectionStrings.{Means}
@@ -14,7 +15,9 @@ use Rattle.pg_spec.specs.Report.{Command, Simple}
 use Rattle.pg_spec.specs.Settings.{Settings, only_user, startup_parameters}
 use Rattle.pg_machine.specs.Examples.{framed, refuses_all, z}
 use Rattle.pg_machine.specs.Machines.{service_of}
-use Rattle.pg_served.specs.Conforming.{Conforms, GivesWell, IsValid, MayBook}
+use Rattle.pg_server.specs.Echoes.{echo_step}
+use Rattle.pg_server.specs.Handlers as handlers
+use Rattle.pg_served.specs.Conforming.{Conforms, GivesWell, IsValid, MayBook, are_texts}
 
 abbrev s : Settings
 s = only_user (codes "a")
@@ -84,3 +87,26 @@ conforms before after = record {
   starts = record { whole = refl; frame = framed (startup_frame (startup_parameters s)); done = refl };
   gives = gives;
 }
+
+-- ---- a server that echoes
+
+echoes : (book : List Booking) → MayBook (script ∷ []) book → GivesWell (handlers.service_of echo_step) tt bytes 100 book
+unfolding is_utf8
+echoes book may = elim (one-book book may) [
+  | inl none ↦ subst (GivesWell (handlers.service_of echo_step) tt bytes 100) (sym none) (record { readable = refl; within = omega arith })
+  | inr one ↦
+      subst (GivesWell (handlers.service_of echo_step) tt bytes 100) (sym one.1)
+      (subst (λ (parts : List (List ℕ)). GivesWell (handlers.service_of echo_step) tt bytes 100 (record { stamp = one.0.stamp; parts = parts } ∷ [])) (sym one.2)
+      (record { readable = refl; within = omega arith }))
+]
+
+pub echo-conforms : (before after : LinkView) → Conforms (call before after) s (handlers.service_of echo_step) tt bytes
+echo-conforms before after = record {
+  starts = record { whole = refl; frame = framed (startup_frame (startup_parameters s)); done = refl };
+  gives = echoes;
+}
+
+-- its texts are UTF-8
+texts : are_texts (script ∷ []) ≡ true
+unfolding is_utf8 chars encode
+texts = refl

@@ -16,8 +16,10 @@ use Rattle.pg_serving.specs.Serving.{Service}
 use Rattle.pg_machine.specs.Machines as machines
 use Rattle.pg_machine.specs.MachineLinks as machine_links
 use Rattle.pg_server.specs.Handlers.{Step, service_of}
+use Rattle.pg_server.specs.Hearing.{said_to}
 use Rattle.pg_server.specs.ServerLinks as server_links
 use Rattle.pg_server.specs.Servers.{new_heard}
+use Rattle.pg_server.specs.Standings.{unfed}
 use Rattle.pg_server.specs.Startups.{is_startup}
 use Rattle.pg_tool.specs.Asked.{call_of}
 use Rattle.pg_tool.specs.SessionContract.{SessionContract, SessionResult, result_of, session_of}
@@ -61,7 +63,8 @@ RanOneAtATime service begins startup call report = OfDialogue call (λ s g t. Is
 abbrev pub call_over_server : {S : Type 0} → Step S → Asked → (old new : server_links.Served S) → Call
 call_over_server step asked old new = call_to asked (server_links.link_of step old) (server_links.link_of step new)
 
--- The link was just made, its server was fed with nothing, and this is what the server says to the startup frame.
+-- The link was just made, its server was fed with nothing, and this is what the server says to the startup frame, in form:
+-- AuthenticationOk, then BackendKeyData, ParameterStatus and NoticeResponse in any number, then ReadyForQuery.
 pub record IsNewServer {S : Type 0} (link : server_links.Served S) (state : S) (startup : List ℕ) : Type 0 where
   pub cut : ℕ
   pub room : ℕ
@@ -77,6 +80,11 @@ ServesOneAtATime {S} step asked old new report = (state : S) (startup : List ℕ
 abbrev pub FailsByServer : {S : Type 0} → (new : server_links.Served S) → SessionResult → Type 0
 FailsByServer new result = result ≡ Err (Io Link) → IsSome new.fault
 
+-- where the link was just made, its fault is the one for which the server stops at the bytes that were taken
+abbrev pub HasItsFault : {S : Type 0} → Step S → (old new : server_links.Served S) → Type 0
+HasItsFault {S} step old new = (state : S) (startup : List ℕ) → IsNewServer old state startup →
+    new.fault ≡ (said_to step (unfed state startup) new.crossed.taken).fault
+
 -- ---- a machine
 
 -- the call, over a link to a machine
@@ -89,8 +97,8 @@ pub record IsNewMachine (link : machine_links.Served) (table : machines.Table) (
   pub room : ℕ
   pub link_is : link ≡ machine_links.new_link table startup cut room
 
--- Where the link was just made and the startup is one that asks for nothing, the machine's replies are those that it gives where it
--- is fed one request at a time.
+-- Where the link was just made and the startup is in form, the machine's replies are those that it gives where it is fed one request
+-- at a time.
 abbrev pub MachineOneAtATime : Asked → (old new : machine_links.Served) → Report → Type 0
 MachineOneAtATime asked old new report = (table : machines.Table) (startup : List ℕ) → IsNewMachine old table startup → is_startup startup ≡ true →
     RanOneAtATime (machines.service_of table) 0 startup (call_over_machine asked old new) report

@@ -36,7 +36,7 @@ fn requests_of(alloc: Global, book: &List<Booking>) -> Result<Vec<Blob>, OutOfMe
 }
 
 /// The machine's reply to each request of the book where it is fed one request at a time: the whole reply to one, and then
-/// the next. OutOfMemory comes for want of memory alone.
+/// the next.
 pub fn feed_alone(
     alloc: Global,
     machine: &Machine,

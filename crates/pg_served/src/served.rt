@@ -14,9 +14,9 @@ use std::alloc::Global;
 /// nothing, the server's reply to each request, but for notices, notifications and parameter reports, is what it is where the
 /// requests are fed one at a time, whatever the turns, and however many bytes the link gives and takes at a time.
 ///
-/// The errors are those of `run_session`. Io(Link) comes only where the server has a fault, which `ServerLink::fault` tells
-/// then. Over such a link, valid input to a server that conforms and has no fault for what the scripts ask answers Ok,
-/// OutOfMemory, or Io(Link).
+/// The errors are those of `run_session`, but for Io(Ended) and Closed. Io(Link) comes only where the server has a fault, which
+/// `ServerLink::fault` tells then; over such a link it is the one for which the server stops at the bytes that were taken. There
+/// valid input to a server that conforms and has no fault for what the scripts ask answers Ok, or OutOfMemory.
 pub fn run_served<H: Handler>(
     alloc: Global,
     config: &str,
@@ -33,10 +33,11 @@ pub fn run_served<H: Handler>(
 {
     let result = run_session(alloc, config, scripts, turns, nonce, max_bytes, link);
     link.fault_law();
+    link.bytes_law();
     result
 }
 
-/// Plays the scripts over a link to a machine. Where it answers Ok, the link was just made and the startup asks for nothing,
+/// Plays the scripts over a link to a machine. Where it answers Ok, the link was just made and the startup is in form,
 /// the machine's reply to each request, but for notices, notifications and parameter reports, is what `feed_alone` answers,
 /// whatever the turns, and however many bytes the link gives and takes at a time.
 ///

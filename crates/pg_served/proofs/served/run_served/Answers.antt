@@ -13,4 +13,4 @@ returns g c =
       limit = c.args.max_bytes;
     } in
     server-session g.H.Handler.step asked (served_of g.H.Handler.state c.args.link.now) (served_of g.H.Handler.state c.run_session-result.new.link) c.run_session-result.result
-    c.fault_law.ensures c.run_session-result.ensures.session c.run_session-result.ensures.by_table c.run_session-result.ensures.played
+    c.fault_law.ensures c.bytes_law.ensures c.run_session-result.ensures.session c.run_session-result.ensures.by_table c.run_session-result.ensures.played
