@@ -5,7 +5,7 @@ ghost use Rattle.pg_server.specs.Echoes.{echo_step};
 ghost use Rattle.pg_server.specs.ServerLinks.{link_of, new_link, served_of};
 ghost use Rattle.pg_server.specs.Servers.{heard_of, new_heard};
 ghost use Rattle.pg_tool.specs.SessionContract.{result_of};
-ghost use Rattle.pg_rehearse.specs.Rehearsals.{PlaysOver};
+ghost use Rattle.pg_rehearse.specs.Rehearsals.{FailsByServer, HasItsFault, PlaysOver};
 
 use crate::pieces::Pieces;
 use crate::rehearsal::rehearse;
@@ -40,14 +40,15 @@ pub fn echo_link(alloc: Global, pieces: Pieces) -> Result<ServerLink<Echo>, OutO
 }
 
 /// Plays the session text of a source over a link to a server that echoes, and writes the report to a sink. The text's own
-/// link isn't used.
+/// link isn't used. Io(Link) comes only where the server has a fault; over a link that was just made it is the one for which
+/// the server stops at the bytes that were taken.
 pub fn rehearse_echo<S: Source, K: Sink>(
     alloc: Global,
     source: &mut S,
     sink: &mut K,
     link: &mut ServerLink<Echo>,
 ) -> Outcome
-    ensures { PlaysOver (link_of {S = Unit {0}} echo_step (served_of (λ _. tt) link.old)) (link_of {S = Unit {0}} echo_step (served_of (λ _. tt) link.new)) (record {
+    ensures plays { PlaysOver (link_of {S = Unit {0}} echo_step (served_of (λ _. tt) link.old)) (link_of {S = Unit {0}} echo_step (served_of (λ _. tt) link.new)) (record {
       source_before = S.state source.old;
       source_after = S.state source.new;
       sink_before = K.state sink.old;
@@ -55,6 +56,11 @@ pub fn rehearse_echo<S: Source, K: Sink>(
       status = result.status;
       result = option_map result_of result.result;
     }) }
+    ensures fault { FailsByServer (served_of {S = Unit {0}} (λ _. tt) link.new) (option_map result_of result.result) }
+    ensures its_fault { HasItsFault {S = Unit {0}} echo_step (served_of (λ _. tt) link.old) (served_of (λ _. tt) link.new) }
 {
-    rehearse(alloc, source, sink, link)
+    let outcome = rehearse(alloc, source, sink, link);
+    link.fault_law();
+    link.bytes_law();
+    outcome
 }

@@ -14,4 +14,5 @@ returns-in-Err g c = inr (record {
   result = ap (λ outcome. option_map result_of outcome.result) c.out_of_memory.ensures;
   source = refl;
   sink = refl;
+  link = refl;
 })
