@@ -1,15 +1,16 @@
 #!/usr/bin/env python3
-"""Plays sessions on eight handles and prints, for each size, time, peak memory and instructions.
+"""Plays sessions on eight handles and prints, for each size, time, peak memory and instructions a command.
 
 usage: growth.py PROGRAM [SIZE ..]
 
 PROGRAM is the built pgplay (`rt run` in crates/pgplay leaves it in that crate's out folder). It is run with
-the word `play` and a session text on standard input. A size is a number of commands; without one they are
-1,000, 10,000 and 100,000. Replies have columns, a row, a completion and ReadyForQuery; above 400,000
-commands they are empty, so that the text keeps within 64 MiB. Instructions are counted by valgrind's
-callgrind in a second run, up to 100,000 commands and where valgrind is installed: they are steady to a part
-in a thousand, where seconds are not, but a clear or a copy of some kilobytes counts as one for each byte. A peak
-below this script's own, about 10 MiB, is shown as that. Nothing is written but what is printed.
+the word `play` and a session text on standard input, and with `gen`, the size and the seed 7, up to 100,000
+commands. A size is a number of commands; without one they are 1,000, 10,000 and 100,000. Replies of `play`
+have columns, a row, a completion and ReadyForQuery; above 400,000 commands they are empty, so that the text
+keeps within 64 MiB. Instructions are counted by valgrind's callgrind in a second run, up to 100,000 commands
+and where valgrind is installed: they are steady to a part in a thousand, where seconds are not, but a clear or
+a copy of some kilobytes counts as one for each byte. A peak below this script's own, about 10 MiB, is shown as
+that. Nothing is written but what is printed.
 """
 import os
 import re
@@ -29,6 +30,9 @@ EMPTY = '49000000045a0000000549'
 MOST_ROWS = 400000
 # Callgrind takes about a minute for these.
 MOST_COUNTED = 100000
+# The most commands that `gen` makes.
+MOST_MADE = 100000
+SEED = '7'
 
 
 def session(size):
@@ -43,57 +47,66 @@ def session(size):
     return '\n'.join(lines) + '\n'
 
 
-def play(program, text, size):
-    """Seconds and peak memory in MiB. It ends this script where not every command was answered."""
-    with tempfile.TemporaryFile() as report:
+def run(program, words, text, is_whole):
+    """Seconds and peak memory in MiB of one run. It ends this script where its output isn't whole."""
+    with tempfile.TemporaryFile() as output:
         text.seek(0)
         begun = time.monotonic()
         child = os.fork()
         if child == 0:
             os.dup2(text.fileno(), 0)
-            os.dup2(report.fileno(), 1)
-            os.execv(program, [program, 'play'])
+            os.dup2(output.fileno(), 1)
+            os.execv(program, [program, *words])
         _, status, used = os.wait4(child, 0)
         seconds = time.monotonic() - begun
-        report.seek(0)
-        answers = sum(line.startswith(b'answer ') for line in report)
-    if status != 0:
-        sys.exit('the program ended with %d' % status)
-    if answers != size:
-        sys.exit('%d commands had %d answers' % (size, answers))
+        output.seek(0)
+        is_well = is_whole(output)
+    if status != 0 or not is_well:
+        sys.exit('%s: status %d, or an output that is not whole' % (' '.join(words), status))
     return seconds, used.ru_maxrss / 1024
 
 
-def instructions(program, text):
-    """How many instructions the program takes, by callgrind."""
-    words = ['valgrind', '--tool=callgrind', '--callgrind-out-file=/dev/null', program, 'play']
+def instructions(program, words, text):
+    """How many instructions one run takes, by callgrind."""
+    counted = ['valgrind', '--tool=callgrind', '--callgrind-out-file=/dev/null', program, *words]
     text.seek(0)
-    run = subprocess.run(words, stdin=text, stdout=subprocess.DEVNULL, stderr=subprocess.PIPE)
-    found = re.search(rb'Collected : (\d+)', run.stderr)
-    if run.returncode != 0 or not found:
-        sys.exit('callgrind gave no count: %s' % run.stderr.decode(errors='replace'))
+    ran = subprocess.run(counted, stdin=text, stdout=subprocess.DEVNULL, stderr=subprocess.PIPE)
+    found = re.search(rb'Collected : (\d+)', ran.stderr)
+    if ran.returncode != 0 or not found:
+        sys.exit('callgrind gave no count: %s' % ran.stderr.decode(errors='replace'))
     return int(found[1])
 
 
+def figures(program, words, text, size, is_whole):
+    """A size's figures as they are printed: seconds, MiB, instructions a command."""
+    seconds, memory = run(program, words, text, is_whole)
+    counted = '-'
+    if size <= MOST_COUNTED and shutil.which('valgrind'):
+        counted = '%.0f' % (instructions(program, words, text) / size)
+    return '%8.2f %8.1f %12s' % (seconds, memory, counted)
+
+
 def measure(program, size):
-    """Prints the line of a size."""
+    """Prints what the two words take for a session of this size. `gen` makes sessions up to its own limit."""
     with tempfile.TemporaryFile() as text:
         text.write(session(size).encode())
         text.flush()
-        seconds, memory = play(program, text, size)
-        per_command = (1e6 * seconds / size, 1024 * memory / size)
-        counted = ''
-        if size <= MOST_COUNTED and shutil.which('valgrind'):
-            counted = '%12.0f' % (instructions(program, text) / size)
-    print('%8d %8.2f %8.1f %12.1f %12.2f %s' % (size, seconds, memory, *per_command, counted or '           -'))
+        answered = lambda report: sum(line.startswith(b'answer ') for line in report) == size
+        played = figures(program, ['play'], text, size, answered)
+    made = ''
+    if size <= MOST_MADE:
+        summed = lambda summary: b'requests %d\n' % size in summary.readlines()
+        with tempfile.TemporaryFile() as nothing:
+            made = figures(program, ['gen', str(size), SEED], nothing, size, summed)
+    print('%8d |%s |%s' % (size, played, made or '%8s %8s %12s' % ('-', '-', '-')), flush=True)
 
 
 def main():
     if len(sys.argv) < 2:
         sys.exit(__doc__)
     sizes = [int(word) for word in sys.argv[2:]] or SIZES
-    print('                            per command:')
-    print('commands  seconds      MiB microseconds          KiB instructions')
+    print('         | play                          | gen')
+    print('commands | seconds     MiB instructions  | seconds     MiB instructions')
     for size in sizes:
         measure(sys.argv[1], size)
 
