@@ -6,7 +6,7 @@ use Rattle.pg_types.specs.declared.pg_type.Field.{Field}
 use Rattle.pg_faults.specs.declared.error.Error.{Error}
 use Rattle.pg_statements.specs.declared.column.Column.{Column}
 use Rattle.pg_query.specs.Dialogue.{Answer}
-use Rattle.pg_lookup.specs.Composing.{or_error, then_do}
+use Rattle.pg_scripts.specs.Sequences.{or_answer, then_do}
 use Rattle.pg_lookup.specs.Cells.{Cells}
 use Rattle.pg_lookup.specs.Lookups.{TypeRow, Wrap, wraps, keeps, fields_by, FieldRow, field_row, made_by, Of}
 use Rattle.pg_lookup.specs.Searches.{Frame, Wrapped, Part, find_above, unwind, searching}
@@ -27,7 +27,7 @@ pub next-field : (fs : List Frame) (oid : ℕ) (row : TypeRow) (columns : List C
     unwind (Part oid row columns name (cells ∷ left) found ∷ fs) (Answer (Ok ty))
     ≡ unwind (Part oid row columns f.name left (found ++ record { name = name; type_ = ty } ∷ []) ∷ fs) (find_above (Part oid row columns f.name left (found ++ record { name = name; type_ = ty } ∷ []) ∷ fs) f.type_oid)
 next-field fs oid row columns name cells left found ty f e =
-    ap (λ (r : Result FieldRow Error). unwind fs (or_error (λ (g : FieldRow). then_do (find_above (Part oid row columns name (cells ∷ left) found ∷ fs) g.type_oid)
+    ap (λ (r : Result FieldRow Error). unwind fs (or_answer (λ (g : FieldRow). then_do (find_above (Part oid row columns name (cells ∷ left) found ∷ fs) g.type_oid)
     (λ ty'. fields_by (find_above (Part oid row columns name (cells ∷ left) found ∷ fs)) columns left ((found ++ record { name = name; type_ = ty } ∷ []) ++ record { name = g.name; type_ = ty' } ∷ []) (λ fields. keeps oid row (Composite fields)))) r)) e
 
 -- the next oid, below all frames

@@ -1,20 +1,10 @@
--- Dialogues put together.
-use Rattle.std.specs.Prelude.{ℕ, List, [], false, Result, Ok, Err}
+-- Questions and requests of a dialogue. How one stands behind another's value says pg_scripts.
+use Rattle.std.specs.Prelude.{ℕ, List, false, Result, Ok, Err}
 use Rattle.pg_spec.specs.Faults.{FrameFault, Encode, Frame}
 use Rattle.pg_faults.specs.declared.error.Error.{Error}
 use Rattle.pg_query.specs.declared.desk_call.DeskCall.{DeskCall}
 use Rattle.pg_query.specs.declared.desk_call.Reply.{Reply}
 use Rattle.pg_query.specs.Dialogue.{Dialogue, Answer, Ask, Call}
-use Rattle.pg_core.specs.Behind.{behind}
-
--- goes on with a value; an error is the whole answer
-abbrev pub or_error : {A T : Type 0} → (A → Dialogue T) → Result A Error → Dialogue T
-or_error next (Ok x) = next x
-or_error next (Err e) = Answer (Err e)
-
--- one dialogue, and another behind its value
-abbrev pub then_do : {A T : Type 0} → Dialogue A → (A → Dialogue T) → Dialogue T
-then_do d next = behind [] d (or_error next)
 
 -- a question to the desk; where the desk refuses it, the error is the answer
 abbrev pub asks_desk : {T : Type 0} → DeskCall → (Reply → Dialogue T) → Dialogue T

@@ -23,7 +23,8 @@ use Rattle.pg_query.specs.declared.desk_call.Reply.TheVariants as reply
 use Rattle.pg_query.specs.Dialogue.{Dialogue, Answer}
 use Rattle.pg_query.specs.Reading.{reads}
 use Rattle.pg_core.specs.Behind.{behind}
-use Rattle.pg_lookup.specs.Composing.{then_do, asks_desk, asks_for, or_encode, or_error}
+use Rattle.pg_scripts.specs.Sequences.{or_answer, then_do}
+use Rattle.pg_lookup.specs.Composing.{asks_desk, asks_for, or_encode}
 use Rattle.pg_lookup.specs.Cells.{Cells, value_at, text_in, i8_in, u32_in, u32_or_null_in}
 use Rattle.pg_lookup.specs.QueryReplies.{first_row, all_rows}
 use Rattle.pg_lookup.specs.Prepares.{prepares, known, known_types}
@@ -212,7 +213,7 @@ field_row columns cells =
 -- The fields, one after another: each row is read, and its type found. Then this is done with them.
 abbrev pub fields_by : {T : Type 0} → (ℕ → Dialogue PgType) → List Column → List Cells → (found : List Field) → (List Field → Dialogue T) → Dialogue T
 fields_by find columns [] found done = done found
-fields_by find columns (cells ∷ rows) found done = or_error (λ f.
+fields_by find columns (cells ∷ rows) found done = or_answer (λ f.
     then_do (find f.type_oid) (λ ty. fields_by find columns rows (found ++ record { name = f.name; type_ = ty } ∷ []) done)) (field_row columns cells)
 
 -- ---- types

@@ -3,7 +3,7 @@
 use Rattle.std.specs.Prelude.{ℕ, List, [], ◌∷◌, ◌++◌, length, take, drop, true, Option, Some, None, Result, Ok, Err, decimal}
 use Rattle.std.specs.Str.{byte}
 use Rattle.pg_spec.specs.Bodies.{Field}
-use Rattle.pg_spec.specs.Faults.{◌>>=◌, FrameFault, Encode, Counter, Closed, UnexpectedMessage}
+use Rattle.pg_spec.specs.Faults.{◌>>=◌, FrameFault, Closed, UnexpectedMessage}
 use Rattle.pg_spec.specs.Frames.{parse_frame, describe_frame, sync_frame}
 use Rattle.pg_types.specs.declared.pg_type.PgType.{PgType}
 use Rattle.pg_types.specs.BuiltIns.{built_in_type}
@@ -14,7 +14,9 @@ use Rattle.pg_query.specs.declared.desk_call.Reply.{Reply}
 use Rattle.pg_query.specs.declared.desk_call.Reply.TheVariants as reply
 use Rattle.pg_query.specs.Dialogue.{Dialogue, Answer}
 use Rattle.pg_query.specs.Reading.{reads}
-use Rattle.pg_lookup.specs.Composing.{then_do, asks_desk, asks_for, or_encode}
+use Rattle.pg_scripts.specs.Numbers.{draws}
+use Rattle.pg_scripts.specs.Sequences.{then_do}
+use Rattle.pg_lookup.specs.Composing.{asks_desk, asks_for, or_encode}
 use Rattle.pg_lookup.specs.Descriptions.{Description, description, oids_in}
 
 -- the name of a statement: an s and its number
@@ -27,16 +29,6 @@ prepare_request n text oids =
     parse_frame (statement_name n) text oids >>= λ parse.
     describe_frame (byte "S") (statement_name n) >>= λ describe.
     Ok (parse ++ describe ++ sync_frame)
-
--- the number of the next statement; a counter at its last value is the answer
-abbrev pub number_told : Reply → Dialogue ℕ
-number_told (reply.Number n) = Answer (Ok n)
-number_told reply.Spent = Answer (Err (Encode Counter))
-number_told other = Answer (Err Closed)
-
--- a number is drawn
-abbrev pub draws : Dialogue ℕ
-draws = asks_desk desk_call.NextStatement number_told
 
 -- a statement that the server described, without its types
 pub record NewStatement : Type 0 where

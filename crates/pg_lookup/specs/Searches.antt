@@ -5,7 +5,7 @@ use Rattle.pg_types.specs.declared.pg_type.Kind.{Composite}
 use Rattle.pg_types.specs.declared.pg_type.Field.{Field}
 use Rattle.pg_statements.specs.declared.column.Column.{Column}
 use Rattle.pg_query.specs.Dialogue.{Dialogue}
-use Rattle.pg_lookup.specs.Composing.{then_do}
+use Rattle.pg_scripts.specs.Sequences.{then_do}
 use Rattle.pg_lookup.specs.Cells.{Cells}
 use Rattle.pg_lookup.specs.Lookups.{TypeRow, Wrap, wraps, keeps, find, fields_by, find_each}
 
