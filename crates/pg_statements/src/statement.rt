@@ -5,6 +5,7 @@ ghost use Rattle.std.specs.Prelude.{◌≡◌, IfOk};
 use crate::column::Column;
 use pg_types::{List, OutOfMemory, Text, Type};
 use std::alloc::Global;
+use std::fmt;
 use std::marker::Model;
 use std::sync::Arc;
 
@@ -98,5 +99,15 @@ impl Statement {
             Ok(described) => Ok(Statement { described }),
             Err(_) => Err(OutOfMemory),
         }
+    }
+}
+
+impl fmt::Debug for Statement {
+    fn fmt<W: fmt::Write>(&self, f: &mut fmt::Formatter<W>) -> fmt::Result {
+        f.debug_struct("Statement")
+            .field("name", &self.name())
+            .field("params", &self.params())
+            .field("columns", &self.columns())
+            .finish()
     }
 }
