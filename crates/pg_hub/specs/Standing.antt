@@ -33,12 +33,12 @@ pub record Standing : Type 0 where
 abbrev pub standing : Inside → Standing
 standing h = record {
   book = h.book;
-  mail = h.mail.items;
+  mail = h.replies.boxes;
   outgoing = h.outgoing.items;
   unsent = h.unsent;
   whole = h.whole;
   started = h.started;
-  finished = h.finished;
+  finished = h.replies.finished;
   statements = h.statements;
   portals = h.portals;
   catalog = h.catalog;

@@ -1,13 +1,14 @@
 //! The plain hub. `Fits` says which states of a list of events it stands for.
 
-ghost use Rattle.std.specs.Prelude.{◌≡◌, ◌<◌, ◌≤◌, ◌+◌, ◌∷◌, [], length, true, false, IfOk, IfSome, MatchBool};
+ghost use Rattle.std.specs.Prelude.{◌≡◌, ◌<◌, ◌≤◌, ◌+◌, ◌∷◌, [], length, true, false, IfOk, IfSome, MatchBool, MatchOption};
+ghost use Rattle.std.specs.Vec.{vec_capacity, vec_len};
 ghost use Rattle.pg_desk.specs.History.{extended};
 
 use crate::catalog::Catalog;
-use crate::mailbox::{Mailbox, hang_up_at, is_hung_up_at, put_at, take_at};
 use crate::outgoing::{
     Outgoing, close_at, is_copying_at, is_full_at, is_whole_at, pop_at, push_part_at, put_part_at,
 };
+use crate::replies::Replies;
 use bytes::Bytes;
 use pg_desk::{
     Booking, Deliver, Desk, DeskFault, Engine, Lookup, Out, Put, Stamp, Statement, Take,
@@ -22,8 +23,8 @@ use std::mem;
 #[derive(Drop)]
 pub struct Hub {
     book: List<Booking>,
-    /// A mailbox for each booking.
-    mail: Vec<Mailbox>,
+    /// What came for each booking.
+    replies: Replies,
     /// What of each booking hasn't gone out.
     outgoing: Vec<Outgoing>,
     /// The bytes that wait in it, and one more for each part.
@@ -32,7 +33,6 @@ pub struct Hub {
     whole: u64,
     /// The number of bookings whose first part is out.
     started: u64,
-    finished: u64,
     statements: u32,
     portals: u32,
     catalog: Catalog,
@@ -67,12 +67,11 @@ impl Hub {
     {
         Hub {
             book: List::empty(alloc),
-            mail: Vec::new(alloc),
+            replies: Replies::new(alloc),
             outgoing: Vec::new(alloc),
             unsent: 0,
             whole: 0,
             started: 0,
-            finished: 0,
             statements,
             portals,
             catalog: Catalog::new(alloc),
@@ -95,12 +94,11 @@ impl Hub {
     {
         let Hub {
             book,
-            mail: _,
+            replies: _,
             outgoing: _,
             unsent: _,
             whole: _,
             started: _,
-            finished: _,
             statements: _,
             portals: _,
             catalog: _,
@@ -156,6 +154,18 @@ fn booking_of(alloc: Global, stamp: Stamp, part: &Bytes) -> Result<Booking, OutO
     Ok(Booking { stamp, parts })
 }
 
+/// The bookings, taken out, with room for one more. Where memory lacks, they stay.
+fn taken_with_room(alloc: Global, book: &mut List<Booking>) -> Option<Vec<Booking>>
+    ensures { MatchOption result (book.new ≡ book.old) (λ bookings. (bookings.items ≡ book.old) × (vec_len bookings < vec_capacity bookings)) }
+{
+    let mut bookings = mem::replace(book, List::empty(alloc)).into_vec();
+    if bookings.reserve(1).is_err() {
+        *book = List::new(bookings);
+        return None;
+    }
+    Some(bookings)
+}
+
 /// What waits with one part more, where it can still be counted.
 fn with_part(unsent: u64, part: &Bytes) -> Option<u64>
     ensures { IfSome result (λ n. n ≡ unsent + (length part.now + 1)) }
@@ -197,7 +207,7 @@ impl Desk for Hub {
         if self.closed || self.failed {
             return Err(DeskFault::Closed);
         }
-        let id = self.mail.len() as u64;
+        let id = self.replies.len() as u64;
         let Some(unsent) = with_part(self.unsent, &part) else {
             return Err(DeskFault::OutOfMemory);
         };
@@ -205,16 +215,18 @@ impl Desk for Hub {
             return Err(DeskFault::OutOfMemory);
         };
         // What wants memory comes first: a refused booking changes nothing.
-        if self.mail.reserve(1).is_err() {
-            return Err(DeskFault::OutOfMemory);
-        }
         if self.outgoing.reserve(1).is_err() {
             return Err(DeskFault::OutOfMemory);
         }
-        if self.book.push(booking).is_err() {
+        let Some(mut bookings) = taken_with_room(alloc, &mut self.book) else {
+            return Err(DeskFault::OutOfMemory);
+        };
+        if !self.replies.push() {
+            self.book = List::new(bookings);
             return Err(DeskFault::OutOfMemory);
         }
-        self.mail.push_reserved(Mailbox::Empty);
+        bookings.push_reserved(booking);
+        self.book = List::new(bookings);
         self.outgoing.push_reserved(Outgoing::new(part, copying));
         self.unsent = unsent;
         self.touched = true;
@@ -232,7 +244,7 @@ impl Desk for Hub {
         if !is_copying_at(&self.outgoing, place) {
             return Put::Gone(part);
         }
-        if is_hung_up_at(&self.mail, place) {
+        if self.replies.is_hung_up(place) {
             return Put::Gone(part);
         }
         if is_full_at(&self.outgoing, place) {
@@ -261,7 +273,7 @@ impl Desk for Hub {
         if !is_copying_at(&self.outgoing, place) {
             return Put::Gone(part);
         }
-        if is_hung_up_at(&self.mail, place) {
+        if self.replies.is_hung_up(place) {
             return Put::Gone(part);
         }
         let Some(unsent) = with_part(self.unsent, &part) else {
@@ -278,20 +290,20 @@ impl Desk for Hub {
 
     fn take(&mut self, id: u64) -> Result<Take, DeskFault> {
         let place = id as usize;
-        if place >= self.mail.len() {
+        if place >= self.replies.len() {
             return Ok(Take::Gone);
         }
-        if is_hung_up_at(&self.mail, place) {
+        if self.replies.is_hung_up(place) {
             return Ok(Take::Gone);
         }
-        if let Some(batch) = take_at(&mut self.mail, place) {
+        if let Some(batch) = self.replies.take(place) {
             self.touched = true;
             return Ok(Take::Batch(batch));
         }
         if self.failed {
             return Ok(Take::Gone);
         }
-        if id < self.finished {
+        if id < self.replies.finished() {
             return Ok(Take::Over);
         }
         Ok(Take::Empty)
@@ -299,13 +311,13 @@ impl Desk for Hub {
 
     fn hang_up(&mut self, id: u64) -> Result<(), DeskFault> {
         let place = id as usize;
-        if place >= self.mail.len() {
+        if place >= self.replies.len() {
             return Ok(());
         }
-        if is_hung_up_at(&self.mail, place) {
+        if self.replies.is_hung_up(place) {
             return Ok(());
         }
-        hang_up_at(&mut self.mail, place);
+        self.replies.hang_up(place);
         self.touched = true;
         Ok(())
     }
@@ -403,7 +415,7 @@ impl Engine for Hub {
         }
         let place = self.whole as usize;
         if place >= self.outgoing.len() {
-            if self.finished < self.started {
+            if self.replies.finished() < self.started {
                 return Ok(Out::Nothing);
             }
             if self.closed {
@@ -426,17 +438,13 @@ impl Engine for Hub {
 
     fn deliver(&mut self, batch: BackendMessages, complete: bool) -> Deliver {
         batch.batch_law();
-        if self.finished >= self.started {
+        if self.replies.finished() >= self.started {
             return Deliver::NoRequest(batch);
         }
-        let place = self.finished as usize;
-        match put_at(&mut self.mail, place, batch) {
+        match self.replies.put(batch, complete) {
             Some(back) => Deliver::Full(back),
             None => {
                 self.touched = true;
-                if complete {
-                    self.finished += 1;
-                }
                 Deliver::Taken
             }
         }

@@ -7,6 +7,7 @@ mod hub;
 mod laws;
 mod mailbox;
 mod outgoing;
+mod replies;
 mod responses;
 
 pub use hub::Hub;

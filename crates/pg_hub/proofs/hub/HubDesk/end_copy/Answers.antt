@@ -37,7 +37,7 @@ returns-then-not-shows-clause-event c =
           let g : Fits s (standing c.self.inside) = subst (λ (h : Standing). Fits s h) (sym c.self.view_is) f in
           let low : c.args.id < length c.self.inside.outgoing.items = grind (arith, common_steps) in
           let copies : (rest_at c.self.inside.outgoing.items c.args.id).copying ≡ true = grind (arith, common_steps) in
-          let here : is_gone (at c.self.inside.mail.items c.args.id) ≡ false = grind (arith, common_steps) in
+          let here : is_gone (at c.self.inside.replies.boxes c.args.id) ≡ false = grind (arith, common_steps) in
           ((refl, (sym g.failed ∙ c.if-self.false, running s (standing c.self.inside) c.args.id g low copies here), tt), f);
       touched = λ s f. refl;
     })
@@ -48,7 +48,7 @@ returns-in_default-clause-event c = record {
       let g : Fits s (standing c.self.inside) = subst (λ (h : Standing). Fits s h) (sym c.self.view_is) f in
       let low : c.args.id < length c.self.inside.outgoing.items = grind (arith, common_steps) in
       let copies : (rest_at c.self.inside.outgoing.items c.args.id).copying ≡ true = grind (arith, common_steps) in
-      let here : is_gone (at c.self.inside.mail.items c.args.id) ≡ false = grind (arith, common_steps) in
+      let here : is_gone (at c.self.inside.replies.boxes c.args.id) ≡ false = grind (arith, common_steps) in
       ((refl, (sym g.failed ∙ c.if-self.false, running s (standing c.self.inside) c.args.id g low copies here), tt), f);
   touched = λ s f. refl;
 }
@@ -59,7 +59,7 @@ returns-clause-event c = record {
       let g : Fits s (standing c.self.inside) = subst (λ (h : Standing). Fits s h) (sym c.self.view_is) f in
       let low : c.args.id < length c.self.inside.outgoing.items = grind (arith, common_steps) in
       let copies : (rest_at c.self.inside.outgoing.items c.args.id).copying ≡ true = grind (arith, common_steps) in
-      let here : is_gone (at c.self.inside.mail.items c.args.id) ≡ false = grind (arith, common_steps) in
+      let here : is_gone (at c.self.inside.replies.boxes c.args.id) ≡ false = grind (arith, common_steps) in
       let runs = running s (standing c.self.inside) c.args.id g low copies here in
       let shown : standing c.self-2.inside ≡ record (standing c.self.inside) { book = extended c.args.id c.args.part (standing c.self.inside).book } =
       c.self-2.view_is ∙ c.if-not-shows.ensures ∙ ap (λ (h : Standing). record h { book = extended c.args.id c.args.part h.book }) (sym c.self.view_is) in

@@ -36,8 +36,8 @@ returns-then-is_full_at-clause-event c = record {
       let g : Fits s (standing c.self.inside) = subst (λ (h : Standing). Fits s h) (sym c.self.view_is) f in
       let low : c.args.id < length c.self.inside.outgoing.items = grind (arith, common_steps) in
       let copies : (rest_at c.self.inside.outgoing.items c.args.id).copying ≡ true = grind (arith, common_steps) in
-      let here : is_gone (at c.self.inside.mail.items c.args.id) ≡ false = grind (arith, common_steps) in
-      let full : 2 ≤ length (rest_at c.self.inside.outgoing.items c.args.id).parts = subst (λ (l : List Rest). 2 ≤ length (rest_at l c.args.id).parts) c.deref-3.ensures.value c.if-is_full_at.ensures in
+      let here : is_gone (at c.self.inside.replies.boxes c.args.id) ≡ false = grind (arith, common_steps) in
+      let full : 2 ≤ length (rest_at c.self.inside.outgoing.items c.args.id).parts = subst (λ (l : List Rest). 2 ≤ length (rest_at l c.args.id).parts) c.deref-2.ensures.value c.if-is_full_at.ensures in
       (((refl, sym g.failed ∙ c.if-self.false, running s (standing c.self.inside) c.args.id g low copies here, subst (λ (n : ℕ). 2 ≤ n) (waiting-is s (standing c.self.inside) c.args.id g) full), tt, tt), f);
   touched = λ s f. refl;
 }
@@ -49,8 +49,8 @@ returns-then-not-shows-clause-event c =
           let g : Fits s (standing c.self.inside) = subst (λ (h : Standing). Fits s h) (sym c.self.view_is) f in
           let low : c.args.id < length c.self.inside.outgoing.items = grind (arith, common_steps) in
           let copies : (rest_at c.self.inside.outgoing.items c.args.id).copying ≡ true = grind (arith, common_steps) in
-          let here : is_gone (at c.self.inside.mail.items c.args.id) ≡ false = grind (arith, common_steps) in
-          let room : length (rest_at c.self.inside.outgoing.items c.args.id).parts < 2 = subst (λ (l : List Rest). length (rest_at l c.args.id).parts < 2) c.deref-3.ensures.value c.if-is_full_at.ensures in
+          let here : is_gone (at c.self.inside.replies.boxes c.args.id) ≡ false = grind (arith, common_steps) in
+          let room : length (rest_at c.self.inside.outgoing.items c.args.id).parts < 2 = subst (λ (l : List Rest). length (rest_at l c.args.id).parts < 2) c.deref-2.ensures.value c.if-is_full_at.ensures in
           ((refl, (sym g.failed ∙ c.if-self.false, running s (standing c.self.inside) c.args.id g low copies here, subst (λ (n : ℕ). n < 2) (waiting-is s (standing c.self.inside) c.args.id g) room), tt), f);
       touched = λ s f. refl;
     })
@@ -61,8 +61,8 @@ returns-in_default-clause-event c = record {
       let g : Fits s (standing c.self.inside) = subst (λ (h : Standing). Fits s h) (sym c.self.view_is) f in
       let low : c.args.id < length c.self.inside.outgoing.items = grind (arith, common_steps) in
       let copies : (rest_at c.self.inside.outgoing.items c.args.id).copying ≡ true = grind (arith, common_steps) in
-      let here : is_gone (at c.self.inside.mail.items c.args.id) ≡ false = grind (arith, common_steps) in
-      let room : length (rest_at c.self.inside.outgoing.items c.args.id).parts < 2 = subst (λ (l : List Rest). length (rest_at l c.args.id).parts < 2) c.deref-3.ensures.value c.if-is_full_at.ensures in
+      let here : is_gone (at c.self.inside.replies.boxes c.args.id) ≡ false = grind (arith, common_steps) in
+      let room : length (rest_at c.self.inside.outgoing.items c.args.id).parts < 2 = subst (λ (l : List Rest). length (rest_at l c.args.id).parts < 2) c.deref-2.ensures.value c.if-is_full_at.ensures in
       ((refl, (sym g.failed ∙ c.if-self.false, running s (standing c.self.inside) c.args.id g low copies here, subst (λ (n : ℕ). n < 2) (waiting-is s (standing c.self.inside) c.args.id g) room), tt), f);
   touched = λ s f. refl;
 }
@@ -73,8 +73,8 @@ returns-clause-event c = record {
       let g : Fits s (standing c.self.inside) = subst (λ (h : Standing). Fits s h) (sym c.self.view_is) f in
       let low : c.args.id < length c.self.inside.outgoing.items = grind (arith, common_steps) in
       let copies : (rest_at c.self.inside.outgoing.items c.args.id).copying ≡ true = grind (arith, common_steps) in
-      let here : is_gone (at c.self.inside.mail.items c.args.id) ≡ false = grind (arith, common_steps) in
-      let room : length (rest_at c.self.inside.outgoing.items c.args.id).parts < 2 = subst (λ (l : List Rest). length (rest_at l c.args.id).parts < 2) c.deref-3.ensures.value c.if-is_full_at.ensures in
+      let here : is_gone (at c.self.inside.replies.boxes c.args.id) ≡ false = grind (arith, common_steps) in
+      let room : length (rest_at c.self.inside.outgoing.items c.args.id).parts < 2 = subst (λ (l : List Rest). length (rest_at l c.args.id).parts < 2) c.deref-2.ensures.value c.if-is_full_at.ensures in
       let runs = running s (standing c.self.inside) c.args.id g low copies here in
       let shown : standing c.self-2.inside ≡ record (standing c.self.inside) { book = extended c.args.id c.args.part (standing c.self.inside).book } =
       c.self-2.view_is ∙ c.if-not-shows.ensures ∙ ap (λ (h : Standing). record h { book = extended c.args.id c.args.part h.book }) (sym c.self.view_is) in

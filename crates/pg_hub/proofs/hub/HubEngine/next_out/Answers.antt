@@ -13,21 +13,21 @@ use Rattle.pg_hub.specs.Fits.{Fits}
 use Rattle.pg_hub.proofs.Simulation.{parts-set, stands-went, weight-less, out-last, out-first, last-open, last-closed, last-waits, went-fits, same-outgoing}
 use Rattle.pg_hub.proofs.hub.HubEngine.next_out.Goals as goal
 
+pub returns-then-finished-self-clause-event : goal.returns-then-finished-self-clause-event
+returns-then-finished-self-clause-event c = record {
+  stands = λ s f.
+      let g : Fits s (standing c.self.inside) = subst (λ (h : Standing). Fits s h) (sym c.self.view_is) f in
+      let all : length c.self.inside.outgoing.items ≤ c.self.inside.whole = grind (arith, common_steps) in
+      (((sym g.failed ∙ c.if-self.false, sym (out-last s (standing c.self.inside) g all ∙ last-open s (standing c.self.inside) g (grind (arith, common_steps)))), tt, tt), f);
+  touched = λ s f. refl;
+}
+
 pub returns-then-self-2-clause-event : goal.returns-then-self-2-clause-event
 returns-then-self-2-clause-event c = record {
   stands = λ s f.
       let g : Fits s (standing c.self.inside) = subst (λ (h : Standing). Fits s h) (sym c.self.view_is) f in
       let all : length c.self.inside.outgoing.items ≤ c.self.inside.whole = grind (arith, common_steps) in
-      (((sym g.failed ∙ c.if-self.false, sym (out-last s (standing c.self.inside) g all ∙ last-open s (standing c.self.inside) g c.if-self-2.true)), tt, tt), f);
-  touched = λ s f. refl;
-}
-
-pub returns-then-self-3-clause-event : goal.returns-then-self-3-clause-event
-returns-then-self-3-clause-event c = record {
-  stands = λ s f.
-      let g : Fits s (standing c.self.inside) = subst (λ (h : Standing). Fits s h) (sym c.self.view_is) f in
-      let all : length c.self.inside.outgoing.items ≤ c.self.inside.whole = grind (arith, common_steps) in
-      (((sym g.failed ∙ c.if-self.false, sym (out-last s (standing c.self.inside) g all ∙ last-closed s (standing c.self.inside) g c.if-self-2.false c.if-self-3.true)), tt, tt), f);
+      (((sym g.failed ∙ c.if-self.false, sym (out-last s (standing c.self.inside) g all ∙ last-closed s (standing c.self.inside) g (grind (arith, common_steps)) c.if-self-2.true)), tt, tt), f);
   touched = λ s f. refl;
 }
 
@@ -36,7 +36,7 @@ returns-then-place-len-clause-event c = record {
   stands = λ s f.
       let g : Fits s (standing c.self.inside) = subst (λ (h : Standing). Fits s h) (sym c.self.view_is) f in
       let all : length c.self.inside.outgoing.items ≤ c.self.inside.whole = grind (arith, common_steps) in
-      (((sym g.failed ∙ c.if-self.false, sym (out-last s (standing c.self.inside) g all ∙ last-waits s (standing c.self.inside) g c.if-self-2.false c.if-self-3.false)), tt, tt), f);
+      (((sym g.failed ∙ c.if-self.false, sym (out-last s (standing c.self.inside) g all ∙ last-waits s (standing c.self.inside) g (grind (arith, common_steps)) c.if-self-2.false)), tt, tt), f);
   touched = λ s f. refl;
 }
 
