@@ -20,7 +20,7 @@ module _ {A T : Type 0} (extra : List Cleanup) (f : Result A Error → Dialogue 
   nothing-behind (Finish p d) h = absurd h
   nothing-behind (Close p d) h = absurd h
   nothing-behind (HangUp d) h = absurd h
-  nothing-behind (Call q refused next) h = (λ e. nothing-behind (refused e) (h.0 e), λ r. nothing-behind (next r) (h.1 r))
+  nothing-behind (Call q refused next) h = (λ e. nothing-behind (refused e) (h.0 e), λ r fit. nothing-behind (next r) (h.1 r fit))
   nothing-behind (Hear next) h = absurd h
 
   no-behind : (d : Dialogue A) → ReadsNo d → ReadsNo (behind extra d f)
@@ -33,7 +33,7 @@ module _ {A T : Type 0} (extra : List Cleanup) (f : Result A Error → Dialogue 
   no-behind (Finish p d) h = absurd h
   no-behind (Close p d) h = absurd h
   no-behind (HangUp d) h = no-behind d h
-  no-behind (Call q refused next) h = (λ e. no-behind (refused e) (h.0 e), λ r. no-behind (next r) (h.1 r))
+  no-behind (Call q refused next) h = (λ e. no-behind (refused e) (h.0 e), λ r fit. no-behind (next r) (h.1 r fit))
   no-behind (Hear next) h = tt
 
   tidy-behind : (d : Dialogue A) → IsTidy d → IsTidy (behind extra d f)
@@ -46,7 +46,7 @@ module _ {A T : Type 0} (extra : List Cleanup) (f : Result A Error → Dialogue 
   tidy-behind (Finish p d) h = absurd h
   tidy-behind (Close p d) h = absurd h
   tidy-behind (HangUp d) h = (nothing-behind d h.0, tidy-behind d h.1)
-  tidy-behind (Call q refused next) h = (λ e. tidy-behind (refused e) (h.0 e), λ r. tidy-behind (next r) (h.1 r))
+  tidy-behind (Call q refused next) h = (λ e. tidy-behind (refused e) (h.0 e), λ r fit. tidy-behind (next r) (h.1 r fit))
   tidy-behind (Hear next) h = tt
 
   sane-behind : (d : Dialogue A) → IsSane d → IsSane (behind extra d f)
@@ -59,7 +59,7 @@ module _ {A T : Type 0} (extra : List Cleanup) (f : Result A Error → Dialogue 
   sane-behind (Finish p d) h = absurd h
   sane-behind (Close p d) h = absurd h
   sane-behind (HangUp d) h = (no-behind d h.0, sane-behind d h.1)
-  sane-behind (Call q refused next) h = (λ e. sane-behind (refused e) (h.0 e), λ r. sane-behind (next r) (h.1 r))
+  sane-behind (Call q refused next) h = (λ e. sane-behind (refused e) (h.0 e), λ r fit. sane-behind (next r) (h.1 r fit))
   sane-behind (Hear next) h = tt
 
   time-behind : (d : Dialogue A) → IsInTime d → IsInTime (behind extra d f)
@@ -72,7 +72,7 @@ module _ {A T : Type 0} (extra : List Cleanup) (f : Result A Error → Dialogue 
   time-behind (Finish p d) h = absurd h
   time-behind (Close p d) h = absurd h
   time-behind (HangUp d) h = time-behind d h
-  time-behind (Call q refused next) h = (λ e. time-behind (refused e) (h.0 e), λ r. time-behind (next r) (h.1 r))
+  time-behind (Call q refused next) h = (λ e. time-behind (refused e) (h.0 e), λ r fit. time-behind (next r) (h.1 r fit))
   time-behind (Hear next) h = tt
 
   -- where memory lacked the second isn't begun
@@ -99,7 +99,7 @@ module _ {A T : Type 0} (extra : List Cleanup) (f : Result A Error → Dialogue 
   faithful-behind g (Finish p d) h = absurd h
   faithful-behind g (Close p d) h = absurd h
   faithful-behind g (HangUp d) h = faithful-behind g d h
-  faithful-behind g (Call q refused next) h = (lacks-behind g (refused OutOfMemory) h.0, λ r. faithful-behind g (next r) (h.1 r))
+  faithful-behind g (Call q refused next) h = (lacks-behind g (refused OutOfMemory) h.0, λ r fit. faithful-behind g (next r) (h.1 r fit))
   faithful-behind g (Hear next) h = tt
 
   pub command-behind : ((r : Result A Error) → r ≡ Err OutOfMemory → LacksMemory (f r)) → (d : Dialogue A) → IsCommand d → IsCommand (behind extra d f)

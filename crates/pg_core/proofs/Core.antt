@@ -1,5 +1,5 @@
 -- A walk along a dialogue against the function that says where it comes to.
-use Rattle.std.proofs.Common.{◌≡◌, ℕ, ◌+◌, ◌≤◌, ◌==◌, List, [], ◌∷◌, ◌++◌, length, Bool, true, take, drop, Option, Some, None, Result, Ok, Err, refl, sym, ap, subst, ◌∙◌, arith, if◌then◌else◌, append_assoc}
+use Rattle.std.proofs.Common.{◌≡◌, ℕ, ◌+◌, ◌≤◌, ◌==◌, inl, inr, List, [], ◌∷◌, ◌++◌, length, Bool, true, take, drop, Option, Some, None, Result, Ok, Err, refl, sym, ap, subst, ◌∙◌, arith, if◌then◌else◌, append_assoc}
 use Rattle.std.proofs.lemmas.Bool.Decides.{nat_tests}
 use Rattle.std.proofs.lemmas.List.{append-nil, drop_at, length-take-le, take-append-drop, take-append-le, length-append}
 use Rattle.pg_spec.specs.RawMessages.{RawMessage}
@@ -13,7 +13,7 @@ use Rattle.pg_desk.specs.declared.event.Event.TheVariants as call
 use Rattle.pg_faults.specs.declared.error.Error.{Error}
 use Rattle.pg_faults.specs.declared.error.Error.TheVariants.{Closed}
 use Rattle.pg_query.specs.Faults.{of_fault}
-use Rattle.pg_query.specs.Dialogue.{Dialogue, Answer, Ask, Send, Leave, Read, Put, Finish, Close, HangUp, Call, Hear, feed, Told, question_of}
+use Rattle.pg_query.specs.Dialogue.{Dialogue, Answer, Ask, Send, Leave, Read, Put, Finish, Close, HangUp, Call, Hear, feed, fits, Told, question_of}
 use Rattle.pg_query.specs.Lives.{Deed, Leads}
 use Rattle.pg_query.specs.Scripts.{IsRead}
 use Rattle.pg_query.specs.declared.desk_call.Cleanup.{Cleanup}
@@ -24,10 +24,13 @@ use Rattle.pg_query.specs.declared.desk_call.Reply.TheVariants as reply
 use Rattle.pg_course.specs.Courses.{Asked, Request}
 use Rattle.pg_course.specs.Dialogues.{decided_after}
 use Rattle.pg_query.specs.Requests.{IsBehind, Refuses}
+use Rattle.pg_query.proofs.LeavingLaws.{told-fits}
 use Rattle.pg_query.proofs.RequestLaws.{moved, stays-answered}
 use Rattle.pg_core.specs.Deeds.{booked_by, bookings_in, told_as, told_by, answers_in, granted, taken_from, Serves, EndsRefused}
 use Rattle.pg_core.specs.Runs.{Ran, of_request, stays, ask_first, run, ReadsNothing, IsTidy, At, Holds, Ends, Answered, Waits, Stands, Gave, Reads, Refused, Comes}
-use Rattle.pg_core.proofs.Fed.{feed-answer, feed-ask, feed-send, feed-leave, feed-hang-up, feed-call, feed-hear, feed-joined, fed, feed-nothing, read_so, still-decides, front-decides}
+use Rattle.pg_core.proofs.Fed.{feed-answer, feed-ask, feed-send, feed-leave, feed-hang-up, feed-call, feed-hear, feed-joined, fed, read_so, still-decides, front-decides}
+use Rattle.pg_core.specs.Trails.{IsSettled}
+use Rattle.pg_core.proofs.Unread.{unread}
 
 -- ---- behind a refusal, and where nothing is booked or asked any more
 
@@ -330,14 +333,26 @@ send-step came got at n left part refused d denied shown tidy id there here hold
 
 -- ---- hanging up
 
+-- where a walk is settled, it comes to the same as one that leads there too
+comes-there : {T : Type 0} (came got : ℕ → List RawMessage) (s : Ran T) (ds : List Deed) (q there : Dialogue T) (end : ℕ) → (IsSettled q → q ≡ there) → Comes came got s ds there end → Comes came got s ds q end
+comes-there {T} came got s ds q there end same h = record { requests = h.requests; asked = h.asked; stands = by }
+  where
+    back : q ≡ there → Ends came got ds there end → Stands came s ds q end
+    back e ends = subst (λ (x : Dialogue T). Stands came s ds x end) (sym e) (h.stands ends)
+
+    by : Ends came got ds q end → Stands came s ds q end
+    by (Answered r is) = let e = same (inr (r, is)) in back e (Answered r (sym e ∙ is))
+    by (Waits reads all) = let e = same (inl reads) in back e (Waits (subst IsRead e reads) all)
+
 hang-step : {T : Type 0} (came got : ℕ → List RawMessage) (at : Option ℕ) (n : ℕ) (left : List RawMessage) (d : Dialogue T) → Shown came d → IsTidy d → ReadsNothing d →
     (id : ℕ) → At at id d → Holds came got at n left → (stamp : Stamp) (e : Event) (ds : List Deed) (q : Dialogue T) (end : ℕ) → Leads (HangUp d) id (record { stamp = stamp; event = e } ∷ ds) q end →
     Serves came got (record { stamp = stamp; event = e } ∷ ds) →
     Comes came got (run came at n d (bookings_in (record { stamp = stamp; event = e } ∷ ds)) (answers_in (record { stamp = stamp; event = e } ∷ ds))) (record { stamp = stamp; event = e } ∷ ds) q end
-hang-step {T} came got at n left d shown tidy nothing id here holds stamp (call.HangUp which (Ok x)) ds q end (mid, k, s, l) (u, serves) =
+hang-step {T} came got at n left d shown tidy nothing id here holds stamp (call.HangUp which (Ok x)) ds q end (mid, k, s, l) (served, serves) =
+    let u = unread left d id ds q end nothing (moved d mid id k ds q end s.1 s.2 l) in
     quietly came got at n d (record { stamp = stamp; event = call.HangUp which (Ok x) }) ds q end refl refl
-    (shown (λ j. got j ++ []) at n left id ds q end tidy here (holds-still came got (call.HangUp which (Ok x)) at n left (λ j. refl) holds)
-    (moved (feed left d) mid id k ds q end (s.1 ∙ sym (feed-nothing left d nothing)) s.2 l) serves)
+    (comes-there came (λ j. got j ++ []) (run came at n d (bookings_in ds) (answers_in ds)) ds q u.there end u.same
+    (shown (λ j. got j ++ []) at n left id ds u.there end tidy here (holds-still came got (call.HangUp which (Ok x)) at n left (λ j. refl) holds) u.leads serves))
 hang-step came got at n left d shown tidy nothing id here holds stamp (call.HangUp which (Err f)) ds q end (mid, k, s, l) serves =
     refused-here came got at n d (record { stamp = stamp; event = call.HangUp which (Err f) }) ds q id end (Err (of_fault f)) refl refl refl refl (moved _ mid id k ds q end s.1 s.2 l)
 hang-step came got at n left d shown tidy nothing id here holds stamp e ds q end l serves = absurd l.2
@@ -345,13 +360,14 @@ hang-step came got at n left d shown tidy nothing id here holds stamp e ds q end
 -- ---- a question
 
 call-step : {T : Type 0} (came got : ℕ → List RawMessage) (at : Option ℕ) (n : ℕ) (left : List RawMessage) (ask : DeskCall) (refused : Error → Dialogue T) (next : Reply → Dialogue T) →
-    ((e : Error) → Shown came (refused e)) → ((r : Reply) → Shown came (next r)) → ((e : Error) → IsTidy (refused e)) × ((r : Reply) → IsTidy (next r)) →
-    (id : ℕ) → ((e : Error) → At at id (refused e)) → ((r : Reply) → At at id (next r)) → Holds came got at n left → (a : Deed) (ds : List Deed) (q : Dialogue T) (end : ℕ) →
+    ((e : Error) → Shown came (refused e)) → ((r : Reply) → Shown came (next r)) → ((e : Error) → IsTidy (refused e)) × ((r : Reply) → fits ask r ≡ true → IsTidy (next r)) →
+    (id : ℕ) → ((e : Error) → At at id (refused e)) → ((r : Reply) → fits ask r ≡ true → At at id (next r)) → Holds came got at n left → (a : Deed) (ds : List Deed) (q : Dialogue T) (end : ℕ) →
     Leads (Call ask (λ e. feed left (refused e)) (λ r. feed left (next r))) id (a ∷ ds) q end → Serves came got (a ∷ ds) →
     Comes came got (run came at n (Call ask refused next) (bookings_in (a ∷ ds)) (answers_in (a ∷ ds))) (a ∷ ds) q end
 call-step {T} came got at n left ask refused next denied shown tidy id there here holds a ds q end (mid, k, (Ok r, told, is, same), l) (u, serves) =
     let h = hears ask a.stamp a.event r told in
-    let w = shown r (λ j. got j ++ taken_from j a.event) at n left id ds q end (tidy.1 r) (here r) (holds-still came got a.event at n left h.takes holds) (moved (feed left (next r)) mid id k ds q end is same l) serves in
+    let fit = told-fits ask a.event r told in
+    let w = shown r (λ j. got j ++ taken_from j a.event) at n left id ds q end (tidy.1 r fit) (here r fit) (holds-still came got a.event at n left h.takes holds) (moved (feed left (next r)) mid id k ds q end is same l) serves in
     let one : Asked DeskCall Reply = record { stamp = a.stamp; question = ask; reply = r } in
     let rs : bookings_in (a ∷ ds) ≡ bookings_in ds = ap (λ (x : List (Result Request Error)). x ++ bookings_in ds) h.books in
     let qs : answers_in (a ∷ ds) ≡ Ok one ∷ answers_in ds = ap (λ (x : List (Result (Asked DeskCall Reply) Error)). x ++ answers_in ds) h.told in
@@ -515,7 +531,7 @@ shown {T} came (Call ask refused next) got None n left id (a ∷ ds) q end tidy 
     call-step came got None n left ask refused next (λ e. shown came (refused e)) (λ r. shown came (next r)) tidy id here.0 here.1 holds a ds q end
     (subst (λ (x : Dialogue T). Leads x id (a ∷ ds) q end) (feed-call left ask refused next) l) serves
 shown {T} came (Call ask refused next) got (Some k) n left id (a ∷ ds) q end tidy here holds l serves =
-    call-step came got (Some k) n left ask refused next (λ e. shown came (refused e)) (λ r. shown came (next r)) tidy id (λ e. here) (λ r. here) holds a ds q end
+    call-step came got (Some k) n left ask refused next (λ e. shown came (refused e)) (λ r. shown came (next r)) tidy id (λ e. here) (λ r fit. here) holds a ds q end
     (subst (λ (x : Dialogue T). Leads x id (a ∷ ds) q end) (feed-call left ask refused next) l) serves
 shown came (Hear next) got at n left id [] q end tidy here holds l serves = record {
   requests = refl;

@@ -16,6 +16,7 @@ use Rattle.pg_desk.specs.History.{State, Change, ClosedAll, FailedAll, change_of
 use Rattle.pg_faults.specs.declared.error.Error.{Error}
 use Rattle.pg_faults.specs.declared.error.Error.TheVariants.{OutOfMemory}
 use Rattle.pg_query.specs.Faults.{of_fault}
+use Rattle.pg_query.proofs.LeavingLaws.{told-fits}
 use Rattle.pg_query.specs.Dialogue as code
 use Rattle.pg_query.specs.Dialogue.{Dialogue, Answer, feed, feed_one, after_reply, question_of, as_reply, reply_of, Told, Steps}
 use Rattle.pg_query.specs.Lives.{Deed, Leads}
@@ -60,7 +61,7 @@ faithful-one m (code.Put cleanup p d) h = absurd h
 faithful-one m (code.Finish p d) h = absurd h
 faithful-one m (code.Close p d) h = absurd h
 faithful-one m (code.HangUp d) h = h
-faithful-one m (code.Call q refused next) h = (lacks-one m (refused OutOfMemory) h.0, λ r. faithful-one m (next r) (h.1 r))
+faithful-one m (code.Call q refused next) h = (lacks-one m (refused OutOfMemory) h.0, λ r fit. faithful-one m (next r) (h.1 r fit))
 faithful-one m (code.Hear next) h = tt
 
 faithful-fed : {T : Type 0} (ms : List RawMessage) (d : Dialogue T) → IsFaithful d → IsFaithful (feed ms d)
@@ -187,7 +188,7 @@ step s stamp (code.Close p d) id e d' id' es h a open_ st = absurd h
 step s stamp (code.HangUp d) id (HangUp which (Ok x)) d' id' es h a open_ st = Faithful tt tt (faithful d d' st.1 h)
 step s stamp (code.HangUp d) id (HangUp which (Err f)) d' id' es h a open_ st = Lacks (answers-so d' (of_fault f) st.1 (ap of_fault a))
 step s stamp (code.HangUp d) id e d' id' es h a open_ st = absurd st
-step s stamp (code.Call q refused next) id e d' id' es h a open_ (Ok r, told, is, same) = let g = told-granted stamp q e r told in Faithful g.0 g.1 (faithful (next r) d' is (h.1 r))
+step s stamp (code.Call q refused next) id e d' id' es h a open_ (Ok r, told, is, same) = let g = told-granted stamp q e r told in Faithful g.0 g.1 (faithful (next r) d' is (h.1 r (told-fits q e r told)))
 step s stamp (code.Call q refused next) id e d' id' es h a open_ (Err f, told, is, same) = Lacks (goes-so refused d' (of_fault f) is (question-why s q e f es told a open_) h.0)
 step s stamp (code.Hear next) id e d' id' es h a open_ st = absurd st
 

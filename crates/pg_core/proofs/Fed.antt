@@ -6,9 +6,8 @@ use Rattle.pg_faults.specs.declared.error.Error.{Error}
 use Rattle.pg_query.specs.declared.desk_call.Cleanup.{Cleanup}
 use Rattle.pg_query.specs.declared.desk_call.DeskCall.{DeskCall}
 use Rattle.pg_query.specs.declared.desk_call.Reply.{Reply}
-use Rattle.pg_query.specs.Dialogue.{Dialogue, Answer, Ask, Send, Leave, Read, Put, Finish, Close, HangUp, Call, Hear, feed, feed_one}
+use Rattle.pg_query.specs.Dialogue.{Dialogue, Answer, Ask, Send, Leave, Read, HangUp, Call, Hear, feed, feed_one}
 use Rattle.pg_course.specs.Dialogues.{decided_after}
-use Rattle.pg_core.specs.Runs.{ReadsNothing}
 
 pub feed-answer : {T : Type 0} (ms : List RawMessage) (r : Result T Error) → feed ms (Answer r) ≡ Answer r
 feed-answer [] r = refl
@@ -105,17 +104,3 @@ front-decides decides (m ∷ ms) k e = by (decides (m ∷ [])) refl (decided_aft
         subst (λ (n : ℕ). decided_after decides (take n (m ∷ ms)) ≡ Some n) more
         (ap (λ (b : Bool). if b then Some 1 else option_map (λ n. n + 1) (decided_after (λ l. decides (m ∷ l)) (take j ms))) d
         ∙ ap (option_map (λ n. n + 1)) (ih j refl) ∙ ap (λ (n : ℕ). Some n) (let back : j + 1 ≡ suc j = omega arith in back))
-
--- where nothing is read, messages change nothing
-pub feed-nothing : {T : Type 0} (ms : List RawMessage) (d : Dialogue T) → ReadsNothing d → feed ms d ≡ d
-feed-nothing ms (Answer r) h = feed-answer ms r
-feed-nothing ms (Ask copying part d) h = feed-ask ms copying part d
-feed-nothing ms (Send part refused d) h = feed-send ms part refused d ∙ (λ i. Send part (λ e. feed-nothing ms (refused e) (h.0 e) i) (feed-nothing ms d h.1 i))
-feed-nothing ms (Leave id d) h = feed-leave ms id d ∙ ap (Leave id) (feed-nothing ms d h)
-feed-nothing ms (Read cleanup decides next) h = absurd h
-feed-nothing ms (Put cleanup part d) h = absurd h
-feed-nothing ms (Finish part d) h = absurd h
-feed-nothing ms (Close part d) h = absurd h
-feed-nothing ms (HangUp d) h = absurd h
-feed-nothing ms (Call q refused next) h = feed-call ms q refused next ∙ (λ i. Call q (λ e. feed-nothing ms (refused e) (h.0 e) i) (λ r. feed-nothing ms (next r) (h.1 r) i))
-feed-nothing ms (Hear next) h = absurd h

@@ -21,6 +21,7 @@ use Rattle.pg_query.specs.Dialogue.{Dialogue, Answer, feed, feed_one, after_repl
 use Rattle.pg_query.specs.Lives.{Deed, Leads}
 use Rattle.pg_query.specs.declared.desk_call.DeskCall.{DeskCall}
 use Rattle.pg_query.specs.declared.desk_call.Reply.{Reply}
+use Rattle.pg_query.proofs.LeavingLaws.{told-fits}
 use Rattle.pg_query.proofs.Questions.{told-asks}
 use Rattle.pg_course.specs.Dialogues.{decided_after}
 use Rattle.pg_core.specs.Lists.{events_of, AddNoParts, IsReached}
@@ -55,7 +56,7 @@ no-reads (code.Put cleanup part d) h = absurd h
 no-reads (code.Finish part d) h = absurd h
 no-reads (code.Close part d) h = absurd h
 no-reads (code.HangUp d) h = absurd h
-no-reads (code.Call q refused next) h = (λ e. no-reads (refused e) (h.0 e), λ r. no-reads (next r) (h.1 r))
+no-reads (code.Call q refused next) h = (λ e. no-reads (refused e) (h.0 e), λ r fit. no-reads (next r) (h.1 r fit))
 no-reads (code.Hear next) h = absurd h
 
 reads-no-one : {T : Type 0} (m : RawMessage) (d : Dialogue T) → ReadsNo d → ReadsNo (feed_one m d)
@@ -68,7 +69,7 @@ reads-no-one m (code.Put cleanup p d) h = absurd h
 reads-no-one m (code.Finish p d) h = absurd h
 reads-no-one m (code.Close p d) h = absurd h
 reads-no-one m (code.HangUp d) h = h
-reads-no-one m (code.Call q refused next) h = (λ e. reads-no-one m (refused e) (h.0 e), λ r. reads-no-one m (next r) (h.1 r))
+reads-no-one m (code.Call q refused next) h = (λ e. reads-no-one m (refused e) (h.0 e), λ r fit. reads-no-one m (next r) (h.1 r fit))
 reads-no-one m (code.Hear next) h = tt
 
 behind-one : (decides : List RawMessage → Bool) (m : RawMessage) (ms : List RawMessage) → decides (m ∷ []) ≡ false →
@@ -92,7 +93,7 @@ sane-one m (code.Put cleanup p d) h = absurd h
 sane-one m (code.Finish p d) h = absurd h
 sane-one m (code.Close p d) h = absurd h
 sane-one m (code.HangUp d) h = h
-sane-one m (code.Call q refused next) h = (λ e. sane-one m (refused e) (h.0 e), λ r. sane-one m (next r) (h.1 r))
+sane-one m (code.Call q refused next) h = (λ e. sane-one m (refused e) (h.0 e), λ r fit. sane-one m (next r) (h.1 r fit))
 sane-one m (code.Hear next) h = tt
 
 pub sane-fed : {T : Type 0} (ms : List RawMessage) (d : Dialogue T) → IsSane d → IsSane (feed ms d)
@@ -222,13 +223,13 @@ asks s (NextPortal (Err f)) h = Quiet (λ id there. there) refl tt
 asks s (CatalogEvent call) h = Quiet (λ id there. record { booked = there.booked; kept_up = there.kept_up }) refl tt
 asks s e h = absurd h
 
-call-kept : {T : Type 0} (s : State) (q : DeskCall) (refused : Error → Dialogue T) (next : Reply → Dialogue T) (id : ℕ) (e : Event) (r : Result Reply DeskFault) (d' : Dialogue T) (id' : ℕ) → Fits s (code.Call q refused next) id → s.failed ≡ false → Asks s e →
+call-kept : {T : Type 0} (s : State) (q : DeskCall) (refused : Error → Dialogue T) (next : Reply → Dialogue T) (id : ℕ) (e : Event) (r : Result Reply DeskFault) (d' : Dialogue T) (id' : ℕ) → Told q e r → Fits s (code.Call q refused next) id → s.failed ≡ false → Asks s e →
     d' ≡ after_reply r refused next → id' ≡ id → Kept s e d' id'
-call-kept s q refused next id e (Ok r) d' id' (sane, inl none) whole (Quiet there failed not) is same = kept-as s e (next r) d' id id' is same (fits-none (after s e) (next r) id (sane.1 r) (none.1 r)) (failed ∙ whole) not
-call-kept s q refused next id e (Ok r) d' id' (sane, inr here) whole (Quiet there failed not) is same = kept-as s e (next r) d' id id' is same (fits-there (after s e) (next r) id (sane.1 r) (there id here)) (failed ∙ whole) not
-call-kept s q refused next id e (Err f) d' id' (sane, inl none) whole (Quiet there failed not) is same =
+call-kept s q refused next id e (Ok r) d' id' told (sane, inl none) whole (Quiet there failed not) is same = kept-as s e (next r) d' id id' is same (fits-none (after s e) (next r) id (sane.1 r (told-fits q e r told)) (none.1 r (told-fits q e r told))) (failed ∙ whole) not
+call-kept s q refused next id e (Ok r) d' id' told (sane, inr here) whole (Quiet there failed not) is same = kept-as s e (next r) d' id id' is same (fits-there (after s e) (next r) id (sane.1 r (told-fits q e r told)) (there id here)) (failed ∙ whole) not
+call-kept s q refused next id e (Err f) d' id' told (sane, inl none) whole (Quiet there failed not) is same =
     kept-as s e (refused (of_fault f)) d' id id' is same (fits-none (after s e) (refused (of_fault f)) id (sane.0 (of_fault f)) (none.0 (of_fault f))) (failed ∙ whole) not
-call-kept s q refused next id e (Err f) d' id' (sane, inr here) whole (Quiet there failed not) is same =
+call-kept s q refused next id e (Err f) d' id' told (sane, inr here) whole (Quiet there failed not) is same =
     kept-as s e (refused (of_fault f)) d' id id' is same (fits-there (after s e) (refused (of_fault f)) id (sane.0 (of_fault f)) (there id here)) (failed ∙ whole) not
 
 kept : {T : Type 0} (s : State) (stamp : Stamp) (d : Dialogue T) (id : ℕ) (e : Event) (d' : Dialogue T) (id' : ℕ) → Fits s d id → NoneHungAhead s → s.failed ≡ false → Allows s e → Steps stamp d id e d' id' → Kept s e d' id'
@@ -266,7 +267,7 @@ kept s stamp (code.Close p d) id e d' id' fits hung whole a st = absurd fits
 kept s stamp (code.HangUp d) id (HangUp which (Ok x)) d' id' (none, sane) hung whole a st = kept-as s (HangUp which (Ok x)) d d' id id' st.1 st.2 (fits-none _ d id sane none) whole tt
 kept s stamp (code.HangUp d) id (HangUp which (Err f)) d' id' fits hung whole a st = kept-as s (HangUp which (Err f)) (Answer _) d' id id' st.1 st.2 tt whole tt
 kept s stamp (code.HangUp d) id e d' id' fits hung whole a st = absurd st
-kept s stamp (code.Call q refused next) id e d' id' fits hung whole a (r, told, is, same) = call-kept s q refused next id e r d' id' fits whole (asks s e (told-asks q e r told)) is same
+kept s stamp (code.Call q refused next) id e d' id' fits hung whole a (r, told, is, same) = call-kept s q refused next id e r d' id' told fits whole (asks s e (told-asks q e r told)) is same
 kept s stamp (code.Hear next) id e d' id' fits hung whole a st = absurd st
 
 -- ---- a walk

@@ -3,6 +3,8 @@ pub mod Faithful
 pub mod Walk
 pub mod Living
 pub mod Fed
+pub mod Fitting
+pub mod Unread
 pub mod Core
 pub mod Itself
 pub mod Outcome

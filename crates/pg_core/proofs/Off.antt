@@ -15,6 +15,7 @@ use Rattle.pg_query.specs.Dialogue as code
 use Rattle.pg_query.specs.Dialogue.{Dialogue, Answer, feed, after_reply, Told, Steps}
 use Rattle.pg_query.specs.Lives.{Deed, Leads}
 use Rattle.pg_query.specs.declared.desk_call.DeskCall.{DeskCall}
+use Rattle.pg_query.proofs.LeavingLaws.{told-fits}
 use Rattle.pg_query.proofs.Questions.{told-asks}
 use Rattle.pg_query.specs.declared.desk_call.Reply.{Reply}
 use Rattle.pg_core.specs.Lists.{events_of, Spares, SparesAll}
@@ -83,12 +84,12 @@ quiet k s (NextPortal (Err f)) h = Is tt tt refl
 quiet k s (CatalogEvent call) h = Is tt tt refl
 quiet k s e h = absurd h
 
-call-off : {T : Type 0} (k : ℕ) (s : State) (q : DeskCall) (refused : Error → Dialogue T) (next : Reply → Dialogue T) (id : ℕ) (e : Event) (r : Result Reply DeskFault) (d' : Dialogue T) (id' : ℕ) → IsOff k (code.Call q refused next) id → k < length s.book → Quiet k s e → d' ≡ after_reply r refused next → id' ≡ id → Off-on k s e d' id'
-call-off k s q refused next id e (Ok r) d' id' (sane, inl h) lt (Is a b book) is same = off-as k s e (next r) d' id id' is same (off-none k (next r) id (sane.1 r) (h.1 r)) a b (let n = ap length book in omega (arith, lt, n))
-call-off k s q refused next id e (Ok r) d' id' (sane, inr h) lt (Is a b book) is same = off-as k s e (next r) d' id id' is same (off-other k (next r) id (sane.1 r) h) a b (let n = ap length book in omega (arith, lt, n))
-call-off k s q refused next id e (Err f) d' id' (sane, inl h) lt (Is a b book) is same =
+call-off : {T : Type 0} (k : ℕ) (s : State) (q : DeskCall) (refused : Error → Dialogue T) (next : Reply → Dialogue T) (id : ℕ) (e : Event) (r : Result Reply DeskFault) (d' : Dialogue T) (id' : ℕ) → Told q e r → IsOff k (code.Call q refused next) id → k < length s.book → Quiet k s e → d' ≡ after_reply r refused next → id' ≡ id → Off-on k s e d' id'
+call-off k s q refused next id e (Ok r) d' id' told (sane, inl h) lt (Is a b book) is same = off-as k s e (next r) d' id id' is same (off-none k (next r) id (sane.1 r (told-fits q e r told)) (h.1 r (told-fits q e r told))) a b (let n = ap length book in omega (arith, lt, n))
+call-off k s q refused next id e (Ok r) d' id' told (sane, inr h) lt (Is a b book) is same = off-as k s e (next r) d' id id' is same (off-other k (next r) id (sane.1 r (told-fits q e r told)) h) a b (let n = ap length book in omega (arith, lt, n))
+call-off k s q refused next id e (Err f) d' id' told (sane, inl h) lt (Is a b book) is same =
     off-as k s e (refused (of_fault f)) d' id id' is same (off-none k (refused (of_fault f)) id (sane.0 (of_fault f)) (h.0 (of_fault f))) a b (let n = ap length book in omega (arith, lt, n))
-call-off k s q refused next id e (Err f) d' id' (sane, inr h) lt (Is a b book) is same =
+call-off k s q refused next id e (Err f) d' id' told (sane, inr h) lt (Is a b book) is same =
     off-as k s e (refused (of_fault f)) d' id id' is same (off-other k (refused (of_fault f)) id (sane.0 (of_fault f)) h) a b (let n = ap length book in omega (arith, lt, n))
 
 one-off : {T : Type 0} (k : ℕ) (s : State) (stamp : Stamp) (d : Dialogue T) (id : ℕ) (e : Event) (d' : Dialogue T) (id' : ℕ) → IsOff k d id → k < length s.book → Allows s e → Steps stamp d id e d' id' → Off-on k s e d' id'
@@ -124,7 +125,7 @@ one-off k s stamp (code.Close p d) id e d' id' off lt a st = absurd off
 one-off k s stamp (code.HangUp d) id (HangUp which (Ok x)) d' id' (sane, h) lt a st = off-as k s (HangUp which (Ok x)) d d' id id' st.1 st.2 (off-other k d id sane h) tt (λ same. h (sym st.0 ∙ same)) lt
 one-off k s stamp (code.HangUp d) id (HangUp which (Err f)) d' id' off lt a st = off-as k s (HangUp which (Err f)) (Answer _) d' id id' st.1 st.2 tt tt tt lt
 one-off k s stamp (code.HangUp d) id e d' id' off lt a st = absurd st
-one-off k s stamp (code.Call q refused next) id e d' id' off lt a (r, told, is, same) = call-off k s q refused next id e r d' id' off lt (quiet k s e (told-asks q e r told)) is same
+one-off k s stamp (code.Call q refused next) id e d' id' off lt a (r, told, is, same) = call-off k s q refused next id e r d' id' told off lt (quiet k s e (told-asks q e r told)) is same
 one-off k s stamp (code.Hear next) id e d' id' off lt a st = absurd st
 
 pub left-alone : {T : Type 0} (k : ℕ) (s : State) (d : Dialogue T) (id : ℕ) (ds : List Deed) (q : Dialogue T) (end : ℕ) → IsOff k d id → k < length s.book → IsLegal s (events_of ds) → Leads d id ds q end →

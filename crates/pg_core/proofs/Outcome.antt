@@ -9,13 +9,13 @@ use Rattle.pg_desk.specs.declared.event.DeskFault.{DeskFault}
 use Rattle.pg_desk.specs.declared.event.DeskFault.TheVariants as fault
 use Rattle.pg_desk.specs.declared.event.Event.{Event}
 use Rattle.pg_desk.specs.declared.event.Event.TheVariants as call
-use Rattle.pg_query.specs.Dialogue.{Dialogue, Answer, Ask, Send, Leave, Read, Put, Finish, Close, HangUp, Call, Hear, question_of, reply_of}
+use Rattle.pg_query.specs.Dialogue.{Dialogue, Answer, Ask, Send, Leave, Read, Put, Finish, Close, HangUp, Call, Hear, fits, question_of, reply_of}
 use Rattle.pg_query.specs.Lives.{Deed, Turn, Leads, Lives, deeds}
 use Rattle.pg_query.specs.Meaning.{Place}
 use Rattle.pg_query.specs.Scripts.{IsRead}
 use Rattle.pg_query.specs.declared.desk_call.DeskCall.{DeskCall}
 use Rattle.pg_query.specs.declared.desk_call.Reply.{Reply}
-use Rattle.pg_course.specs.Courses.{Asked, Request, Met, Outcome, outcome, nothing_yet, with_request, with_sent, with_question as with_query}
+use Rattle.pg_course.specs.Courses.{Asked, Request, Met, Outcome, outcome, nothing_yet, past_reply, with_request, with_sent, with_question as with_query}
 use Rattle.pg_course.specs.Dialogues.{decided_after}
 use Rattle.pg_query.proofs.RequestLaws.{lives-lead}
 use Rattle.pg_core.specs.Deeds.{booked_by, bookings_in, told_as, told_by, answers_in, granted, AreGranted, requests_in, asked_in, taken_from, Serves, EndsRefused}
@@ -23,6 +23,7 @@ use Rattle.pg_core.specs.Runs.{Ran, of_request, stays, run, ReadsNothing, IsTidy
 use Rattle.pg_core.specs.Outcomes.{asked, met_by, parts_in, questions_in, IsOutcome, IsUnderWay, is_granted, unrefused, AnswersSo, LivesSo}
 use Rattle.pg_core.proofs.Core.{comes}
 use Rattle.pg_core.proofs.Fed.{still-decides, front-decides}
+use Rattle.pg_core.proofs.Fitting.{AreFitting, AreMatched, first-asked, matched, told-fitting}
 
 abbrev told_so : {T : Type 0} → (ℕ → List RawMessage) → Ran T → Result T Error → Outcome DeskCall (Result T Error)
 told_so came s r = record { parts = []; requests = parts_in s.requests; asked = questions_in s.asked; answer = Some r; left = drop s.read (of_request came s.at) }
@@ -126,33 +127,38 @@ tidy-next : {T : Type 0} (decides : List RawMessage → Bool) (next : List RawMe
 tidy-next decides next tidy left k e =
     tidy (take k left) (front-decides decides left k e ∙ ap (λ (x : ℕ). Some x) (sym (length-take-le k left (still-decides decides left [] k e).within)))
 
--- a dialogue without copies gives the request that it reads no part more
-no-parts : {T : Type 0} (d : Dialogue T) (met : Met Reply) (left : List RawMessage) → IsTidy d → (outcome (asked d) met left).parts ≡ []
-no-parts (Answer r) met left tidy = refl
-no-parts (Ask copying part d) met left tidy = refl
-no-parts (Send part refused d) met left tidy = no-parts d _ left tidy.1
-no-parts (Leave id d) met left tidy = no-parts d met left tidy
-no-parts {T} (Read cleanup decides next) met left tidy = by (decided_after decides left) refl (λ k e. no-parts (next (take k left)) met (drop k left) (tidy-next decides next tidy left k e))
+-- a dialogue without copies gives the request that it reads no part more, where what it is told fits
+no-parts : {T : Type 0} (d : Dialogue T) (met : Met Reply) (left : List RawMessage) → IsTidy d → AreMatched (outcome (asked d) met left).asked met.told → (outcome (asked d) met left).parts ≡ []
+no-parts (Answer r) met left tidy m = refl
+no-parts (Ask copying part d) met left tidy m = refl
+no-parts (Send part refused d) met left tidy m = no-parts d (past_reply met) left tidy.1 m
+no-parts (Leave id d) met left tidy m = no-parts d met left tidy m
+no-parts {T} (Read cleanup decides next) met left tidy m = by (decided_after decides left) refl (λ k e m. no-parts (next (take k left)) met (drop k left) (tidy-next decides next tidy left k e) m) m
   where
     so : Option ℕ → Outcome DeskCall (Result T Error)
     so o = elim o [ None ↦ nothing_yet | Some k ↦ outcome (asked (next (take k left))) met (drop k left) ]
 
-    by : (o : Option ℕ) → decided_after decides left ≡ o → ((k : ℕ) → decided_after decides left ≡ Some k → (outcome (asked (next (take k left))) met (drop k left)).parts ≡ []) → (so o).parts ≡ []
-    by None e h = refl
-    by (Some k) e h = h k e
-no-parts (Put cleanup part d) met left tidy = absurd tidy
-no-parts (Finish part d) met left tidy = absurd tidy
-no-parts (Close part d) met left tidy = absurd tidy
-no-parts (HangUp d) met left tidy = no-parts d met left tidy.1
-no-parts {T} (Call q refused next) met left tidy = by met.told (λ r told. no-parts (next r) (record { replies = met.replies; told = told }) left (tidy.1 r))
+    by : (o : Option ℕ) → decided_after decides left ≡ o →
+        ((k : ℕ) → decided_after decides left ≡ Some k → AreMatched (outcome (asked (next (take k left))) met (drop k left)).asked met.told → (outcome (asked (next (take k left))) met (drop k left)).parts ≡ []) →
+        AreMatched (so o).asked met.told → (so o).parts ≡ []
+    by None e h m = refl
+    by (Some k) e h m = h k e m
+no-parts (Put cleanup part d) met left tidy m = absurd tidy
+no-parts (Finish part d) met left tidy m = absurd tidy
+no-parts (Close part d) met left tidy m = absurd tidy
+no-parts (HangUp d) met left tidy m = no-parts d met left tidy.1 m
+no-parts {T} (Call q refused next) met left tidy m = by met.told (λ r told fit m. no-parts (next r) (record { replies = met.replies; told = told }) left (tidy.1 r fit) m) m
   where
     so : List Reply → Outcome DeskCall (Result T Error)
     so l = elim l [ [] ↦ nothing_yet | r ∷ told ↦ with_query q (outcome (asked (next r)) (record { replies = met.replies; told = told }) left) ]
 
-    by : (l : List Reply) → ((r : Reply) (told : List Reply) → (outcome (asked (next r)) (record { replies = met.replies; told = told }) left).parts ≡ []) → (so l).parts ≡ []
-    by [] h = refl
-    by (r ∷ told) h = h r told
-no-parts {T} (Hear next) met left tidy = by (decided_after (λ (ms : List RawMessage). false) left)
+    by : (l : List Reply) →
+        ((r : Reply) (told : List Reply) → fits q r ≡ true → AreMatched (outcome (asked (next r)) (record { replies = met.replies; told = told }) left).asked told →
+        (outcome (asked (next r)) (record { replies = met.replies; told = told }) left).parts ≡ []) →
+        AreMatched (so l).asked l → (so l).parts ≡ []
+    by [] h m = refl
+    by (r ∷ told) h m = h r told m.0 m.1
+no-parts {T} (Hear next) met left tidy m = by (decided_after (λ (ms : List RawMessage). false) left)
   where
     so : Option ℕ → Outcome DeskCall (Result T Error)
     so o = elim o [ None ↦ nothing_yet | Some k ↦ record { parts = []; requests = []; asked = []; answer = Some (Err Closed); left = drop k left } ]
@@ -161,27 +167,28 @@ no-parts {T} (Hear next) met left tidy = by (decided_after (λ (ms : List RawMes
     by None = refl
     by (Some k) = refl
 
-run-front : {T : Type 0} (came : ℕ → List RawMessage) (at : Option ℕ) (n : ℕ) (d : Dialogue T) (rs : List Request) (qs : List (Asked DeskCall Reply)) → IsTidy d →
-    length (run came at n d (as_granted rs) (as_granted qs)).asked ≡ length qs →
+run-front : {T : Type 0} (came : ℕ → List RawMessage) (at : Option ℕ) (n : ℕ) (d : Dialogue T) (rs : List Request) (qs : List (Asked DeskCall Reply)) → IsTidy d → AreFitting qs →
+    (run came at n d (as_granted rs) (as_granted qs)).asked ≡ qs →
     Front came (run came at n d (as_granted rs) (as_granted qs)) (outcome (asked d) (met_by came rs qs) (drop n (of_request came at)))
-run-front came at n (Answer r) rs qs tidy e = record { more = []; requests = refl; asks = refl }
-run-front came at n (Ask copying part d) [] qs tidy e = stays-front came at n (Ask copying part d) [] qs e
-run-front came at n (Ask copying part d) (x ∷ rs) qs tidy e =
-    let f = run-front came (Some x.number) 0 d rs qs tidy e in
+run-front came at n (Answer r) rs qs tidy fit e = record { more = []; requests = refl; asks = refl }
+run-front came at n (Ask copying part d) [] qs tidy fit e = stays-front came at n (Ask copying part d) [] qs (ap length e)
+run-front came at n (Ask copying part d) (x ∷ rs) qs tidy fit e =
+    let f = run-front came (Some x.number) 0 d rs qs tidy fit e in
     let o = outcome (asked d) (met_by came rs qs) (came x.number) in
-    let none : o.parts ≡ [] = no-parts d (met_by came rs qs) (came x.number) tidy in
+    let all : questions_in qs ≡ o.asked = ap questions_in (sym e) ∙ f.asks in
+    let none : o.parts ≡ [] = no-parts d (met_by came rs qs) (came x.number) tidy (subst (λ (l : List DeskCall). AreMatched l (map (λ a. a.reply) qs)) all (matched qs fit)) in
     record {
       more = f.more;
       requests = ap (λ (l : List (List (List ℕ))). (part ∷ []) ∷ l) f.requests ∙ ap (λ (ps : List (List ℕ)). (part ∷ ps) ∷ o.requests) (sym none);
       asks = f.asks;
     }
-run-front came at n (Send part refused d) [] qs tidy e = stays-front came at n (Send part refused d) [] qs e
-run-front came at n (Send part refused d) (x ∷ rs) qs tidy e =
-    let f = run-front came at n d rs qs tidy.1 e in
+run-front came at n (Send part refused d) [] qs tidy fit e = stays-front came at n (Send part refused d) [] qs (ap length e)
+run-front came at n (Send part refused d) (x ∷ rs) qs tidy fit e =
+    let f = run-front came at n d rs qs tidy.1 fit e in
     record { more = f.more; requests = ap (λ (l : List (List (List ℕ))). (part ∷ []) ∷ l) f.requests; asks = f.asks }
-run-front came at n (Leave id d) rs qs tidy e = let f = run-front came at n d rs qs tidy e in record { more = f.more; requests = f.requests; asks = f.asks }
-run-front {T} came at n (Read cleanup decides next) rs qs tidy e =
-    by (decided_after decides xs) refl (λ k is. run-front came at (n + k) (next (take k xs)) rs qs (tidy-next decides next tidy xs k is)) e
+run-front came at n (Leave id d) rs qs tidy fit e = let f = run-front came at n d rs qs tidy fit e in record { more = f.more; requests = f.requests; asks = f.asks }
+run-front {T} came at n (Read cleanup decides next) rs qs tidy fit e =
+    by (decided_after decides xs) refl (λ k is e. run-front came at (n + k) (next (take k xs)) rs qs (tidy-next decides next tidy xs k is) fit e) e
   where
     xs : List RawMessage
     xs = drop n (of_request came at)
@@ -193,22 +200,23 @@ run-front {T} came at n (Read cleanup decides next) rs qs tidy e =
     met o = elim o [ None ↦ nothing_yet | Some k ↦ outcome (asked (next (take k xs))) (met_by came rs qs) (drop k xs) ]
 
     by : (o : Option ℕ) → decided_after decides xs ≡ o →
-        ((k : ℕ) → decided_after decides xs ≡ Some k → length (run came at (n + k) (next (take k xs)) (as_granted rs) (as_granted qs)).asked ≡ length qs →
+        ((k : ℕ) → decided_after decides xs ≡ Some k → (run came at (n + k) (next (take k xs)) (as_granted rs) (as_granted qs)).asked ≡ qs →
         Front came (run came at (n + k) (next (take k xs)) (as_granted rs) (as_granted qs)) (outcome (asked (next (take k xs))) (met_by came rs qs) (drop (n + k) (of_request came at)))) →
-        length (chosen o).asked ≡ length qs → Front came (chosen o) (met o)
+        (chosen o).asked ≡ qs → Front came (chosen o) (met o)
     by None is h e = record { more = []; requests = refl; asks = refl }
     by (Some k) is h e =
         subst (λ (l : List RawMessage). Front came (run came at (n + k) (next (take k xs)) (as_granted rs) (as_granted qs)) (outcome (asked (next (take k xs))) (met_by came rs qs) l))
         (sym (drop-drop k n (of_request came at))) (h k is e)
-run-front came at n (Put cleanup part d) rs qs tidy e = absurd tidy
-run-front came at n (Finish part d) rs qs tidy e = absurd tidy
-run-front came at n (Close part d) rs qs tidy e = absurd tidy
-run-front came at n (HangUp d) rs qs tidy e = let f = run-front came at n d rs qs tidy.1 e in record { more = f.more; requests = f.requests; asks = f.asks }
-run-front came at n (Call q refused next) rs [] tidy e = stays-front came at n (Call q refused next) rs [] e
-run-front came at n (Call q refused next) rs (a ∷ qs) tidy e =
-    let f = run-front came at n (next a.reply) rs qs (tidy.1 a.reply) (cc) in
+run-front came at n (Put cleanup part d) rs qs tidy fit e = absurd tidy
+run-front came at n (Finish part d) rs qs tidy fit e = absurd tidy
+run-front came at n (Close part d) rs qs tidy fit e = absurd tidy
+run-front came at n (HangUp d) rs qs tidy fit e = let f = run-front came at n d rs qs tidy.1 fit e in record { more = f.more; requests = f.requests; asks = f.asks }
+run-front came at n (Call q refused next) rs [] tidy fit e = stays-front came at n (Call q refused next) rs [] refl
+run-front came at n (Call q refused next) rs (a ∷ qs) tidy fit e =
+    let k = first-asked q a (run came at n (next a.reply) (as_granted rs) (as_granted qs)).asked qs e fit.0 in
+    let f = run-front came at n (next a.reply) rs qs (tidy.1 a.reply k.0) fit.1 k.1 in
     record { more = f.more; requests = f.requests; asks = ap (λ (l : List DeskCall). q ∷ l) f.asks }
-run-front came at n (Hear next) rs qs tidy e = stays-front came at n (Hear next) rs qs e
+run-front came at n (Hear next) rs qs tidy fit e = stays-front came at n (Hear next) rs qs (ap length e)
 
 -- ---- up to the first booking or question that was refused
 
@@ -293,7 +301,7 @@ front-so {T} came d id ds tidy nothing u =
     let s = run came None 0 d (as_granted (requests_in ds)) (as_granted (asked_in ds)) in
     let rs : s.requests ≡ requests_in ds = sym (ap (λ (x : Ran T). x.requests) same) ∙ all.requests in
     let qs : s.asked ≡ asked_in ds = sym (ap (λ (x : Ran T). x.asked) same) ∙ all.asked in
-    let f = run-front came None 0 d (requests_in ds) (asked_in ds) tidy (ap length qs) in
+    let f = run-front came None 0 d (requests_in ds) (asked_in ds) tidy (told-fitting ds) qs in
     record {
       more = f.more;
       requests = ap (λ (l : List Request). parts_in l ++ f.more) (sym rs) ∙ f.requests;

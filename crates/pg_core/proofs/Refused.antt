@@ -23,12 +23,13 @@ use Rattle.pg_query.specs.Meaning.{Place}
 use Rattle.pg_query.specs.Requests.{IsBehind, Refuses, IsRefused}
 use Rattle.pg_query.specs.Scripts.{IsRead}
 use Rattle.pg_query.proofs.Questions.{told-asks}
-use Rattle.pg_core.specs.Deeds.{Serves, EndsRefused, got_after}
+use Rattle.pg_core.specs.Deeds.{Serves, EndsRefused, answers_in, bookings_in, got_after}
 use Rattle.pg_core.specs.Lists.{events_of, came_of, got_of, state_behind, IsReached}
 use Rattle.pg_core.specs.Runs.{Ran, of_request, At, Waits, ReadsNothing}
 use Rattle.pg_core.specs.Times.{IsTimely}
 use Rattle.pg_core.specs.Trails.{Moment, ran_by, goes_on, IsRunning, moment_of, LedTo, Waiting, Answering, Refusing, PollsOn}
 use Rattle.pg_core.proofs.Steps.{all-taken, firm, poll-served, reached-on, taken-within}
+use Rattle.pg_core.proofs.Fitting.{told-fitting}
 use Rattle.pg_core.proofs.Timely.{IsUndecided, in-time, undecided, group-ends, never-over}
 use Rattle.pg_core.proofs.Trail.{polled}
 
@@ -186,7 +187,7 @@ module _ {T : Type 0} (d : Dialogue T) (trail : List Moment) (s : State) (p : Pl
       by-at None e nothing there = reads-not r.left nothing there
       by-at (Some k) e same there =
           stands-over (came_of t) r.at r.read r.left there
-          (in-time (came_of t) (ran_by d trail).at (ran_by d trail).read (ran_by d trail).left _ _
+          (in-time (came_of t) (ran_by d trail).at (ran_by d trail).read (ran_by d trail).left (bookings_in before) (answers_in before) (told-fitting before) c.met.1
           (timely-as (got_of s) (came_of t) (ran_by d trail).at (ran_by d trail).read (ran_by d trail).left (taken-within s (kept (events_of before)) (ran_by d trail).at reached) runs.within timely))
           (undecided (came_of t) (ran_by d trail).at (ran_by d trail).read (ran_by d trail).left _ _)
           (ap (λ (x : Option ℕ). ends_in is_ready (of_request (came_of t) x)) e ∙ ap (λ (x : ℕ). ends_in is_ready (came_of t x)) same ∙ ends)

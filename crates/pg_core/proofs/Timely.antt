@@ -13,9 +13,11 @@ use Rattle.pg_query.specs.declared.desk_call.DeskCall.{DeskCall}
 use Rattle.pg_query.specs.declared.desk_call.Reply.{Reply}
 use Rattle.pg_course.specs.Courses.{Asked, Request}
 use Rattle.pg_course.specs.Dialogues.{decided_after}
+use Rattle.pg_core.specs.Deeds.{granted}
 use Rattle.pg_core.specs.Runs.{Ran, of_request, stays, run}
 use Rattle.pg_core.specs.Times.{ReadsNo, IsTimely}
 use Rattle.pg_core.proofs.Fed.{still-decides, front-decides}
+use Rattle.pg_core.proofs.Fitting.{AreFitting, first-asked}
 
 -- what came doesn't decide where it reads
 abbrev pub IsUndecided : {T : Type 0} → (ℕ → List RawMessage) → Option ℕ → ℕ → Dialogue T → Type 0
@@ -36,22 +38,23 @@ take-more (suc n) zero [] = ap (λ (m : ℕ). take {A = RawMessage} m []) (let e
 take-more (suc n) (suc k) [] = ap (λ (m : ℕ). take {A = RawMessage} m []) (let e : suc n + suc k ≡ suc (n + suc k) = omega arith in e)
 take-more (suc n) k (x ∷ xs) = ap (λ (m : ℕ). take m (x ∷ xs)) (let e : suc n + k ≡ suc (n + k) = omega arith in e) ∙ ap (λ (l : List RawMessage). x ∷ l) (take-more n k xs)
 
--- the function keeps to time
-pub in-time : {T : Type 0} (came : ℕ → List RawMessage) (at : Option ℕ) (n : ℕ) (d : Dialogue T) (rs : List (Result Request Error)) (qs : List (Result (Asked DeskCall Reply) Error)) → IsTimely came at n d →
+-- the function keeps to time, where it asked what it was told and that fits
+pub in-time : {T : Type 0} (came : ℕ → List RawMessage) (at : Option ℕ) (n : ℕ) (d : Dialogue T) (rs : List (Result Request Error)) (qs : List (Result (Asked DeskCall Reply) Error)) →
+    AreFitting (granted qs) → (run came at n d rs qs).asked ≡ granted qs → IsTimely came at n d →
     IsTimely came (run came at n d rs qs).at (run came at n d rs qs).read (run came at n d rs qs).left
-in-time came at n (Answer r) rs qs h = h
-in-time came at n (Ask copying part d) [] qs h = h
-in-time came at n (Ask copying part d) (Ok r ∷ rs) qs h = in-time came (Some r.number) 0 d rs qs (h.0, inr refl)
-in-time came at n (Ask copying part d) (Err e ∷ rs) qs h = (tt, inl tt)
-in-time came at n (Send part refused d) [] qs h = h
-in-time came at n (Send part refused d) (Ok r ∷ rs) qs (timely, inl reads_no) = in-time came at n d rs qs (timely.1, inl reads_no.1)
-in-time came at n (Send part refused d) (Ok r ∷ rs) qs (timely, inr none) = in-time came at n d rs qs (timely.1, inr none)
-in-time came at n (Send part refused d) (Err e ∷ rs) qs (timely, inl reads_no) = in-time came at n (refused e) rs qs (timely.0 e, inl (reads_no.0 e))
-in-time came at n (Send part refused d) (Err e ∷ rs) qs (timely, inr none) = in-time came at n (refused e) rs qs (timely.0 e, inr none)
-in-time came at n (Leave id d) rs qs h = in-time came at n d rs qs h
-in-time came at n (Read cleanup decides next) rs qs (timely, inl no_read) = absurd no_read
-in-time {T} came at n (Read cleanup decides next) rs qs (timely, inr none) =
-    by (decided_after decides (drop n (of_request came at))) refl (λ k h. in-time came at (n + k) (next (take k (drop n (of_request came at)))) rs qs h)
+in-time came at n (Answer r) rs qs fit e h = h
+in-time came at n (Ask copying part d) [] qs fit e h = h
+in-time came at n (Ask copying part d) (Ok r ∷ rs) qs fit e h = in-time came (Some r.number) 0 d rs qs fit e (h.0, inr refl)
+in-time came at n (Ask copying part d) (Err f ∷ rs) qs fit e h = (tt, inl tt)
+in-time came at n (Send part refused d) [] qs fit e h = h
+in-time came at n (Send part refused d) (Ok r ∷ rs) qs fit e (timely, inl reads_no) = in-time came at n d rs qs fit e (timely.1, inl reads_no.1)
+in-time came at n (Send part refused d) (Ok r ∷ rs) qs fit e (timely, inr none) = in-time came at n d rs qs fit e (timely.1, inr none)
+in-time came at n (Send part refused d) (Err f ∷ rs) qs fit e (timely, inl reads_no) = in-time came at n (refused f) rs qs fit e (timely.0 f, inl (reads_no.0 f))
+in-time came at n (Send part refused d) (Err f ∷ rs) qs fit e (timely, inr none) = in-time came at n (refused f) rs qs fit e (timely.0 f, inr none)
+in-time came at n (Leave id d) rs qs fit e h = in-time came at n d rs qs fit e h
+in-time came at n (Read cleanup decides next) rs qs fit e (timely, inl no_read) = absurd no_read
+in-time {T} came at n (Read cleanup decides next) rs qs fit asks (timely, inr none) =
+    by (decided_after decides (drop n (of_request came at))) refl (λ k e h. in-time came at (n + k) (next (take k (drop n (of_request came at)))) rs qs fit e h) asks
   where
     xs : List RawMessage
     xs = drop n (of_request came at)
@@ -70,20 +73,25 @@ in-time {T} came at n (Read cleanup decides next) rs qs (timely, inr none) =
         choose false e f = inr (ap (list_any is_ready) (take-more n k (of_request came at)) ∙ any-append (take n (of_request came at)) (take k xs) none e)
 
     by : (o : Option ℕ) → decided_after decides xs ≡ o →
-        ((k : ℕ) → IsTimely came at (n + k) (next (take k xs)) → IsTimely came (run came at (n + k) (next (take k xs)) rs qs).at (run came at (n + k) (next (take k xs)) rs qs).read (run came at (n + k) (next (take k xs)) rs qs).left) →
-        IsTimely came (chosen o).at (chosen o).read (chosen o).left
-    by None e h = (timely, inr none)
-    by (Some k) e h = h k (after_k k e)
-in-time came at n (Put cleanup part d) rs qs h = absurd h.0
-in-time came at n (Finish part d) rs qs h = absurd h.0
-in-time came at n (Close part d) rs qs h = absurd h.0
-in-time came at n (HangUp d) rs qs h = in-time came at n d rs qs h
-in-time came at n (Call q refused next) rs [] h = h
-in-time came at n (Call q refused next) rs (Ok a ∷ qs) (timely, inl reads_no) = in-time came at n (next a.reply) rs qs (timely.1 a.reply, inl (reads_no.1 a.reply))
-in-time came at n (Call q refused next) rs (Ok a ∷ qs) (timely, inr none) = in-time came at n (next a.reply) rs qs (timely.1 a.reply, inr none)
-in-time came at n (Call q refused next) rs (Err e ∷ qs) (timely, inl reads_no) = in-time came at n (refused e) rs qs (timely.0 e, inl (reads_no.0 e))
-in-time came at n (Call q refused next) rs (Err e ∷ qs) (timely, inr none) = in-time came at n (refused e) rs qs (timely.0 e, inr none)
-in-time came at n (Hear next) rs qs h = h
+        ((k : ℕ) → (run came at (n + k) (next (take k xs)) rs qs).asked ≡ granted qs → IsTimely came at (n + k) (next (take k xs)) →
+        IsTimely came (run came at (n + k) (next (take k xs)) rs qs).at (run came at (n + k) (next (take k xs)) rs qs).read (run came at (n + k) (next (take k xs)) rs qs).left) →
+        (chosen o).asked ≡ granted qs → IsTimely came (chosen o).at (chosen o).read (chosen o).left
+    by None e h asks = (timely, inr none)
+    by (Some k) e h asks = h k asks (after_k k e)
+in-time came at n (Put cleanup part d) rs qs fit e h = absurd h.0
+in-time came at n (Finish part d) rs qs fit e h = absurd h.0
+in-time came at n (Close part d) rs qs fit e h = absurd h.0
+in-time came at n (HangUp d) rs qs fit e h = in-time came at n d rs qs fit e h
+in-time came at n (Call q refused next) rs [] fit e h = h
+in-time came at n (Call q refused next) rs (Ok a ∷ qs) fit e (timely, inl reads_no) =
+    let k = first-asked q a (run came at n (next a.reply) rs qs).asked (granted qs) e fit.0 in
+    in-time came at n (next a.reply) rs qs fit.1 k.1 (timely.1 a.reply k.0, inl (reads_no.1 a.reply k.0))
+in-time came at n (Call q refused next) rs (Ok a ∷ qs) fit e (timely, inr none) =
+    let k = first-asked q a (run came at n (next a.reply) rs qs).asked (granted qs) e fit.0 in
+    in-time came at n (next a.reply) rs qs fit.1 k.1 (timely.1 a.reply k.0, inr none)
+in-time came at n (Call q refused next) rs (Err f ∷ qs) fit e (timely, inl reads_no) = in-time came at n (refused f) rs qs fit e (timely.0 f, inl (reads_no.0 f))
+in-time came at n (Call q refused next) rs (Err f ∷ qs) fit e (timely, inr none) = in-time came at n (refused f) rs qs fit e (timely.0 f, inr none)
+in-time came at n (Hear next) rs qs fit e h = h
 
 -- where it reads, what came decides nothing
 pub undecided : {T : Type 0} (came : ℕ → List RawMessage) (at : Option ℕ) (n : ℕ) (d : Dialogue T) (rs : List (Result Request Error)) (qs : List (Result (Asked DeskCall Reply) Error)) →

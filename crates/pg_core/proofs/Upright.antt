@@ -19,6 +19,7 @@ use Rattle.pg_core.proofs.Faithful.{granted-or-lacks, was-whole}
 use Rattle.pg_core.proofs.Gone.{IsNotGone, NoneGone, Stays, no-reads, none-gone, none-hung, fits-on, fits-none}
 use Rattle.pg_core.proofs.Refused.{HasGone, refused-why, timely-as, timely-back}
 use Rattle.pg_core.proofs.Steps.{own-turn, others-turn, reached-on, taken-within, spared}
+use Rattle.pg_core.proofs.Fitting.{told-fitting}
 use Rattle.pg_core.proofs.Timely.{in-time}
 use Rattle.pg_core.proofs.Trail.{begins}
 
@@ -65,7 +66,7 @@ upright-turn {T} d place trail s p ds q h l legal open_ ends = (turn, by turn.tu
       runs = runs;
       timely = timely-back (got_of t) (came_of t) (ran_by d trail').at (ran_by d trail').read (ran_by d trail').left
           (taken-within t [] (ran_by d trail').at (reached-on s (kept (events_of ds)) h.reached stored)) runs.within
-          (in-time (came_of t) (ran_by d trail).at (ran_by d trail).read (ran_by d trail).left _ _
+          (in-time (came_of t) (ran_by d trail).at (ran_by d trail).read (ran_by d trail).left (bookings_in ds) (answers_in ds) (told-fitting ds) turn.met.1
           (timely-as (got_of s) (came_of t) (ran_by d trail).at (ran_by d trail).read (ran_by d trail).left (taken-within s (kept (events_of ds)) (ran_by d trail).at h.reached) h.runs.within h.timely));
       fits = subst (λ (x : State). Fits x q.dialogue q.reads) (sym part) walked.fits;
       faithful = g.1.1;

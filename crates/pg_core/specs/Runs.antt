@@ -1,8 +1,8 @@
 -- A stretch of a command as a function of what came, of the numbers that it was given and of what it was told.
-use Rattle.std.specs.Prelude.{◌≡◌, ℕ, ◌+◌, ◌≤◌, List, [], ◌∷◌, ◌++◌, length, take, drop, Option, Some, None, Result, Ok, Err}
+use Rattle.std.specs.Prelude.{◌≡◌, ℕ, ◌+◌, ◌≤◌, List, [], ◌∷◌, ◌++◌, length, take, drop, true, Option, Some, None, Result, Ok, Err}
 use Rattle.pg_spec.specs.RawMessages.{RawMessage}
 use Rattle.pg_faults.specs.declared.error.Error.{Error}
-use Rattle.pg_query.specs.Dialogue.{Dialogue, Answer, Ask, Send, Leave, Read, Put, Finish, Close, HangUp, Call, Hear, feed}
+use Rattle.pg_query.specs.Dialogue.{Dialogue, Answer, Ask, Send, Leave, Read, Put, Finish, Close, HangUp, Call, Hear, feed, fits}
 use Rattle.pg_query.specs.Lives.{Deed}
 use Rattle.pg_query.specs.Scripts.{IsRead}
 use Rattle.pg_query.specs.declared.desk_call.DeskCall.{DeskCall}
@@ -68,7 +68,8 @@ run came at n (Call q refused next) bs (Ok a ∷ qs) = ask_first (of_question a 
 run came at n (Call q refused next) bs (Err e ∷ qs) = run came at n (refused e) bs qs
 run came at n (Hear next) bs qs = stays at n (Hear next)
 
--- before its first request a command reads and hangs up nothing
+-- Before its first request a command reads and hangs up nothing, whatever its desk may tell it. (A reply of a kind that isn't told to a
+-- question never comes, and nothing is said of where it would lead, here and below.)
 abbrev pub ReadsNothing : {T : Type 0} → Dialogue T → Type 0
 ReadsNothing (Answer r) = Unit {0}
 ReadsNothing (Ask copying part d) = Unit {0}
@@ -79,7 +80,7 @@ ReadsNothing (Put cleanup part d) = ⊥
 ReadsNothing (Finish part d) = ⊥
 ReadsNothing (Close part d) = ⊥
 ReadsNothing (HangUp d) = ⊥
-ReadsNothing (Call q refused next) = ((e : Error) → ReadsNothing (refused e)) × ((r : Reply) → ReadsNothing (next r))
+ReadsNothing (Call q refused next) = ((e : Error) → ReadsNothing (refused e)) × ((r : Reply) → fits q r ≡ true → ReadsNothing (next r))
 ReadsNothing (Hear next) = ⊥
 
 -- Behind a hang-up nothing is read or hung up before the next request is booked. No part of a copy is put yet.
@@ -93,7 +94,7 @@ IsTidy (Put cleanup part d) = ⊥
 IsTidy (Finish part d) = ⊥
 IsTidy (Close part d) = ⊥
 IsTidy (HangUp d) = ReadsNothing d × IsTidy d
-IsTidy (Call q refused next) = ((e : Error) → IsTidy (refused e)) × ((r : Reply) → IsTidy (next r))
+IsTidy (Call q refused next) = ((e : Error) → IsTidy (refused e)) × ((r : Reply) → fits q r ≡ true → IsTidy (next r))
 IsTidy (Hear next) = Unit {0}
 
 -- a place reads this request, or none yet

@@ -5,7 +5,7 @@ use Rattle.pg_spec.specs.RawMessages.{RawMessage, is_ready, ends_in}
 use Rattle.pg_desk.specs.History.{State, is_hung_up}
 use Rattle.pg_desk.specs.declared.event.Event.{Event}
 use Rattle.pg_desk.specs.declared.event.Event.TheVariants as call
-use Rattle.pg_query.specs.Dialogue.{Dialogue, Answer, Ask, Send, Leave, Read, Put, Finish, Close, HangUp, Call, Hear}
+use Rattle.pg_query.specs.Dialogue.{Dialogue, Answer, Ask, Send, Leave, Read, Put, Finish, Close, HangUp, Call, Hear, fits}
 use Rattle.pg_query.specs.Lives.{Deed}
 use Rattle.pg_query.specs.declared.desk_call.Reply.{Reply}
 use Rattle.pg_course.specs.Dialogues.{decided_after}
@@ -28,7 +28,7 @@ ReadsNo (Put cleanup part d) = ⊥
 ReadsNo (Finish part d) = ⊥
 ReadsNo (Close part d) = ⊥
 ReadsNo (HangUp d) = ReadsNo d
-ReadsNo (Call q refused next) = ((e : Error) → ReadsNo (refused e)) × ((r : Reply) → ReadsNo (next r))
+ReadsNo (Call q refused next) = ((e : Error) → ReadsNo (refused e)) × ((r : Reply) → fits q r ≡ true → ReadsNo (next r))
 ReadsNo (Hear next) = Unit {0}
 
 -- messages that end in a ReadyForQuery decide
@@ -46,7 +46,7 @@ IsInTime (Put cleanup part d) = ⊥
 IsInTime (Finish part d) = ⊥
 IsInTime (Close part d) = ⊥
 IsInTime (HangUp d) = IsInTime d
-IsInTime (Call q refused next) = ((e : Error) → IsInTime (refused e)) × ((r : Reply) → IsInTime (next r))
+IsInTime (Call q refused next) = ((e : Error) → IsInTime (refused e)) × ((r : Reply) → fits q r ≡ true → IsInTime (next r))
 IsInTime (Hear next) = Unit {0}
 
 -- where it stands it is in time: no ReadyForQuery is among what it read, or it reads nothing
@@ -65,7 +65,7 @@ IsSane (Put cleanup part d) = ⊥
 IsSane (Finish part d) = ⊥
 IsSane (Close part d) = ⊥
 IsSane (HangUp d) = ReadsNo d × IsSane d
-IsSane (Call q refused next) = ((e : Error) → IsSane (refused e)) × ((r : Reply) → IsSane (next r))
+IsSane (Call q refused next) = ((e : Error) → IsSane (refused e)) × ((r : Reply) → fits q r ≡ true → IsSane (next r))
 IsSane (Hear next) = Unit {0}
 
 -- the request that is read is booked, and nobody hung it up
@@ -106,7 +106,7 @@ IsFaithful (Put cleanup part d) = ⊥
 IsFaithful (Finish part d) = ⊥
 IsFaithful (Close part d) = ⊥
 IsFaithful (HangUp d) = IsFaithful d
-IsFaithful (Call q refused next) = LacksMemory (refused OutOfMemory) × ((r : Reply) → IsFaithful (next r))
+IsFaithful (Call q refused next) = LacksMemory (refused OutOfMemory) × ((r : Reply) → fits q r ≡ true → IsFaithful (next r))
 IsFaithful (Hear next) = Unit {0}
 
 -- What the core asks of a command's dialogue, at its begin.
