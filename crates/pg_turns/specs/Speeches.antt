@@ -1,9 +1,9 @@
 -- What the commands of scripts say: their dialogues, and what is kept of their answers.
-use Rattle.std.specs.Prelude.{◌≡◌, ℕ, false, IsTrue, IsFalse, List, [], ◌∷◌, Result}
+use Rattle.std.specs.Prelude.{◌≡◌, ℕ, false, true, IsTrue, IsFalse, List, [], ◌∷◌, Result}
 use Rattle.pg_faults.specs.declared.error.Error.{Error}
 use Rattle.pg_spec.specs.RawMessages.{RawMessage, bytes_left, messages}
 use Rattle.pg_spec.specs.Sent.{ends_unit, gives_turn, is_terminate}
-use Rattle.pg_query.specs.Dialogue.{Dialogue, Answer, Ask, Send, Leave, Read, Put, Finish, Close, HangUp, Call, Hear}
+use Rattle.pg_query.specs.Dialogue.{Dialogue, Answer, Ask, Send, Leave, Read, Put, Finish, Close, HangUp, Call, Hear, fits}
 use Rattle.pg_query.specs.Leaving.{LetsGo, Nothing}
 use Rattle.pg_query.specs.declared.desk_call.DeskCall.{DeskCall}
 use Rattle.pg_query.specs.declared.desk_call.Reply.{Reply}
@@ -57,7 +57,7 @@ BooksWhole (Put cleanup part d) = ⊥
 BooksWhole (Finish part d) = ⊥
 BooksWhole (Close part d) = ⊥
 BooksWhole (HangUp d) = BooksWhole d
-BooksWhole (Call q refused next) = ((e : Error) → BooksWhole (refused e)) × ((r : Reply) → BooksWhole (next r))
+BooksWhole (Call q refused next) = ((e : Error) → BooksWhole (refused e)) × ((r : Reply) → fits q r ≡ true → BooksWhole (next r))
 BooksWhole (Hear next) = (r : Reply) → BooksWhole (next r)
 
 -- and so of each command

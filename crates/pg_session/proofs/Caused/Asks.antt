@@ -30,10 +30,12 @@ use Rattle.pg_connect.specs.declared.streams.Streams.{Streams}
 use Rattle.pg_connect.specs.Answers.{PollAnswers}
 use Rattle.pg_connect.specs.Ends.{last_is, is_closed_out}
 use Rattle.pg_connect.specs.Passed.{IsEngineCall, AllEngineCalls}
+use Rattle.pg_query.proofs.LeavingLaws.{told-fits}
 use Rattle.pg_query.proofs.Questions.{told-asks}
+use Rattle.pg_query.specs.declared.desk_call.DeskCall.{DeskCall}
 use Rattle.pg_query.specs.declared.desk_call.Reply.{Reply}
 use Rattle.pg_query.specs.Faults.{of_fault}
-use Rattle.pg_query.specs.Dialogue.{Dialogue, Answer, Ask, Send, Leave, Read, Put, Finish, Close, HangUp, Call, Hear, Steps, Walks, feed_one, feed, after_reply}
+use Rattle.pg_query.specs.Dialogue.{Dialogue, Answer, Ask, Send, Leave, Read, Put, Finish, Close, HangUp, Call, Hear, Steps, Told, Walks, feed_one, feed, fits, after_reply}
 use Rattle.pg_query.specs.Meaning.{Place}
 use Rattle.pg_query.specs.Meaning as meaning
 use Rattle.pg_turns.specs.declared.handle_turn.Polling.{Polling}
@@ -225,7 +227,7 @@ asks-fed-one m (Put cleanup part d) h = absurd h
 asks-fed-one m (Finish part d) h = absurd h
 asks-fed-one m (Close part d) h = absurd h
 asks-fed-one m (HangUp d) h = h
-asks-fed-one m (Call q refused next) h = (λ e. asks-fed-one m (refused e) (h.0 e), λ r. asks-fed-one m (next r) (h.1 r))
+asks-fed-one m (Call q refused next) h = (λ e. asks-fed-one m (refused e) (h.0 e), λ r fit. asks-fed-one m (next r) (h.1 r fit))
 asks-fed-one m (Hear next) h = λ r. asks-fed-one m (next r) (h r)
 
 asks-fed : {T : Type 0} (ms : List RawMessage) (d : Dialogue T) → BooksWhole d → BooksWhole (feed ms d)
@@ -238,9 +240,10 @@ mild-asking (NextPortal answer) h = tt
 mild-asking (CatalogEvent call) h = tt
 mild-asking _ h = absurd h
 
-asks-reply : {T : Type 0} (r : Result Reply DeskFault) (refused : Error → Dialogue T) (next : Reply → Dialogue T) → ((e : Error) → BooksWhole (refused e)) → ((r : Reply) → BooksWhole (next r)) → BooksWhole (after_reply r refused next)
-asks-reply (Ok r) refused next k h = h r
-asks-reply (Err e) refused next k h = k (of_fault e)
+asks-reply : {T : Type 0} (q : DeskCall) (e : Event) (r : Result Reply DeskFault) (refused : Error → Dialogue T) (next : Reply → Dialogue T) → Told q e r → ((e : Error) → BooksWhole (refused e)) → ((r : Reply) → fits q r ≡ true → BooksWhole (next r)) →
+    BooksWhole (after_reply r refused next)
+asks-reply q e (Ok r) refused next told k h = h r (told-fits q e r told)
+asks-reply q e (Err f) refused next told k h = k (of_fault f)
 
 -- a step books a whole request, or nothing
 record GoesOn {T : Type 0} (e : Event) (d : Dialogue T) : Type 0 where
@@ -274,7 +277,7 @@ step stamp (HangUp d) id _ d' id' h q = absurd h
 step stamp (Put cleanup part d) id e d' id' h q = absurd q
 step stamp (Finish part d) id e d' id' h q = absurd q
 step stamp (Close part d) id e d' id' h q = absurd q
-step stamp (Call ask refused next) id e d' id' h q = on e (after_reply h.0 refused next) d' (mild-asking e (told-asks ask e h.0 h.1)) (asks-reply h.0 refused next q.0 q.1) h.2
+step stamp (Call ask refused next) id e d' id' h q = on e (after_reply h.0 refused next) d' (mild-asking e (told-asks ask e h.0 h.1)) (asks-reply ask e h.0 refused next h.1 q.0 q.1) h.2
 step stamp (Hear next) id e d' id' h q = absurd h
 
 -- the same of several

@@ -247,7 +247,7 @@ module _ {C T A E : Type 0} (speech : Speech C T A E) (commands : AreCommands sp
     runs own c p u =
         let d = speech.says own c in
         let s = ran_by d (u.last ∷ u.before) in
-        let f = as-far tells course (record { handle = handle; command = length past }) d (commands own c).faithful (u.last ∷ u.before) u.ready.turns u.ready.upright.runs.met in
+        let f = as-far course (record { handle = handle; command = length past }) d (commands own c).faithful (u.last ∷ u.before) u.ready.turns u.ready.upright.runs.met in
         let is : comes-of (length past) own c ≡ in_words (speech.ends own c) (outcome (asked d) (met_by (λ n. reply_to course (Some n)) s.requests s.asked) []) =
         ap (λ (rs : List Request). outcome_of ((meaning_of speech).asks own c) (met_in so_far rs (questions (length past)))) u.ready.requests
         ∙ ap (λ (qs : List (Asked DeskCall Reply)). outcome_of ((meaning_of speech).asks own c) (met_in so_far s.requests qs)) u.ready.questions
