@@ -1,0 +1,5 @@
+pub mod Described
+pub mod KnownAt
+pub mod Making
+pub mod Parsing
+pub mod Readies
