@@ -1,0 +1,5 @@
+pub mod Sorts
+pub mod Frames
+pub mod Stacks
+pub mod Steps
+pub mod Searching
