@@ -1,0 +1,6 @@
+mod Keepings
+mod Places
+mod Requests
+mod Sayings
+mod Settling
+mod Tellings

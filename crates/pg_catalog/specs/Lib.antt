@@ -1,0 +1,4 @@
+pub mod CatalogReadings
+pub mod Given
+pub mod Keeping
+pub mod Saying
