@@ -1,0 +1,4 @@
+pub mod Behind
+pub mod Requests
+pub mod Readings
+pub mod Commands
