@@ -23,11 +23,11 @@ use Rattle.pg_query.specs.declared.simple_message.SimpleMessage.{SimpleMessage}
 use Rattle.pg_query.proofs.LeavingLaws.{life-lets-go}
 use Rattle.pg_client.specs.Simple.{answer_from, asks_by, told, simple_query}
 
-or-first : (b c : Bool) → b ≡ true → (b || c) ≡ true
+pub or-first : (b c : Bool) → b ≡ true → (b || c) ≡ true
 or-first true c h = refl
 or-first false c h = absurd cc
 
-or-second : (b c : Bool) → c ≡ true → (b || c) ≡ true
+pub or-second : (b c : Bool) → c ≡ true → (b || c) ≡ true
 or-second true c h = refl
 or-second false c h = h
 

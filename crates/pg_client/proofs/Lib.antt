@@ -1,4 +1,5 @@
 pub mod Telling
-pub mod Asking
 pub mod Life
 pub mod Leaving
+pub mod Done
+pub mod Stepping

@@ -130,7 +130,3 @@ pub told-later : (take : Option ℕ) (state later : SimpleState) (raw : RawMessa
     simple_next state raw ≡ GoesOn later → told_from take state (raw ∷ ms) ≡ told_from take later ms
 told-later take state later raw ms none is =
     by-next take state raw ms (GoesOn later) (not-enough take state none) is ∙ later-same (decision (has_enough take) simple_next later ms)
-
--- nothing is told without a message
-pub told-nothing : (take : Option ℕ) (state : SimpleState) → is_some (has_enough take state) ≡ false → told_from take state [] ≡ None
-told-nothing take state h = ap (λ (o : Option SimpleAnswer). telling (stands_or o None)) (not-enough take state h)

@@ -87,7 +87,3 @@ simple_query text take = asks_by take (query_frame text)
 abbrev pub FramesQuery : List ℕ → Result (List ℕ) Error → Type 0
 FramesQuery text (Ok frame) = query_frame text ≡ Ok frame
 FramesQuery text (Err e) = (e ≡ OutOfMemory) ⊎ ((fault : spec.FrameFault) × (query_frame text ≡ Err fault) × (e ≡ spec.Encode (spec.Frame fault)))
-
--- it asks as a simple query does, unless memory lacked for the frame
-abbrev pub AsksQuery : (text : List ℕ) → (take : Option ℕ) → Dialogue (List SimpleMessage) → Type 0
-AsksQuery text take dialogue = (dialogue ≡ simple_query text take) ⊎ (dialogue ≡ Answer (Err OutOfMemory))
