@@ -100,7 +100,8 @@ fn put_one(alloc: Global, answer: Answer, report: &mut Report) -> Result<(), Out
 fn put_answers(alloc: Global, report: &mut Report) -> Result<(), OutOfMemory> {
     put_first(alloc, report)?;
     push(&mut report.answers, List::empty(alloc))?;
-    put_one(alloc, Answer::Messages(List::empty(alloc)), report)
+    put_one(alloc, Answer::Messages(List::empty(alloc)), report)?;
+    put_one(alloc, Answer::Done, report)
 }
 
 fn put_parts(alloc: Global, bytes: &[&[u8]], parts: &mut List<Blob>) -> Result<(), OutOfMemory> {

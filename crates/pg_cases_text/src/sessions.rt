@@ -16,10 +16,17 @@ fn tell_take(take: Option<u64>, out: &mut String) -> Result<(), AllocError> {
     }
 }
 
+fn tell_simple(text: &str, take: Option<u64>, out: &mut String) -> Result<(), AllocError> {
+    write!(out, " simple {text:?}")?;
+    tell_take(take, out)
+}
+
 fn tell_command(command: &Command, out: &mut String) -> Result<(), AllocError> {
-    let Command::Simple { text, take } = command;
-    write!(out, " simple {:?}", text.as_str())?;
-    tell_take(*take, out)
+    match command {
+        Command::Simple { text, take } => tell_simple(text.as_str(), *take, out),
+        Command::Batch { text } => write!(out, " batch {:?}", text.as_str()),
+        Command::Check => out.push_str(" check"),
+    }
 }
 
 fn tell_script(script: &List<Command>, out: &mut String) -> Result<(), AllocError> {

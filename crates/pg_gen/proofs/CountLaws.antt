@@ -1,14 +1,13 @@
 -- What counts come to, number by number.
 use Rattle.std.proofs.Common.{◌≡◌, ℕ, ◌+◌, ◌-◌, ◌^◌, ◌≤◌, cond, List, [], ◌∷◌, ◌++◌, length, map, fold, flat_map, count_by, sum_by, refl, sym, ap, ◌∙◌, arith, codes, append-nil}
-use Rattle.std.proofs.lemmas.List.{length-append, length-map}
+use Rattle.std.proofs.lemmas.List.{length-append}
 use Rattle.std.proofs.lemmas.List.Concat.{flat_map-append}
 use Rattle.std.proofs.lemmas.List.Sums.{sum_by-append}
-use Rattle.pg_spec.specs.Report as said
-use Rattle.pg_spec.specs.Report.{Answer, Items, Failed}
-use Rattle.pg_spec.specs.ReportText.{answer_items}
 use Rattle.pg_spec.specs.SimpleQuery.{Item, Columns, Row, Complete}
-use Rattle.pg_errors.specs.Views.{async_of}
-use Rattle.pg_text.specs.Views.{answer_of, booking_of, report_of}
+use Rattle.pg_text.specs.ReportText.{answer_items}
+use Rattle.pg_text.specs.Views.{item_of}
+use Rattle.pg_text.specs.declared.command.Answer.{Answer}
+use Rattle.pg_text.specs.declared.command.Answer.TheVariants.{Done, Failed, Messages}
 use Rattle.pg_text.specs.declared.report.Report.{Report}
 use Rattle.pg_gen.specs.Counting.{count_lines, link_lines, none, with_answer, with_item, with_script}
 use Rattle.pg_gen.specs.Summaries.{affected_by, answers_of, is_failed, is_row, items_of, number_line, saturated, summary_text}
@@ -69,7 +68,9 @@ Counted-append a b c xs ys h k =
     }
 
 one_answer : (c : Counts) (answer : Answer) → Counted c (with_answer c answer) (answer ∷ [])
-one_answer c (Items items) =
+one_answer c Done = record { commands = omega arith; failed = omega arith; messages = omega arith; rows = omega arith; complete = λ fits. omega arith }
+one_answer c (Messages messages) =
+    let items : List Item = map item_of messages in
     let h = all_items (record c { commands = c.commands + 1 }) items in
     let same : items ++ [] ≡ items = append-nil items in
     record {
@@ -119,14 +120,8 @@ lines_are c answers h =
     λ i. flat_map number_line (five (a i) (b i) (m i) (r i) (e i))
 
 -- the text of a summary: the lines on the answers, and those on what crossed the link
-pub summary_is : (r : Report) → count_lines (fold with_script none (map (map answer_of) r.answers)) ++ link_lines (length r.asynchronous) (length r.book) (length r.sent)
-    ≡ summary_text (report_of r)
+pub summary_is : (r : Report) → count_lines (fold with_script none r.answers) ++ link_lines (length r.asynchronous) (length r.book) (length r.sent) ≡ summary_text r
 summary_is r =
-    let s : said.Report = report_of r in
-    let link : link_lines (length r.asynchronous) (length r.book) (length r.sent) ≡ link_lines (length s.asynchronous) (length s.book) (length s.sent) =
-    ap (λ n. link_lines n (length r.book) (length r.sent)) (sym (length-map r.asynchronous async_of))
-    ∙ ap (λ n. link_lines (length s.asynchronous) n (length r.sent)) (sym (length-map r.book booking_of)) in
     ap (λ l. l ++ link_lines (length r.asynchronous) (length r.book) (length r.sent))
-    (lines_are (fold with_script none s.answers) (answers_of s) (all_scripts none s.answers))
-    ∙ ap (λ l. lines_on (answers_of s) ++ l) link
-    ∙ sym (flat_map-append number_line (counted (answers_of s)) (three (length s.asynchronous) (length s.book) (length s.sent)))
+    (lines_are (fold with_script none r.answers) (answers_of r) (all_scripts none r.answers))
+    ∙ sym (flat_map-append number_line (counted (answers_of r)) (three (length r.asynchronous) (length r.book) (length r.sent)))

@@ -1,15 +1,15 @@
 -- The parts of a generated session, one command more.
-use Rattle.std.proofs.Common.{◌≡◌, ℕ, suc, ◌+◌, ◌*◌, ◌%◌, ◌≤◌, Bool, true, false, cond, ◌==◌, List, [], ◌∷◌, ◌++◌, length, map, get_or, sym, ap, ◌∙◌, arith, append-nil, map-id, filter, eq-eqb, ne_eqb, Vec}
-use Rattle.std.specs.List.{range_with_len}
-use Rattle.std.proofs.lemmas.List.{get_or-map, length-map, map-append, map_push}
-use Rattle.std.proofs.lemmas.List.Elements.{filter-append}
+use Rattle.std.proofs.Common.{◌≡◌, ℕ, suc, ◌+◌, ◌*◌, ◌%◌, ◌^◌, ◌≤◌, ◌<◌, Bool, true, false, cond, ◌==◌, List, [], ◌∷◌, ◌++◌, length, map, sym, ap, subst, ◌∙◌, arith, append-nil, map-id, filter, eq-eqb, ne_eqb, Vec}
+use Rattle.std.specs.List.{AllByRecursion, range_with_len}
+use Rattle.std.proofs.lemmas.List.{length-map, map-append, map_push}
+use Rattle.std.proofs.lemmas.List.Elements.{All-from_recursion, filter-append}
 use Rattle.std.proofs.lemmas.List.FromFn.{length-range_with_len, map-range_with_len_more}
 use Rattle.std.proofs.lemmas.List.Sums.{count_by-le-length, length-filter}
 use Rattle.pg_spec.specs.RawMessages.{RawMessage}
 use Rattle.pg_spec.specs.Report as said
 use Rattle.pg_wire.specs.Giving.{lists}
 use Rattle.pg_text.specs.Scripts.{AreShort}
-use Rattle.pg_text.specs.Views.{command_of, scripts_of}
+use Rattle.pg_text.specs.Views.{as_command, as_scripts}
 use Rattle.pg_text.specs.declared.command.Command.{Command}
 use Rattle.pg_gen.specs.Draws.{draw, drawn, next_number, number_after}
 use Rattle.pg_gen.specs.Generated.{command, is_notified, opening, replies, reply, rows_of, script}
@@ -40,13 +40,14 @@ script_yes handle n mine = script_more handle n ∙ ap (with_next handle n) mine
 pub script_no : (handle n : ℕ) → (n % 8 == handle) ≡ false → script (n + 1) handle ≡ script n handle
 script_no handle n mine = script_more handle n ∙ ap (with_next handle n) mine ∙ append-nil (script n handle)
 
-pub commands_yes : (handle n : ℕ) (old new : List Command) (c : Command) → n % 8 ≡ handle → map command_of old ≡ script n handle →
-    new ≡ old ++ c ∷ [] → command_of c ≡ command n → map command_of new ≡ script (n + 1) handle
+pub commands_yes : (handle n : ℕ) (old new : List Command) (c : Command) → n % 8 ≡ handle → old ≡ map as_command (script n handle) →
+    new ≡ old ++ c ∷ [] → c ≡ as_command (command n) → new ≡ map as_command (script (n + 1) handle)
 commands_yes handle n old new c mine before pushed is =
-    ap (map command_of) pushed ∙ map_push command_of old c ∙ (λ i. before i ++ is i ∷ []) ∙ sym (script_yes handle n (eq-eqb (n % 8) handle mine))
+    pushed ∙ (λ i. before i ++ is i ∷ []) ∙ sym (map_push as_command (script n handle) (command n))
+    ∙ ap (map as_command) (sym (script_yes handle n (eq-eqb (n % 8) handle mine)))
 
-pub commands_no : (handle n : ℕ) (old new : List Command) → (n % 8 ≡ handle → ⊥) → map command_of old ≡ script n handle → new ≡ old → map command_of new ≡ script (n + 1) handle
-commands_no handle n old new other before same = ap (map command_of) same ∙ before ∙ sym (script_no handle n (ne_eqb (n % 8) handle other))
+pub commands_no : (handle n : ℕ) (old new : List Command) → (n % 8 ≡ handle → ⊥) → old ≡ map as_command (script n handle) → new ≡ old → new ≡ map as_command (script (n + 1) handle)
+commands_no handle n old new other before same = same ∙ before ∙ ap (map as_command) (sym (script_no handle n (ne_eqb (n % 8) handle other)))
 
 -- it has no more commands than there are
 pub script_short : (n handle : ℕ) → length (script n handle) ≤ n
@@ -55,24 +56,24 @@ script_short n handle =
     omega (arith, length-map (filter mine (range_with_len 0 n)) command, length-filter mine (range_with_len 0 n), count_by-le-length mine (range_with_len 0 n), length-range_with_len 0 n)
 
 -- a script more
-pub scripts_more : (n handle : ℕ) (old new : List (List Command)) (commands : List Command) → scripts_of old ≡ map (script n) (range_with_len 0 handle) →
-    new ≡ old ++ commands ∷ [] → map command_of commands ≡ script n handle → scripts_of new ≡ map (script n) (range_with_len 0 (handle + 1))
+pub scripts_more : (n handle : ℕ) (old new : List (List Command)) (commands : List Command) → old ≡ as_scripts (map (script n) (range_with_len 0 handle)) →
+    new ≡ old ++ commands ∷ [] → commands ≡ map as_command (script n handle) → new ≡ as_scripts (map (script n) (range_with_len 0 (handle + 1)))
 scripts_more n handle old new commands before pushed is =
-    ap scripts_of pushed ∙ map_push (map command_of) old commands ∙ (λ i. before i ++ is i ∷ []) ∙ sym (map-range_with_len_more (script n) 0 handle handle (omega arith))
+    pushed ∙ (λ i. before i ++ is i ∷ []) ∙ sym (map_push (map as_command) (map (script n) (range_with_len 0 handle)) (script n handle))
+    ∙ ap as_scripts (sym (map-range_with_len_more (script n) 0 handle handle (omega arith)))
 
--- scripts are as short as those that they stand for
-pub short_from : (n : ℕ) (scripts : List (List Command)) → n ≤ 100000 → scripts_of scripts ≡ map (script n) (range_with_len 0 8) → AreShort scripts
-short_from n scripts few e k d lt =
-    let at : get_or (scripts_of scripts) k (map command_of d) ≡ map command_of (get_or scripts k d) = get_or-map (map command_of) scripts k d (map command_of d) lt in
-    let eight : length scripts ≡ 8 = sym (length-map scripts (map command_of)) ∙ ap length e in
-    let there : get_or (scripts_of scripts) k (map command_of d) ≡ script n (get_or (range_with_len 0 8) k 0) =
-    ap (λ l. get_or l k (map command_of d)) e ∙ get_or-map (script n) (range_with_len 0 8) k 0 (map command_of d) (omega (arith, eight, lt)) in
-    let same : length (get_or scripts k d) ≡ length (script n (get_or (range_with_len 0 8) k 0)) =
-    sym (length-map (get_or scripts k d) command_of) ∙ ap length (sym at ∙ there) in
-    omega (arith, same, script_short n (get_or (range_with_len 0 8) k 0), few)
+-- each is short
+short-each : (n : ℕ) → n ≤ 100000 → (handles : List ℕ) → AllByRecursion (λ script. length script < 2 ^ 32) (as_scripts (map (script n) handles))
+short-each n few [] = tt
+short-each n few (handle ∷ handles) = (let same = length-map (script n handle) as_command in let short = script_short n handle in omega (arith, same, short, few), short-each n few handles)
 
-pub eight_from : (n : ℕ) (scripts : List (List Command)) → scripts_of scripts ≡ map (script n) (range_with_len 0 8) → length scripts ≡ 8
-eight_from n scripts e = sym (length-map scripts (map command_of)) ∙ ap length e
+pub short_from : (n : ℕ) (scripts : List (List Command)) → n ≤ 100000 → scripts ≡ as_scripts (map (script n) (range_with_len 0 8)) → AreShort scripts
+short_from n scripts few e =
+    subst (λ (x : List (List Command)). AreShort x) (sym e)
+    (All-from_recursion (λ script. length script < 2 ^ 32) (as_scripts (map (script n) (range_with_len 0 8))) (short-each n few (range_with_len 0 8)))
+
+pub eight_from : (n : ℕ) (scripts : List (List Command)) → scripts ≡ as_scripts (map (script n) (range_with_len 0 8)) → length scripts ≡ 8
+eight_from n scripts e = ap (λ (x : List (List Command)). length x) e
 
 -- ---- the plan
 

@@ -1,7 +1,9 @@
 -- What answers come to, one after another.
-use Rattle.std.specs.Prelude.{ℕ, ◌+◌, List, [], ◌∷◌, flat_map, fold, codes}
-use Rattle.pg_spec.specs.Report.{Answer, Items, Failed}
+use Rattle.std.specs.Prelude.{ℕ, ◌+◌, List, [], ◌∷◌, flat_map, fold, map, codes}
 use Rattle.pg_spec.specs.SimpleQuery.{Item, Columns, Row, Complete}
+use Rattle.pg_text.specs.Views.{item_of}
+use Rattle.pg_text.specs.declared.command.Answer.{Answer}
+use Rattle.pg_text.specs.declared.command.Answer.TheVariants.{Done, Failed, Messages}
 use Rattle.pg_gen.specs.Summaries.{number_line, saturated}
 use Rattle.pg_gen.specs.declared.counts.Counts.{Counts}
 
@@ -13,7 +15,8 @@ with_item c (Complete affected) = record c { messages = c.messages + 1; complete
 
 -- with one more answer
 abbrev pub with_answer : Counts → Answer → Counts
-with_answer c (Items items) = fold with_item (record c { commands = c.commands + 1 }) items
+with_answer c Done = record c { commands = c.commands + 1 }
+with_answer c (Messages messages) = fold with_item (record c { commands = c.commands + 1 }) (map item_of messages)
 with_answer c (Failed failure) = record c { commands = c.commands + 1; failed = c.failed + 1 }
 
 -- with the answers of a script

@@ -1,10 +1,13 @@
 -- A worked session, and what a report on it comes to.
 use Rattle.std.specs.Prelude.{ℕ, List, [], ◌∷◌, Some, None, codes, pos}
 use Rattle.pg_spec.specs.Examples.{accepted, hex}
-use Rattle.pg_spec.specs.Book.{Booking}
-use Rattle.pg_spec.specs.Report.{Command, Simple, Items, Notification, Report}
-use Rattle.pg_spec.specs.SimpleQuery.{Columns, Row, Complete}
+use Rattle.pg_spec.specs.Report.{Command, Simple}
 use Rattle.pg_spec.specs.Stamps.{stamped}
+use Rattle.pg_desk.specs.declared.event.Booking.{Booking}
+use Rattle.pg_errors.specs.declared.async_message.AsyncMessage.TheVariants.{Notification}
+use Rattle.pg_query.specs.declared.simple_message.SimpleMessage.TheVariants.{Columns, Row, Complete}
+use Rattle.pg_text.specs.declared.command.Answer.TheVariants.{Messages}
+use Rattle.pg_text.specs.declared.report.Report.{Report}
 
 -- the plan of two commands from the seed 0: a notification and no row, then a row
 abbrev pub two_replies : List (List ℕ)
@@ -25,9 +28,9 @@ booked owner query = record { stamp = stamped owner 0 0; parts = query ∷ [] }
 -- a report on it
 abbrev pub two_answered : Report
 two_answered = record {
-  answers = (Items (Columns (codes "v" ∷ []) ∷ Complete 0 ∷ []) ∷ [])
-      ∷ (Items (Columns (codes "v" ∷ []) ∷ Row (Some (codes "1") ∷ []) ∷ Complete 1 ∷ []) ∷ []) ∷ [] ∷ [] ∷ [] ∷ [] ∷ [] ∷ [] ∷ [];
-  asynchronous = Notification (pos 1) (codes "c") (codes "0") ∷ [];
+  answers = (Messages (Columns (codes "v" ∷ []) ∷ Complete 0 ∷ []) ∷ [])
+      ∷ (Messages (Columns (codes "v" ∷ []) ∷ Row (Some (codes "1") ∷ []) ∷ Complete 1 ∷ []) ∷ []) ∷ [] ∷ [] ∷ [] ∷ [] ∷ [] ∷ [] ∷ [];
+  asynchronous = Notification (record { process_id = pos 1; channel = codes "c"; payload = codes "0" }) ∷ [];
   parameters = [];
   process_id = pos 0;
   secret_key = pos 0;

@@ -1,8 +1,11 @@
 -- What a report comes to, in eight lines.
 use Rattle.std.specs.Prelude.{ℕ, ◌-◌, ◌^◌, min, Bool, true, false, List, [], ◌∷◌, length, flat_map, count_by, sum_by, codes, decimal}
-use Rattle.pg_spec.specs.Report.{Answer, Items, Failed, Report}
-use Rattle.pg_spec.specs.ReportText.{answer_items, line}
+use Rattle.pg_spec.specs.ReportText.{line}
 use Rattle.pg_spec.specs.SimpleQuery.{Item, Row, Complete}
+use Rattle.pg_text.specs.ReportText.{answer_items}
+use Rattle.pg_text.specs.declared.command.Answer.{Answer}
+use Rattle.pg_text.specs.declared.command.Answer.TheVariants.{Failed}
+use Rattle.pg_text.specs.declared.report.Report.{Report}
 
 -- the answers of all scripts
 abbrev pub answers_of : Report → List Answer
@@ -14,8 +17,8 @@ items_of answers = flat_map answer_items answers
 
 -- it failed
 abbrev pub is_failed : Answer → Bool
-is_failed (Items items) = false
-is_failed (Failed failure) = true
+is_failed (Failed e) = true
+is_failed other = false
 
 -- it is a row
 abbrev pub is_row : Item → Bool

@@ -1,7 +1,7 @@
 //! How much was answered.
 
 ghost use Rattle.std.specs.Prelude.{◌≡◌, ◌+◌, map, fold, IfOk};
-ghost use Rattle.pg_text.specs.Views.{answer_of, item_of};
+ghost use Rattle.pg_text.specs.Views.{item_of};
 ghost use Rattle.pg_gen.specs.Counting as spec;
 
 use pg_text::{Answer, SimpleMessage};
@@ -21,7 +21,7 @@ pub(crate) struct Counts {
 impl Counts {
     /// The counts of all scripts.
     pub(crate) fn of(scripts: &[List<Answer>]) -> Result<Counts, OutOfMemory>
-        ensures { IfOk result (λ c. c ≡ fold spec.with_script spec.none (map (map answer_of) scripts.now)) }
+        ensures { IfOk result (λ c. c ≡ fold spec.with_script spec.none scripts.now) }
     {
         let mut counts = Counts {
             commands: 0,
@@ -37,7 +37,7 @@ impl Counts {
     }
 
     fn with_script(self, answers: &[Answer]) -> Result<Counts, OutOfMemory>
-        ensures { IfOk result (λ c. c ≡ spec.with_script self (map answer_of answers.now)) }
+        ensures { IfOk result (λ c. c ≡ spec.with_script self answers.now) }
     {
         let mut counts = self;
         for answer in answers {
@@ -47,10 +47,11 @@ impl Counts {
     }
 
     fn with_answer(mut self, answer: &Answer) -> Result<Counts, OutOfMemory>
-        ensures { IfOk result (λ c. c ≡ spec.with_answer self (answer_of answer.now)) }
+        ensures { IfOk result (λ c. c ≡ spec.with_answer self answer.now) }
     {
         self.commands = one_more(self.commands)?;
         match answer {
+            Answer::Done => Ok(self),
             Answer::Messages(messages) => self.with_messages(messages.as_slice()),
             Answer::Failed(_) => {
                 self.failed = one_more(self.failed)?;

@@ -2,8 +2,8 @@
 
 ghost use Rattle.std.specs.Prelude.{◌≡◌, ◌≤◌, ◌+◌, map, IfOk};
 ghost use Rattle.std.specs.List.{range_with_len};
-ghost use Rattle.pg_text.specs.Sessions.{session_of, IsNew};
-ghost use Rattle.pg_text.specs.Views.{command_of, scripts_of};
+ghost use Rattle.pg_text.specs.Sessions.{as_session, session_of, IsNew};
+ghost use Rattle.pg_text.specs.Views.{as_command, as_scripts};
 ghost use Rattle.pg_wire.specs.Giving.{lists};
 ghost use Rattle.pg_gen.specs.Generated as spec;
 ghost use Rattle.pg_gen.specs.Generated.{IsCount};
@@ -34,7 +34,7 @@ const NONCE: &[u8] = b"abcdefghijklmnopqrstuvwx";
 /// The session of `n` commands, from 1 to 100,000, that this seed makes: the same at each call.
 pub fn gen_session(alloc: Global, n: u32, seed: u32) -> Result<Session, OutOfMemory>
     requires { IsCount n }
-    ensures session { IfOk result (λ s. session_of s ≡ spec.generated n seed) }
+    ensures session { IfOk result (λ s. session_of s ≡ as_session (spec.generated n seed)) }
     ensures new_link { IfOk result (λ s. IsNew s) }
 {
     let config = Text::from_str(alloc, "user=a")?;
@@ -57,7 +57,7 @@ pub fn gen_session(alloc: Global, n: u32, seed: u32) -> Result<Session, OutOfMem
 /// The scripts, each of every eighth command.
 fn new_scripts(alloc: Global, n: u32) -> Result<Vec<List<Command>>, OutOfMemory>
     requires { n ≤ 100000 }
-    ensures scripts { IfOk result (λ scripts. scripts_of scripts.items ≡ map (spec.script n) (range_with_len 0 8)) }
+    ensures scripts { IfOk result (λ scripts. scripts.items ≡ as_scripts (map (spec.script n) (range_with_len 0 8))) }
 {
     let mut scripts = Vec::with_capacity(alloc, SCRIPTS as usize)?;
     for handle in 0..SCRIPTS {
@@ -69,7 +69,7 @@ fn new_scripts(alloc: Global, n: u32) -> Result<Vec<List<Command>>, OutOfMemory>
 /// The commands whose numbers leave this remainder.
 fn new_script(alloc: Global, n: u32, handle: u32) -> Result<List<Command>, OutOfMemory>
     requires { n ≤ 100000 }
-    ensures { IfOk result (λ script. map command_of script ≡ spec.script n handle) }
+    ensures { IfOk result (λ script. script ≡ map as_command (spec.script n handle)) }
 {
     let mut script = Vec::with_capacity(alloc, (n / SCRIPTS) as usize + 1)?;
     for i in 0..n {
@@ -82,7 +82,7 @@ fn new_script(alloc: Global, n: u32, handle: u32) -> Result<List<Command>, OutOf
 
 /// A simple query of `q` and the command's number.
 fn new_command(alloc: Global, i: u32) -> Result<Command, OutOfMemory>
-    ensures { IfOk result (λ command. command_of command ≡ spec.command i) }
+    ensures { IfOk result (λ command. command ≡ as_command (spec.command i)) }
 {
     let text = format!(in alloc; "q{i}")?;
     Ok(Command::Simple {

@@ -2,7 +2,6 @@
 
 ghost use Rattle.std.specs.Prelude.{◌≡◌, ◌∷◌, [], length, decimal, IfOk};
 ghost use Rattle.pg_spec.specs.ReportText.{line};
-ghost use Rattle.pg_text.specs.Views.{report_of};
 ghost use Rattle.pg_text.specs.Written.{Adds};
 ghost use Rattle.pg_gen.specs.Counting.{count_lines, link_lines};
 ghost use Rattle.pg_gen.specs.Summaries as spec;
@@ -17,7 +16,7 @@ use std::alloc::Global;
 /// of the affected rows, which stays at 18,446,744,073,709,551,615 where it would pass it; the
 /// asynchronous messages; the requests; the bytes that were sent.
 pub fn summary_text(alloc: Global, report: &Report) -> Result<Blob, OutOfMemory>
-    ensures { IfOk result (λ b. b ≡ spec.summary_text (report_of report.now)) }
+    ensures { IfOk result (λ b. b ≡ spec.summary_text report.now) }
 {
     let counts = Counts::of(report.answers.as_slice())?;
     let mut out = String::new(alloc);

@@ -7,11 +7,10 @@ use Rattle.std.proofs.lemmas.List.{map-append}
 use Rattle.std.proofs.lemmas.List.Concat.{flat_map-append}
 use Rattle.std.proofs.lemmas.List.Folds.{list_any-append}
 use Rattle.std.proofs.Math.Bool.{or-false, or-true}
-use Rattle.pg_spec.specs.Report.{Command}
-use Rattle.pg_spec.specs.SessionText.{ConfigLine, CutLine, CommandLine, EndLine, HandleLine, LimitLine, Line, NonceLine, Nothing, StepLine, TurnsLine, command_of, config_of, cut_of, default_nonce, is_end, is_handle, is_said, limit_of, nonce_of, step_of, turns_of, one_or, Say, SessionText}
-use Rattle.pg_text.specs.declared.command.Command as asked
+use Rattle.pg_text.specs.declared.command.Command.{Command}
+use Rattle.pg_spec.specs.SessionText.{default_nonce, one_or}
+use Rattle.pg_text.specs.SessionText.{ConfigLine, CutLine, CommandLine, EndLine, HandleLine, LimitLine, Line, NonceLine, Nothing, StepLine, TurnsLine, command_of, config_of, cut_of, is_end, is_handle, is_said, limit_of, nonce_of, step_of, turns_of, Say, SessionText}
 use Rattle.pg_text.specs.declared.parse.Draft.{Draft}
-use Rattle.pg_text.specs.Views.{command_of as view_of, scripts_of}
 use Rattle.pg_text.specs.Drafts.{AddsLast, Steps, so_far, SoFar, begun, in_script, once, onto_last, session_so_far, with_line}
 
 -- no line has said anything
@@ -467,20 +466,15 @@ pushed_last c xs last pushed (suc n) stands some len is holds grew =
 
 -- ---- commands as the program holds them
 
-map_last : (c : asked.Command) (scripts : List (List asked.Command)) → scripts_of (onto_last c scripts) ≡ onto_last (view_of c) (scripts_of scripts)
-map_last c [] = refl
-map_last c (part ∷ []) = ap (λ p. p ∷ []) (map-append view_of part (c ∷ []))
-map_last c (part ∷ next ∷ parts) = ap (λ ps. map view_of part ∷ ps) (map_last c (next ∷ parts))
-
-pub command_steps : (old new : Draft) (text : List ℕ) (c : asked.Command) (stands : Bool) → old.config ≡ Some text →
+pub command_steps : (old new : Draft) (text : List ℕ) (c : Command) (stands : Bool) → old.config ≡ Some text →
     new.config ≡ old.config → new.nonce ≡ old.nonce → new.limit ≡ old.limit → new.cut ≡ old.cut → new.ends ≡ old.ends → new.turns ≡ old.turns → new.plan ≡ old.plan →
-    AddsLast c old.scripts.items stands new.scripts.items → Steps (with_line (CommandLine (view_of c)) (so_far old)) stands (so_far new)
+    AddsLast c old.scripts.items stands new.scripts.items → Steps (with_line (CommandLine c) (so_far old)) stands (so_far new)
 command_steps old new text c false is config nonce limit cut ends turns plan added =
-    begun_is old.config text (in_script (scripts_of old.scripts.items) (Some (record (so_far old) { scripts = onto_last (view_of c) (scripts_of old.scripts.items) }))) is
-    ∙ ap (λ x. in_script (scripts_of x) (Some (record (so_far old) { scripts = onto_last (view_of c) (scripts_of old.scripts.items) }))) added.0
+    begun_is old.config text (in_script old.scripts.items (Some (record (so_far old) { scripts = onto_last c old.scripts.items }))) is
+    ∙ ap (λ x. in_script x (Some (record (so_far old) { scripts = onto_last c old.scripts.items }))) added.0
 command_steps old new text c true is config nonce limit cut ends turns plan (first, more, some, grown) =
-    begun_is old.config text (in_script (scripts_of old.scripts.items) (Some (record (so_far old) { scripts = onto_last (view_of c) (scripts_of old.scripts.items) }))) is
-    ∙ ap (λ x. in_script (scripts_of x) (Some (record (so_far old) { scripts = onto_last (view_of c) (scripts_of old.scripts.items) }))) some
+    begun_is old.config text (in_script old.scripts.items (Some (record (so_far old) { scripts = onto_last c old.scripts.items }))) is
+    ∙ ap (λ x. in_script x (Some (record (so_far old) { scripts = onto_last c old.scripts.items }))) some
     ∙ (λ i. Some (record {
       config = sym config i;
       nonce = sym nonce i;
@@ -489,7 +483,7 @@ command_steps old new text c true is config nonce limit cut ends turns plan (fir
       ends = sym ends i;
       turns = (sym turns i).items;
       plan = map (λ entry. entry.items) (sym plan i).items;
-      scripts = (sym (map_last c old.scripts.items) ∙ ap scripts_of (sym grown)) i;
+      scripts = sym grown i;
     }))
 
 last_within : {A : Type 0} (c : A) (n : ℕ) (lists : List (List A)) → All (λ list. length list ≤ n) lists → All (λ list. length list ≤ n + 1) (onto_last c lists)

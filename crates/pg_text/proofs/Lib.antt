@@ -6,3 +6,5 @@ pub mod LineLaws
 pub mod DraftLaws
 pub mod TextLaws
 pub mod ReadLaws
+pub mod SimpleReports
+pub mod SimpleTexts

@@ -4,14 +4,14 @@ use Rattle.std.specs.Prelude.{IsUtf8, is_none, cond, not, ◌&&◌, ◌==◌}
 use Rattle.std.specs.List.{AllZip, concat, join_with_byte, list_all}
 use Rattle.std.proofs.lemmas.Bool.{eqb-false}
 use Rattle.std.proofs.lemmas.List.Concat.{flat_map-append}
-use Rattle.pg_spec.specs.Report as command
-use Rattle.pg_spec.specs.SessionText as said
-use Rattle.pg_spec.specs.SessionText.{IsBytes, IsNumber, IsQuoted, Spells}
+use Rattle.pg_text.specs.SessionText as said
+use Rattle.pg_spec.specs.SessionText.{IsBytes, IsNumber, IsQuoted}
+use Rattle.pg_text.specs.SessionText.{Spells}
 use Rattle.pg_text.specs.declared.line.Keyword.{Keyword}
-use Rattle.pg_text.specs.declared.line.Keyword.TheVariants.{Config, Nonce, Limit, Turns, Handle, Step, Cut, End, Simple}
+use Rattle.pg_text.specs.declared.line.Keyword.TheVariants.{Config, Nonce, Limit, Turns, Handle, Step, Cut, End, Simple, Batch, Check}
 use Rattle.pg_text.specs.declared.line.Line.{Line}
 use Rattle.pg_text.specs.declared.line.Line.TheVariants as line
-use Rattle.pg_text.specs.declared.command.Command.TheVariants as asked
+use Rattle.pg_text.specs.declared.command.Command.TheVariants as command
 use Rattle.pg_text.specs.Lines.{first_word, ReadsLine, ReadsRest, SaysSomething, WordsOf}
 use Rattle.pg_text.specs.Words.{AllWords, behind, IsTextOf, IsUtf8Quoted, IsWord, left_text, NoSpace, OneWord, Takes, TakesNumber, TookAll}
 use Rattle.pg_text.proofs.WordLaws.{Ends, bytes_ends, number_ends, quoted_ends, word_ends}
@@ -173,13 +173,13 @@ simple_none old new none l words (text, word, utf8, quoted, inr (n, number, is, 
     no_word IsUtf8Quoted old new none text word (codes "take" ∷ number ∷ []) (utf8, quoted) (e ∙ ap behind same)
 
 pub simple_alone : (old new : Option (List ℕ)) (text : List ℕ) → Takes IsUtf8Quoted old (Some text) new → is_none new ≡ true →
-    ReadsRest Simple old (Some (line.Command (asked.Simple text None)))
+    ReadsRest Simple old (Some (line.Command (command.Simple text None)))
 simple_alone old new text taken done =
     let one = only_one IsUtf8Quoted old new (Some text) taken done in
     (said.CommandLine (command.Simple text None), one.0 ∷ [], (text, one.0, one.1.0, one.1.1, inl (refl, refl)), one.2, refl)
 
 pub simple_take : (old new : Option (List ℕ)) (text : List ℕ) (n : ℕ) → Takes IsUtf8Quoted old (Some text) new → TakesNumber new (Some n) →
-    ReadsRest Simple old (Some (line.Command (asked.Simple text (Some n))))
+    ReadsRest Simple old (Some (line.Command (command.Simple text (Some n))))
 simple_take old new text n taken (number, digits, e) = (
   said.CommandLine (command.Simple text (Some n)),
   taken.0 ∷ codes "take" ∷ number ∷ [],
@@ -193,6 +193,12 @@ simple_refused old new text taken more none l words (text', word, utf8, quoted, 
     some_left new more (after_word IsUtf8Quoted utf8_ends old new text taken text' word [] (utf8, quoted) (e ∙ ap behind same)).1
 simple_refused old new text taken more none l words (text', word, utf8, quoted, inr (n, number, is, digits, same)) e =
     none n number digits (after_word IsUtf8Quoted utf8_ends old new text taken text' word (codes "take" ∷ number ∷ []) (utf8, quoted) (e ∙ ap behind same)).1
+
+pub batch_some : (old : Option (List ℕ)) (text : List ℕ) → OneWord IsUtf8Quoted old (Some text) → ReadsRest Batch old (Some (line.Command (command.Batch text)))
+batch_some old text (word, is, e) = (said.CommandLine (command.Batch text), word ∷ [], (text, word, refl, is.0, is.1, refl), e, refl)
+
+pub batch_none : (old : Option (List ℕ)) → OneWord IsUtf8Quoted old None → ReadsRest Batch old None
+batch_none old none l words (text, word, is, utf8, quoted, same) e = none text word (utf8, quoted) (e ∙ ap behind same)
 
 -- ---- spelled lines
 
@@ -223,6 +229,9 @@ spelled_words (said.CommandLine (command.Simple text (Some n))) s (utf8, word, n
       (text, word, utf8, quoted, inr (n, number, refl, digits, refl)),
       e ∙ join_words (codes "simple") (word ∷ codes "take" ∷ number ∷ []),
     )
+spelled_words (said.CommandLine (command.Batch text)) s (utf8, word, quoted, e) =
+    inr (Batch, word ∷ [], (text, word, refl, utf8, quoted, refl), e ∙ join_words (codes "batch") (word ∷ []))
+spelled_words (said.CommandLine command.Check) s h = inr (Check, [], (refl, refl), h)
 
 pub words_spell : (keyword : Keyword) (l : said.Line) (words : List (List ℕ)) (s : List ℕ) → WordsOf keyword l words → s ≡ first_word keyword ++ behind words → Spells l s
 words_spell Config l words s (text, word, is, utf8, quoted, same) e =
@@ -243,6 +252,9 @@ words_spell Simple l words s (text, word, utf8, quoted, inl (is, same)) e =
     subst (λ (m : said.Line). Spells m s) (sym is) (utf8, word, quoted, e ∙ sym (join_words (codes "simple") words) ∙ ap (λ w. join_with_byte 32 (codes "simple" ∷ w)) same)
 words_spell Simple l words s (text, word, utf8, quoted, inr (n, number, is, digits, same)) e =
     subst (λ (m : said.Line). Spells m s) (sym is) (utf8, word, number, quoted, digits, e ∙ sym (join_words (codes "simple") words) ∙ ap (λ w. join_with_byte 32 (codes "simple" ∷ w)) same)
+words_spell Batch l words s (text, word, is, utf8, quoted, same) e =
+    subst (λ (m : said.Line). Spells m s) (sym is) (utf8, word, quoted, e ∙ sym (join_words (codes "batch") words) ∙ ap (λ w. join_with_byte 32 (codes "batch" ∷ w)) same)
+words_spell Check l words s (is, same) e = subst (λ (m : said.Line). Spells m s) (sym is) (e ∙ ap (λ w. codes "check" ++ behind w) same)
 
 no_space_from : (w : List ℕ) → list_all (λ b. not (b == 32)) w ≡ true → NoSpace w
 no_space_from [] e = tt
@@ -262,13 +274,16 @@ first_no_space Step = no_space_from (first_word Step) refl
 first_no_space Cut = no_space_from (first_word Cut) refl
 first_no_space End = no_space_from (first_word End) refl
 first_no_space Simple = no_space_from (first_word Simple) refl
+first_no_space Batch = no_space_from (first_word Batch) refl
+first_no_space Check = no_space_from (first_word Check) refl
 
 -- the line that a word begins, told by two letters
 keyword_at : List ℕ → Keyword
 keyword_at [] = Config
 keyword_at (a ∷ []) = Config
 keyword_at (a ∷ b ∷ w) =
-    cond (a == 99) (cond (b == 111) Config Cut) (cond (a == 110) Nonce (cond (a == 108) Limit (cond (a == 116) Turns (cond (a == 104) Handle (cond (a == 101) End (cond (b == 116) Step Simple))))))
+    cond (a == 99) (cond (b == 111) Config (cond (b == 104) Check Cut))
+    (cond (a == 110) Nonce (cond (a == 108) Limit (cond (a == 116) Turns (cond (a == 104) Handle (cond (a == 101) End (cond (a == 98) Batch (cond (b == 116) Step Simple)))))))
 
 keyword_at-first_word : (keyword : Keyword) → keyword_at (first_word keyword) ≡ keyword
 unfolding keyword_at
@@ -281,6 +296,8 @@ keyword_at-first_word Step = refl
 keyword_at-first_word Cut = refl
 keyword_at-first_word End = refl
 keyword_at-first_word Simple = refl
+keyword_at-first_word Batch = refl
+keyword_at-first_word Check = refl
 
 same_keyword : (a b : Keyword) → first_word a ≡ first_word b → a ≡ b
 same_keyword a b e = sym (keyword_at-first_word a) ∙ ap keyword_at e ∙ keyword_at-first_word b
@@ -378,6 +395,9 @@ same_words Simple l m ws vs (t, w, utf8, quoted, inr (n, number, p, digits, a)) 
     let second = first_of IsWord word_kind_ends (codes "take") (codes "take") (codes "take") (codes "take") (number ∷ []) (other ∷ []) (refl, take_no_space) (refl, take_no_space) first.1 in
     let third = first_of (IsNumber 18446744073709551615) (number_ends 18446744073709551615) n k number other [] [] digits digits' second.1 in
     p ∙ (λ i. said.CommandLine (command.Simple (first.0 i) (Some (third.0 i)))) ∙ sym q
+same_words Batch l m ws vs (t, w, p, utf8, quoted, a) (u, v, q, utf8', quoted', b) e =
+    p ∙ ap (λ x. said.CommandLine (command.Batch x)) (first_of IsQuoted quoted_ends t u w v [] [] quoted quoted' (ap behind (sym a) ∙ e ∙ ap behind b)).0 ∙ sym q
+same_words Check l m ws vs p q e = p.0 ∙ sym q.0
 
 word_says : (keyword : Keyword) (t : List ℕ) → SaysSomething (first_word keyword ++ t)
 word_says Config t = eqb-false 99 35 refl
@@ -389,6 +409,8 @@ word_says Step t = eqb-false 115 35 refl
 word_says Cut t = eqb-false 99 35 refl
 word_says End t = eqb-false 101 35 refl
 word_says Simple t = eqb-false 115 35 refl
+word_says Batch t = eqb-false 98 35 refl
+word_says Check t = eqb-false 99 35 refl
 
 -- a line is spelled by at most one line
 pub one_line : (l m : said.Line) (s : List ℕ) → Spells l s → Spells m s → l ≡ m

@@ -1,12 +1,16 @@
 -- A text is read line by line.
-use Rattle.std.proofs.Common.{◌≡◌, ◌<◌, ◌≤◌, ◌+◌, ◌⊎◌, ℕ, false, true, List, [], ◌∷◌, ◌++◌, length, Option, Some, None, Result, Ok, Err, refl, sym, ap, subst, ◌∙◌, append_assoc, append-nil, inl, inr, arith, length-append}
+use Rattle.std.proofs.Common.{◌≡◌, ◌<◌, ◌≤◌, ◌+◌, ◌⊎◌, ℕ, Bool, false, true, List, [], ◌∷◌, ◌++◌, length, Option, Some, None, Result, Ok, Err, refl, sym, ap, subst, ◌∙◌, append_assoc, append-nil, inl, inr, arith, length-append}
 use Rattle.std.specs.Prelude.{filter_map, flat_map}
 use Rattle.std.specs.List.{AllZip, list_any, slice_split}
-use Rattle.pg_spec.specs.SessionText.{ConfigLine, cut_of, default_nonce, is_end, is_handle, limit_of, nonce_of, one_or, step_of, turns_of, AreLines, CanNotGoOn, IsRefusedAt, IsSessionText, Line, MayBegin, Say, SessionText, Spells}
+use Rattle.pg_spec.specs.SessionText.{default_nonce, one_or, AreLines}
+use Rattle.pg_text.specs.SessionText.{ConfigLine, cut_of, is_end, is_handle, limit_of, nonce_of, step_of, turns_of, CanNotGoOn, IsRefusedAt, IsSessionText, Line, MayBegin, Say, SessionText, Spells}
 use Rattle.pg_text.specs.declared.session.Session.{Session}
 use Rattle.pg_text.specs.declared.session.TextFault.{TextFault}
 use Rattle.pg_text.specs.declared.session.TextFault.TheVariants as fault
-use Rattle.pg_text.specs.Drafts.{IsEmpty, ReadsOn, SoFar, session_so_far}
+use Rattle.pg_text.specs.Drafts.{IsEmpty, ReadsOn, SoFar, Steps, session_so_far, with_entry, with_line, with_read}
+use Rattle.pg_text.specs.Lines.{ReadsLine, Stands}
+use Rattle.pg_text.specs.declared.line.Line as read
+use Rattle.pg_text.specs.declared.line.Line.TheVariants as line
 use Rattle.pg_text.specs.Scripts.{most_scripts}
 use Rattle.pg_text.specs.Sessions.{Finishes, ReadsText, session_of}
 use Rattle.pg_text.specs.Texts.{lines_of}
@@ -175,3 +179,23 @@ not_refused text before (next ∷ rest) s lines bad is =
 
 pub refused_is_none : (text : List ℕ) (n : ℕ) (s : SessionText) → IsRefusedAt text n → IsSessionText text s → ⊥
 refused_is_none text n s refused is = not_refused text refused.before refused.rest s refused.text_lines refused.bad is
+
+-- ---- a line that was read
+
+-- it says what the line says for which it stands
+says_so : (line : read.Line) (l : Line) (s : SoFar) → Stands line l → with_line l s ≡ with_read line s
+says_so line.Nothing l s h = ap (λ m. with_line m s) h
+says_so (line.Config text) l s h = ap (λ m. with_line m s) h
+says_so (line.Nonce nonce) l s h = ap (λ m. with_line m s) h
+says_so (line.Limit n) l s h = ap (λ m. with_line m s) h
+says_so (line.Turns turns) l s h = ap (λ m. with_line m s) h
+says_so line.Handle l s h = ap (λ m. with_line m s) h
+says_so (line.Step entry) l s (pieces, is, joined) = ap (λ m. with_line m s) is ∙ ap (λ bytes. with_entry bytes s) (sym joined)
+says_so (line.Cut n) l s h = ap (λ m. with_line m s) h
+says_so line.End l s h = ap (λ m. with_line m s) h
+says_so (line.Command c) l s h = ap (λ m. with_line m s) h
+
+pub reads_on : (line : read.Line) (old : SoFar) (spelled : List ℕ) (stands : Bool) (new : SoFar) → ReadsLine spelled (Some line) → Steps (with_read line old) stands new →
+    ReadsOn old spelled stands new
+reads_on line old spelled true new (l, is, stood) next = (l, is, says_so line l old stood ∙ next)
+reads_on line old spelled false new (l, is, stood) next = λ m spells. ap (λ k. with_line k old) (one_line m l spelled spells is) ∙ says_so line l old stood ∙ next

@@ -1,12 +1,12 @@
 -- What the lines of a session text say so far.
 use Rattle.std.specs.Prelude.{◌≡◌, ◌<◌, ◌≤◌, ℕ, Bool, true, false, List, [], ◌∷◌, ◌++◌, length, map, Option, Some, None, IfSome, unwrap_or}
 use Rattle.std.specs.List.{All, concat}
-use Rattle.pg_spec.specs.Report.{Command}
-use Rattle.pg_spec.specs.SessionText.{ConfigLine, CutLine, CommandLine, EndLine, HandleLine, LimitLine, Line, NonceLine, Nothing, StepLine, TurnsLine, SessionText, Spells, default_nonce}
+use Rattle.pg_text.specs.declared.command.Command.{Command}
+use Rattle.pg_spec.specs.SessionText.{default_nonce}
+use Rattle.pg_text.specs.SessionText.{ConfigLine, CutLine, CommandLine, EndLine, HandleLine, LimitLine, Line, NonceLine, Nothing, StepLine, TurnsLine, SessionText, Spells}
 use Rattle.pg_text.specs.declared.line.Line as read
 use Rattle.pg_text.specs.declared.line.Line.TheVariants as line
 use Rattle.pg_text.specs.declared.parse.Draft.{Draft}
-use Rattle.pg_text.specs.Views.{command_of as asked, scripts_of}
 
 -- a cut is of at least one byte
 abbrev pub HasCut : read.Line → Type 0
@@ -39,7 +39,7 @@ so_far d = record {
   ends = d.ends;
   turns = d.turns.items;
   plan = map (λ entry. entry.items) d.plan.items;
-  scripts = scripts_of d.scripts.items;
+  scripts = d.scripts.items;
 }
 
 -- a command behind those of the last script, if there is one
@@ -91,7 +91,7 @@ with_read line.End s = with_line EndLine s
 with_read (line.Turns turns) s = with_line (TurnsLine turns.items) s
 with_read (line.Step entry) s = with_entry entry.items s
 with_read line.Handle s = with_line HandleLine s
-with_read (line.Command command) s = with_line (CommandLine (asked command)) s
+with_read (line.Command command) s = with_line (CommandLine command) s
 
 -- what is said next, or nothing where it may not be said
 abbrev pub Steps : Option SoFar → Bool → SoFar → Type 0

@@ -1,8 +1,10 @@
+pub mod SessionText
 pub mod Drafts
 pub mod Scripts
 pub mod Words
 pub mod Lines
 pub mod Views
+pub mod ReportText
 pub mod Written
 pub mod Quotes
 pub mod Laws

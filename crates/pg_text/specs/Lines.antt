@@ -1,14 +1,14 @@
 -- The lines of a session text, told by their first words.
 use Rattle.std.specs.Prelude.{◌≡◌, ◌≢◌, ◌≤◌, ◌⊎◌, ℕ, List, [], ◌∷◌, Option, Some, None, IsUtf8, codes}
 use Rattle.std.specs.List.{AllZip, concat}
-use Rattle.pg_spec.specs.Report as command
-use Rattle.pg_spec.specs.SessionText as said
-use Rattle.pg_spec.specs.SessionText.{IsBytes, IsNumber, IsQuoted, Spells}
+use Rattle.pg_text.specs.declared.command.Command.TheVariants as command
+use Rattle.pg_text.specs.SessionText as said
+use Rattle.pg_spec.specs.SessionText.{IsBytes, IsNumber, IsQuoted}
+use Rattle.pg_text.specs.SessionText.{Spells}
 use Rattle.pg_text.specs.declared.line.Keyword.{Keyword}
-use Rattle.pg_text.specs.declared.line.Keyword.TheVariants.{Config, Nonce, Limit, Turns, Handle, Step, Cut, End, Simple}
+use Rattle.pg_text.specs.declared.line.Keyword.TheVariants.{Config, Nonce, Limit, Turns, Handle, Step, Cut, End, Simple, Batch, Check}
 use Rattle.pg_text.specs.declared.line.Line.{Line}
 use Rattle.pg_text.specs.declared.line.Line.TheVariants as line
-use Rattle.pg_text.specs.Views.{command_of}
 use Rattle.pg_text.specs.Words.{behind, left_text}
 
 -- the first word of such a line
@@ -22,6 +22,8 @@ first_word Step = codes "step"
 first_word Cut = codes "cut"
 first_word End = codes "end"
 first_word Simple = codes "simple"
+first_word Batch = codes "batch"
+first_word Check = codes "check"
 
 -- the word begins this line, or none
 abbrev pub FirstWord : List ℕ → Option Keyword → Type 0
@@ -39,7 +41,7 @@ Stands line.Handle l = l ≡ said.HandleLine
 Stands (line.Step entry) l = (pieces : List (List ℕ)) × (l ≡ said.StepLine pieces) × (entry.items ≡ concat pieces)
 Stands (line.Cut bytes) l = l ≡ said.CutLine bytes
 Stands line.End l = l ≡ said.EndLine
-Stands (line.Command c) l = l ≡ said.CommandLine (command_of c)
+Stands (line.Command c) l = l ≡ said.CommandLine c
 
 -- the words behind the first one of a line
 abbrev pub WordsOf : Keyword → said.Line → List (List ℕ) → Type 0
@@ -55,6 +57,8 @@ WordsOf Simple l words = (text : List ℕ) × (word : List ℕ) × IsUtf8 text �
     (((l ≡ said.CommandLine (command.Simple text None)) × (words ≡ word ∷ []))
     ⊎ ((n : ℕ) × (number : List ℕ) × (l ≡ said.CommandLine (command.Simple text (Some n))) × IsNumber 18446744073709551615 n number
     × (words ≡ word ∷ codes "take" ∷ number ∷ [])))
+WordsOf Batch l words = (text : List ℕ) × (word : List ℕ) × (l ≡ said.CommandLine (command.Batch text)) × IsUtf8 text × IsQuoted text word × (words ≡ word ∷ [])
+WordsOf Check l words = (l ≡ said.CommandLine command.Check) × (words ≡ [])
 
 -- behind the first word a line goes on so; None: there is no such line
 abbrev pub ReadsRest : Keyword → Option (List ℕ) → Option Line → Type 0

@@ -1,24 +1,38 @@
 -- What a session that was read asks for.
 use Rattle.std.specs.Prelude.{◌≡◌, ◌<◌, ◌≤◌, ◌⊎◌, ℕ, false, List, [], length, Some, None, Result, Ok, Err}
-use Rattle.pg_spec.specs.SessionText.{IsRefusedAt, IsSessionText, SessionText}
+use Rattle.pg_spec.specs.SessionText as said
+use Rattle.pg_text.specs.SessionText.{IsRefusedAt, IsSessionText, SessionText}
+use Rattle.pg_text.specs.Views.{as_scripts}
 use Rattle.pg_text.specs.declared.session.Session.{Session}
 use Rattle.pg_text.specs.declared.session.TextFault.{TextFault}
 use Rattle.pg_text.specs.declared.session.TextFault.TheVariants as fault
 use Rattle.pg_text.specs.Drafts.{SoFar, session_so_far}
 use Rattle.pg_text.specs.Scripts.{most_scripts}
-use Rattle.pg_text.specs.Views.{scripts_of}
 
 -- what a session asks for
 abbrev pub session_of : Session → SessionText
 session_of s = record {
   config = s.config;
   nonce = s.nonce;
-  scripts = scripts_of s.scripts;
+  scripts = s.scripts;
   turns = s.turns;
   limit = s.max_bytes;
   plan = s.link.entries;
   cut = s.link.cut;
   ends = s.link.ends;
+}
+
+-- a session of simple queries alone
+abbrev pub as_session : said.SessionText → SessionText
+as_session s = record {
+  config = s.config;
+  nonce = s.nonce;
+  scripts = as_scripts s.scripts;
+  turns = s.turns;
+  limit = s.limit;
+  plan = s.plan;
+  cut = s.cut;
+  ends = s.ends;
 }
 
 -- its link has given and taken nothing yet

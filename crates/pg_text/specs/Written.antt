@@ -3,14 +3,16 @@ use Rattle.std.specs.Prelude.{◌≡◌, ℕ, ℤ, List, [], ◌∷◌, ◌++◌
 use Rattle.std.specs.List.{enumerate_from, join_with_byte}
 use Rattle.pg_spec.specs.DbErrors.{DbError}
 use Rattle.hex.specs.Hex.{encode_lower}
-use Rattle.pg_spec.specs.Report.{Answer, Report}
-use Rattle.pg_spec.specs.ReportText.{line, signed, quoted, answer_items, answer_lines, answer_words, async_line, book_line, item_line, script_lines, turn_line}
+use Rattle.pg_spec.specs.ReportText.{line, signed, quoted, async_line, book_line, item_line, turn_line}
+use Rattle.pg_errors.specs.Views.{async_of}
 use Rattle.pg_errors.specs.declared.async_message.Notification.{Notification}
 use Rattle.pg_desk.specs.declared.event.Booking.{Booking}
 use Rattle.pg_spec.specs.declared.stamps.Stamp.{Stamp}
-use Rattle.pg_text.specs.declared.command.Answer as command
+use Rattle.pg_text.specs.declared.command.Answer.{Answer}
 use Rattle.pg_text.specs.declared.report.Pair.{Pair}
-use Rattle.pg_text.specs.Views.{answer_of, booking_of}
+use Rattle.pg_text.specs.declared.report.Report.{Report}
+use Rattle.pg_text.specs.ReportText.{answer_items, answer_lines, answer_words, script_lines}
+use Rattle.pg_text.specs.Views.{booking_of}
 
 -- where memory was enough, this piece stands behind what stood there
 abbrev pub Adds : {A E Z : Type 0} → (piece : List ℕ) → (old new : String Z) → Result A E → Type 0
@@ -33,12 +35,12 @@ abbrev pub words_behind : List (List ℕ) → List ℕ
 words_behind words = join_with_byte 32 ([] ∷ words)
 
 -- the lines of the answers of a handle, whose commands are counted from this number
-abbrev pub answers_from : ℕ → ℕ → List command.Answer → List ℕ
-answers_from handle command answers = flat_map (answer_lines handle) (enumerate_from command (map answer_of answers))
+abbrev pub answers_from : ℕ → ℕ → List Answer → List ℕ
+answers_from handle command answers = flat_map (answer_lines handle) (enumerate_from command answers)
 
 -- the lines of the answers of the handles, counted from this number
-abbrev pub scripts_from : ℕ → List (List command.Answer) → List ℕ
-scripts_from handle scripts = flat_map script_lines (enumerate_from handle (map (map answer_of) scripts))
+abbrev pub scripts_from : ℕ → List (List Answer) → List ℕ
+scripts_from handle scripts = flat_map script_lines (enumerate_from handle scripts)
 
 -- the lines of the requests, counted from this number
 abbrev pub book_from : ℕ → List Booking → List ℕ
@@ -56,14 +58,14 @@ process_line process_id secret_key = line (codes "process" ∷ signed process_id
 abbrev pub session_lines : Report → List ℕ
 session_lines r =
     process_line r.process_id r.secret_key
-    ++ flat_map (λ pair. line (codes "parameter" ∷ quoted pair.0 ∷ quoted pair.1 ∷ [])) r.parameters
-    ++ flat_map async_line r.asynchronous
+    ++ parameter_lines r.parameters
+    ++ flat_map async_line (map async_of r.asynchronous)
 
 -- what the scripts did, and what went over the link
 abbrev pub work_lines : Report → List ℕ
 work_lines r =
-    flat_map script_lines (enumerate_from 0 r.answers)
-    ++ flat_map book_line (enumerate_from 0 r.book)
+    scripts_from 0 r.answers
+    ++ book_from 0 r.book
     ++ flat_map turn_line r.trace
     ++ sent_line r.sent
 

@@ -14,7 +14,10 @@ mod session;
 mod word;
 
 pub use command::{Answer, Command};
-pub use laws::{one_line, one_session, refused_is_none};
+pub use laws::{
+    one_line, one_session, refused_is_none, simple_refusals_stay, simple_reports_print_so,
+    simple_texts_stay,
+};
 pub use parse::session_text;
 pub use pg_query::{Cells, SimpleMessage};
 pub use pg_spec::TurnMark;

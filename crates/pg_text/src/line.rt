@@ -73,6 +73,8 @@ enum Keyword {
     Cut,
     End,
     Simple,
+    Batch,
+    Check,
 }
 
 /// What line begins with this word.
@@ -106,6 +108,12 @@ fn keyword_of(word: &[u8]) -> Option<Keyword>
     if word == b"simple".as_slice() {
         return Some(Keyword::Simple);
     }
+    if word == b"batch".as_slice() {
+        return Some(Keyword::Batch);
+    }
+    if word == b"check".as_slice() {
+        return Some(Keyword::Check);
+    }
     None
 }
 
@@ -128,6 +136,8 @@ fn read_rest(
         Keyword::Cut => Ok(cut_line(words)),
         Keyword::End => Ok(end_line(words)),
         Keyword::Simple => simple_line(alloc, words),
+        Keyword::Batch => batch_line(alloc, words),
+        Keyword::Check => Ok(check_line(words)),
     }
 }
 
@@ -233,6 +243,27 @@ fn simple_line(alloc: Global, words: &mut Words) -> Result<Option<Line>, OutOfMe
             }
         }
         None => Ok(None),
+    }
+}
+
+fn batch_line(alloc: Global, words: &mut Words) -> Result<Option<Line>, OutOfMemory>
+    ensures line { IfOk result (λ found. ReadsRest first.Batch words.old found) }
+    ensures cut { IfOk result (λ found. IfSome found HasCut) }
+{
+    match only_text(alloc, words)? {
+        Some(text) => Ok(Some(Line::Command(Command::Batch { text }))),
+        None => Ok(None),
+    }
+}
+
+fn check_line(words: &Words) -> Option<Line>
+    ensures line { ReadsRest first.Check words.now result }
+    ensures cut { IfSome result HasCut }
+{
+    if words.is_done() {
+        Some(Line::Command(Command::Check))
+    } else {
+        None
     }
 }
 

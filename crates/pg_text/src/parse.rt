@@ -1,13 +1,12 @@
 //! The text of a session, line by line.
 
 ghost use Rattle.std.specs.Prelude.{◌≡◌, ◌<◌, ◌+◌, ◌-◌, ◌^◌, ◌∷◌, ◌++◌, [], ℕ, length, EachIndex, IfOk, IfSome, MatchOption, OnOk, ◌↔◌, ◌≢◌, slice_index, unwrap_or, true, false};
-ghost use Rattle.pg_spec.specs.SessionText as said;
+ghost use Rattle.pg_text.specs.SessionText as said;
 ghost use Rattle.pg_spec.specs.SessionText.{default_nonce};
 ghost use Rattle.pg_wire.specs.Giving.{lists};
 ghost use Rattle.pg_text.specs.Drafts.{AddsLast, HasCut, IsEmpty, IsWithin, ReadsOn, Steps, so_far, with_entry, with_line, with_read};
 ghost use Rattle.pg_text.specs.Sessions.{Finishes, ReadsText};
 ghost use Rattle.pg_text.specs.Texts.{lines_of};
-ghost use Rattle.pg_text.specs.Views.{command_of};
 
 use crate::command::Command;
 use crate::line::{Line, read_line};
@@ -250,7 +249,7 @@ impl Draft {
 
     /// Adds a command to the last script.
     fn add_command(&mut self, command: Command) -> Result<bool, OutOfMemory>
-        ensures steps { IfOk result (λ stands. Steps (with_line (said.CommandLine (command_of command)) (so_far self.old)) stands (so_far self.new)) }
+        ensures steps { IfOk result (λ stands. Steps (with_line (said.CommandLine command) (so_far self.old)) stands (so_far self.new)) }
         ensures within { (n : ℕ) → IsWithin n self.old → OnOk result (IsWithin (n + 1) self.new) }
     {
         match &self.config {

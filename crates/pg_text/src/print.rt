@@ -3,11 +3,11 @@
 ghost use Rattle.std.specs.Prelude.{◌≡◌, ◌++◌, ◌∷◌, [], map, flat_map, codes, decimal, IfOk};
 ghost use Rattle.std.specs.List.{concat, join_with_byte};
 ghost use Rattle.hex.specs.Hex.{encode_lower};
-ghost use Rattle.pg_spec.specs.Report as said;
 ghost use Rattle.pg_spec.specs.ReportText as spec;
 ghost use Rattle.pg_spec.specs.SimpleQuery as simple;
 ghost use Rattle.pg_errors.specs.Views.{async_of};
-ghost use Rattle.pg_text.specs.Views.{answer_of, booking_of, item_of, report_of};
+ghost use Rattle.pg_text.specs.ReportText as text;
+ghost use Rattle.pg_text.specs.Views.{booking_of, item_of};
 ghost use Rattle.pg_text.specs.Written as written;
 ghost use Rattle.pg_text.specs.Written.{Adds};
 
@@ -24,7 +24,7 @@ use std::alloc::Global;
 /// The text of a report.
 #[tactic(auto, unfolding(crate::specs::Written::process_line))]
 pub fn report_text(alloc: Global, report: &Report) -> Result<Blob, OutOfMemory>
-    ensures { IfOk result (λ b. b ≡ spec.report_text (report_of report.now)) }
+    ensures { IfOk result (λ b. b ≡ text.report_text report.now) }
 {
     let mut out = String::new(alloc);
     put(&mut out, "status ok\n")?;
@@ -46,7 +46,7 @@ pub fn error_text(alloc: Global, error: &Error) -> Result<Blob, OutOfMemory>
 
 /// What is said of the session as a whole.
 fn put_session(alloc: Global, out: &mut String, report: &Report) -> Result<(), OutOfMemory>
-    ensures { Adds (written.session_lines (report_of report.now)) out.old out.new result }
+    ensures { Adds (written.session_lines report.now) out.old out.new result }
 {
     put_process(alloc, out, report)?;
     put_parameters(alloc, out, report.parameters.as_slice())?;
@@ -55,7 +55,7 @@ fn put_session(alloc: Global, out: &mut String, report: &Report) -> Result<(), O
 
 /// What the scripts did, and what went over the link.
 fn put_work(alloc: Global, out: &mut String, report: &Report) -> Result<(), OutOfMemory>
-    ensures { Adds (written.work_lines (report_of report.now)) out.old out.new result }
+    ensures { Adds (written.work_lines report.now) out.old out.new result }
 {
     put_answers(alloc, out, report.answers.as_slice())?;
     put_book(alloc, out, report.book.as_slice())?;
@@ -194,13 +194,14 @@ fn put_answer(
     command: u64,
     answer: &Answer,
 ) -> Result<(), OutOfMemory>
-    ensures { Adds (spec.answer_lines handle (command, answer_of answer.now)) out.old out.new result }
+    ensures { Adds (text.answer_lines handle (command, answer.now)) out.old out.new result }
 {
     put(out, "answer ")?;
     put_number(out, handle)?;
     put(out, " ")?;
     put_number(out, command)?;
     match answer {
+        Answer::Done => put_done(out),
         Answer::Messages(messages) => put_items(alloc, out, messages.as_slice()),
         Answer::Failed(error) => put_failed(alloc, out, error),
     }
@@ -208,7 +209,7 @@ fn put_answer(
 
 /// How many messages there are, and a line for each.
 fn put_items(alloc: Global, out: &mut String, messages: &[SimpleMessage]) -> Result<(), OutOfMemory>
-    ensures { Adds (written.answered (said.Items (map item_of messages.now))) out.old out.new result }
+    ensures { Adds (written.answered (Answer.Messages messages.now)) out.old out.new result }
 {
     put(out, " messages ")?;
     put_number(out, messages.len() as u64)?;
@@ -216,8 +217,14 @@ fn put_items(alloc: Global, out: &mut String, messages: &[SimpleMessage]) -> Res
     put_messages(alloc, out, messages)
 }
 
+fn put_done(out: &mut String) -> Result<(), OutOfMemory>
+    ensures { Adds (written.answered Answer.Done) out.old out.new result }
+{
+    put(out, " done\n")
+}
+
 fn put_failed(alloc: Global, out: &mut String, error: &Error) -> Result<(), OutOfMemory>
-    ensures { Adds (written.answered (said.Failed error.now)) out.old out.new result }
+    ensures { Adds (written.answered (Answer.Failed error.now)) out.old out.new result }
 {
     put(out, " failed ")?;
     put_error(alloc, out, error)?;

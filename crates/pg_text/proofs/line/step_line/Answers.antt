@@ -1,5 +1,5 @@
 use Rattle.std.proofs.Common.{refl}
-use Rattle.pg_spec.specs.SessionText.{StepLine}
+use Rattle.pg_text.specs.SessionText.{StepLine}
 use Rattle.pg_text.proofs.line.step_line.Goals as goal
 
 pub returns-in-Some-clause-line : goal.returns-in-Some-clause-line

@@ -1,0 +1,43 @@
+-- The text of a report, line by line.
+use Rattle.std.specs.Prelude.{ℕ, List, [], ◌∷◌, ◌++◌, length, map, flat_map, codes, decimal}
+use Rattle.std.specs.List.{enumerate_from}
+use Rattle.hex.specs.Hex.{encode_lower}
+use Rattle.pg_spec.specs.ReportText.{line, signed, quoted, failure_words, item_line, async_line, book_line, turn_line}
+use Rattle.pg_spec.specs.SimpleQuery.{Item}
+use Rattle.pg_errors.specs.Views.{async_of}
+use Rattle.pg_text.specs.declared.command.Answer.{Answer}
+use Rattle.pg_text.specs.declared.command.Answer.TheVariants.{Done, Failed, Messages}
+use Rattle.pg_text.specs.declared.report.Report.{Report}
+use Rattle.pg_text.specs.Views.{booking_of, item_of}
+
+-- what stands in an answer's first line
+abbrev pub answer_words : Answer → List (List ℕ)
+answer_words Done = codes "done" ∷ []
+answer_words (Messages messages) = codes "messages" ∷ decimal (length messages) ∷ []
+answer_words (Failed e) = codes "failed" ∷ failure_words e
+
+-- the parts whose lines follow it
+abbrev pub answer_items : Answer → List Item
+answer_items (Messages messages) = map item_of messages
+answer_items other = []
+
+-- the lines of the answer to a command
+abbrev pub answer_lines : ℕ → ℕ × Answer → List ℕ
+answer_lines handle (command, answer) =
+    line (codes "answer" ∷ decimal handle ∷ decimal command ∷ answer_words answer) ++ flat_map item_line (answer_items answer)
+
+-- the lines of the answers of a handle
+abbrev pub script_lines : ℕ × List Answer → List ℕ
+script_lines (handle, answers) = flat_map (answer_lines handle) (enumerate_from 0 answers)
+
+-- the whole text
+abbrev pub report_text : Report → List ℕ
+report_text r =
+    line (codes "status" ∷ codes "ok" ∷ [])
+    ++ line (codes "process" ∷ signed r.process_id ∷ signed r.secret_key ∷ [])
+    ++ flat_map (λ (pair : List ℕ × List ℕ). line (codes "parameter" ∷ quoted pair.0 ∷ quoted pair.1 ∷ [])) (map (λ p. (p.name, p.value)) r.parameters)
+    ++ flat_map async_line (map async_of r.asynchronous)
+    ++ flat_map script_lines (enumerate_from 0 r.answers)
+    ++ flat_map book_line (enumerate_from 0 (map booking_of r.book))
+    ++ flat_map turn_line r.trace
+    ++ line (codes "sent" ∷ encode_lower r.sent ∷ [])
