@@ -1,3 +1,5 @@
+pub mod Mapped
+pub mod DoneDecides
 pub mod Decided
 pub mod Queries
 pub mod Counted

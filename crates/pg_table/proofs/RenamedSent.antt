@@ -1,11 +1,11 @@
--- What a session had sent that failed, told in other words.
-use Rattle.std.proofs.Common.{◌≡◌, inl, inr, ℕ, zero, suc, ◌+◌, ◌≤◌, cond, List, [], ◌∷◌, length, map, Option, Some, None, option_map, Result, Ok, Err, refl, sym, ap, subst, ◌∙◌, nat_lt, take, drop, slice_get}
+-- What a session had sent that failed, told in other words, is what it had sent.
+use Rattle.std.proofs.Common.{◌≡◌, inl, inr, ℕ, ◌+◌, ◌≤◌, cond, List, [], ◌∷◌, length, map, Option, Some, None, option_map, Result, Ok, Err, refl, sym, ap, subst, ◌∙◌, nat_lt, take, drop}
 use Rattle.std.specs.Prelude.{All, IsSome, count_by}
 use Rattle.std.specs.List.{AllByRecursion}
 use Rattle.std.proofs.lemmas.List.{length-map}
 use Rattle.std.proofs.lemmas.List.Sums.{sum_by-cons}
 use Rattle.std.proofs.lemmas.List.Elements.{All-from_recursion, All-weaker, recursion_from_All}
-use Rattle.std.proofs.lemmas.Option.{same_Some}
+use Rattle.std.proofs.lemmas.Option.{same_Some, slice_get-map}
 use Rattle.pg_spec.specs.Book.{Booking}
 use Rattle.pg_spec.specs.Faults.{Failure, Stalled, Tls}
 use Rattle.pg_spec.specs.RawMessages.{RawMessage}
@@ -20,7 +20,7 @@ use Rattle.pg_failed.specs.Calls.{Call, apart}
 use Rattle.pg_promises.specs.Causes.{OfDialogue, startup_after}
 use Rattle.pg_failed.specs.Kept.{AsksAtOnce, BeginsWithRequest, HasNoCopy, NoneKeptBack}
 use Rattle.pg_failed.specs.Sent.{AskedInOrder, InScriptOrder, SentInOrder, course_so_far, outcome_in}
-use Rattle.pg_table.proofs.Renamed.{some-map}
+use Rattle.pg_table.proofs.Renamed.{some-back}
 
 -- the same outcome, whose answer is told so
 abbrev renamed : {Q A B : Type 0} → (A → B) → Outcome Q A → Outcome Q B
@@ -49,30 +49,25 @@ outcome-renamed {Q} {R} {A} {B} g (Calls q next) met left = by met.told (λ r to
     by [] h = refl
     by (r ∷ told) h = ap (with_question q) (h r told)
 
-item-back : {X Y : Type 0} (f : X → Y) (xs : List X) (j : ℕ) (y : Y) → slice_get (map f xs) j ≡ Some y → (x : X) × (slice_get xs j ≡ Some x) × (f x ≡ y)
-item-back f [] j y e = absurd cc
-item-back f (x ∷ xs) zero y e = (x, refl, same_Some (f x) y e)
-item-back f (x ∷ xs) (suc j) y e = item-back f xs j y e
-
 -- ---- at once
 
-begins-back : {Q R A B : Type 0} (g : A → B) (d : Dialogue Q R A) → BeginsWithRequest (behind d (λ a. let x : Dialogue Q R B = Answers (g a) in x)) → BeginsWithRequest d
-begins-back g (Answers a) h = h
-begins-back g (Asks copying part d) h = tt
-begins-back g (Sends part d) h = h
-begins-back g (Reads decides next) h = h
-begins-back g (Puts part d) h = h
-begins-back g (Closes part d) h = h
-begins-back g (Calls q next) h = h
+begins-on : {Q R A B : Type 0} (g : A → B) (d : Dialogue Q R A) → BeginsWithRequest d → BeginsWithRequest (behind d (λ a. let x : Dialogue Q R B = Answers (g a) in x))
+begins-on g (Answers a) h = absurd h
+begins-on g (Asks copying part d) h = tt
+begins-on g (Sends part d) h = h
+begins-on g (Reads decides next) h = h
+begins-on g (Puts part d) h = h
+begins-on g (Closes part d) h = h
+begins-on g (Calls q next) h = h
 
-no-copy-back : {Q R A B : Type 0} (g : A → B) (d : Dialogue Q R A) → HasNoCopy (behind d (λ a. let x : Dialogue Q R B = Answers (g a) in x)) → HasNoCopy d
-no-copy-back g (Answers a) h = tt
-no-copy-back g (Asks copying part d) h = (h.0, no-copy-back g d h.1)
-no-copy-back g (Sends part d) h = no-copy-back g d h
-no-copy-back g (Reads decides next) h = λ ms. no-copy-back g (next ms) (h ms)
-no-copy-back g (Puts part d) h = no-copy-back g d h
-no-copy-back g (Closes part d) h = no-copy-back g d h
-no-copy-back g (Calls q next) h = λ r. no-copy-back g (next r) (h r)
+no-copy-on : {Q R A B : Type 0} (g : A → B) (d : Dialogue Q R A) → HasNoCopy d → HasNoCopy (behind d (λ a. let x : Dialogue Q R B = Answers (g a) in x))
+no-copy-on g (Answers a) h = tt
+no-copy-on g (Asks copying part d) h = (h.0, no-copy-on g d h.1)
+no-copy-on g (Sends part d) h = no-copy-on g d h
+no-copy-on g (Reads decides next) h = λ ms. no-copy-on g (next ms) (h ms)
+no-copy-on g (Puts part d) h = no-copy-on g d h
+no-copy-on g (Closes part d) h = no-copy-on g d h
+no-copy-on g (Calls q next) h = λ r. no-copy-on g (next r) (h r)
 
 same-count : {C D : Type 0} (f : C → D) (scripts : List (List C)) → count_by (λ script. nat_lt 0 (length script)) (map (map f) scripts) ≡ count_by (λ script. nat_lt 0 (length script)) scripts
 same-count f [] = refl
@@ -95,38 +90,43 @@ module _ {C D A B E Q R : Type 0} (meaning : Meaning C A E Q R) (asks : E → D 
       let met : Met R = met_in course (requests_of course.book handle place) (questions_of course.asked handle place) in
       ap (λ (d : Dialogue Q R (Ending B E)). outcome d met []) (same own c) ∙ outcome-renamed in_new (meaning.asks own c) met []
 
-  asked-renamed : (course : Course Q R) (handle place : ℕ) (own : E) (cs : List C) → AskedInOrder meaning course handle place own cs → AskedInOrder new course handle place own (map f cs)
-  asked-renamed course handle place own [] h = tt
-  asked-renamed course handle place own (c ∷ cs) (inl u) =
+  -- an answer that is told was given
+  answered-back : (o : Option (Ending A E)) (e : Ending B E) → option_map in_new o ≡ Some e → (x : Ending A E) × (o ≡ Some x) × (in_new x ≡ e)
+  answered-back None e h = absurd cc
+  answered-back (Some x) e h = (x, refl, same_Some (in_new x) e h)
+
+  asked-back : (course : Course Q R) (handle place : ℕ) (own : E) (cs : List C) → AskedInOrder new course handle place own (map f cs) → AskedInOrder meaning course handle place own cs
+  asked-back course handle place own [] h = tt
+  asked-back course handle place own (c ∷ cs) (inl u) =
       let o = same-outcome course handle place own c in
       inl (record {
         more = u.more;
-        requests = u.requests ∙ sym (ap (λ (x : Outcome Q (Ending B E)). x.requests) o);
-        asked = u.asked ∙ sym (ap (λ (x : Outcome Q (Ending B E)). x.asked) o);
+        requests = u.requests ∙ ap (λ (x : Outcome Q (Ending B E)). x.requests) o;
+        asked = u.asked ∙ ap (λ (x : Outcome Q (Ending B E)). x.asked) o;
         none_later = u.none_later;
       })
-  asked-renamed course handle place own (c ∷ cs) (inr (ending, ended, rest)) =
+  asked-back course handle place own (c ∷ cs) (inr (ending, ended, rest)) =
       let o = same-outcome course handle place own c in
+      let a = answered-back (outcome_in meaning course handle place own c).answer ending (sym (ap (λ (x : Outcome Q (Ending B E)). x.answer) o) ∙ ended.answered) in
       inr (
-        in_new ending,
+        a.0,
         record {
-          requests = ended.requests ∙ sym (ap (λ (x : Outcome Q (Ending B E)). x.requests) o);
-          asked = ended.asked ∙ sym (ap (λ (x : Outcome Q (Ending B E)). x.asked) o);
-          answered = ap (λ (x : Outcome Q (Ending B E)). x.answer) o ∙ ap (option_map in_new) ended.answered;
-          none_before = ap (λ (x : Outcome Q (Ending B E)). x.parts) o ∙ ended.none_before;
+          requests = ended.requests ∙ ap (λ (x : Outcome Q (Ending B E)). x.requests) o;
+          asked = ended.asked ∙ ap (λ (x : Outcome Q (Ending B E)). x.asked) o;
+          answered = a.1;
+          none_before = sym (ap (λ (x : Outcome Q (Ending B E)). x.parts) o) ∙ ended.none_before;
         },
-        asked-renamed course handle (place + 1) ending.own cs rest,
+        asked-back course handle (place + 1) a.0.own cs (subst (λ (e : Ending B E). AskedInOrder new course handle (place + 1) e.own (map f cs)) (sym a.2) rest),
       )
 
-  pub order-renamed : (scripts : List (List C)) (course : Course Q R) → InScriptOrder meaning scripts course → InScriptOrder new (map (map f) scripts) course
-  order-renamed scripts course h = record {
-    owners = All-weaker (λ (b : Booking). IsSome (entry_at scripts b.stamp.owner b.stamp.command)) (λ b. IsSome (entry_at (map (map f) scripts) b.stamp.owner b.stamp.command)) (λ b some. some-map f scripts b.stamp.owner b.stamp.command some) course.book h.owners;
-    askers = All-weaker (λ (a : Asked Q R). IsSome (entry_at scripts a.stamp.owner a.stamp.command)) (λ a. IsSome (entry_at (map (map f) scripts) a.stamp.owner a.stamp.command)) (λ a some. some-map f scripts a.stamp.owner a.stamp.command some) course.asked h.askers;
+  pub order-back : (scripts : List (List C)) (course : Course Q R) → InScriptOrder new (map (map f) scripts) course → InScriptOrder meaning scripts course
+  order-back scripts course h = record {
+    owners = All-weaker (λ (b : Booking). IsSome (entry_at (map (map f) scripts) b.stamp.owner b.stamp.command)) (λ b. IsSome (entry_at scripts b.stamp.owner b.stamp.command)) (λ b some. some-back f scripts b.stamp.owner b.stamp.command some) course.book h.owners;
+    askers = All-weaker (λ (a : Asked Q R). IsSome (entry_at (map (map f) scripts) a.stamp.owner a.stamp.command)) (λ a. IsSome (entry_at scripts a.stamp.owner a.stamp.command)) (λ a some. some-back f scripts a.stamp.owner a.stamp.command some) course.asked h.askers;
     in_order = h.in_order;
     asked_in_order = h.asked_in_order;
     each = λ handle script at.
-        let b = item-back (map f) scripts handle script at in
-        subst (λ (row : List D). AskedInOrder new course handle 0 meaning.begins row) b.2 (asked-renamed course handle 0 meaning.begins b.0 (h.each handle b.0 b.1));
+        asked-back course handle 0 meaning.begins script (h.each handle (map f script) (slice_get-map (map f) scripts handle ∙ ap (λ (o : Option (List C)). option_map (map f) o) at));
     told = h.told;
     ended = h.ended;
   }
@@ -135,36 +135,36 @@ module _ {C D A B E Q R : Type 0} (meaning : Meaning C A E Q R) (asks : E → D 
   abbrev pub in_new_words : Call C → Call D
   in_new_words call = record { config = call.config; nonce = call.nonce; scripts = map (map f) call.scripts; turns = call.turns; limit = call.limit; before = call.before; after = call.after }
 
-  pub sent-renamed : (call : Call C) (s : Settings) (given taken : List ℕ) → SentInOrder meaning call s given taken → SentInOrder new (in_new_words call) s given taken
-  sent-renamed call s given taken h = record {
+  pub sent-back : (call : Call C) (s : Settings) (given taken : List ℕ) → SentInOrder new (in_new_words call) s given taken → SentInOrder meaning call s given taken
+  sent-back call s given taken h = record {
     book = h.book;
     asked = h.asked;
-    order = order-renamed call.scripts (course_so_far call s given h.book h.asked) h.order;
+    order = order-back call.scripts (course_so_far call s given h.book h.asked) h.order;
     front = h.front;
   }
 
-  at-once-back : (c : C) → AsksAtOnce new (f c) → AsksAtOnce meaning c
-  at-once-back c h = record {
-    begins = λ own. begins-back in_new (meaning.asks own c) (subst (λ (d : Dialogue Q R (Ending B E)). BeginsWithRequest d) (same own c) (h.begins own));
-    no_copy = λ own. no-copy-back in_new (meaning.asks own c) (subst (λ (d : Dialogue Q R (Ending B E)). HasNoCopy d) (same own c) (h.no_copy own));
+  at-once-on : (c : C) → AsksAtOnce meaning c → AsksAtOnce new (f c)
+  at-once-on c h = record {
+    begins = λ own. subst (λ (d : Dialogue Q R (Ending B E)). BeginsWithRequest d) (sym (same own c)) (begins-on in_new (meaning.asks own c) (h.begins own));
+    no_copy = λ own. subst (λ (d : Dialogue Q R (Ending B E)). HasNoCopy d) (sym (same own c)) (no-copy-on in_new (meaning.asks own c) (h.no_copy own));
   }
 
-  script-back : (script : List C) → AllByRecursion (AsksAtOnce new) (map f script) → AllByRecursion (AsksAtOnce meaning) script
-  script-back [] h = tt
-  script-back (c ∷ script) h = (at-once-back c h.0, script-back script h.1)
+  script-on : (script : List C) → AllByRecursion (AsksAtOnce meaning) script → AllByRecursion (AsksAtOnce new) (map f script)
+  script-on [] h = tt
+  script-on (c ∷ script) h = (at-once-on c h.0, script-on script h.1)
 
-  scripts-back : (scripts : List (List C)) → AllByRecursion (λ script. All (AsksAtOnce new) script) (map (map f) scripts) → AllByRecursion (λ script. All (AsksAtOnce meaning) script) scripts
-  scripts-back [] h = tt
-  scripts-back (script ∷ scripts) h =
-      (All-from_recursion (AsksAtOnce meaning) script (script-back script (recursion_from_All (AsksAtOnce new) (map f script) h.0)), scripts-back scripts h.1)
+  scripts-on : (scripts : List (List C)) → AllByRecursion (λ script. All (AsksAtOnce meaning) script) scripts → AllByRecursion (λ script. All (AsksAtOnce new) script) (map (map f) scripts)
+  scripts-on [] h = tt
+  scripts-on (script ∷ scripts) h =
+      (All-from_recursion (AsksAtOnce new) (map f script) (script-on script (recursion_from_All (AsksAtOnce meaning) script h.0)), scripts-on scripts h.1)
 
-  all-back : (scripts : List (List C)) → All (λ script. All (AsksAtOnce new) script) (map (map f) scripts) → All (λ script. All (AsksAtOnce meaning) script) scripts
-  all-back scripts h = All-from_recursion (λ script. All (AsksAtOnce meaning) script) scripts (scripts-back scripts (recursion_from_All (λ script. All (AsksAtOnce new) script) (map (map f) scripts) h))
+  all-on : (scripts : List (List C)) → All (λ script. All (AsksAtOnce meaning) script) scripts → All (λ script. All (AsksAtOnce new) script) (map (map f) scripts)
+  all-on scripts h = All-from_recursion (λ script. All (AsksAtOnce new) script) (map (map f) scripts) (scripts-on scripts (recursion_from_All (λ script. All (AsksAtOnce meaning) script) scripts h))
 
-  pub kept-renamed : {X : Type 0} (call : Call C) (result : Result X Failure) → NoneKeptBack meaning call result → NoneKeptBack new (in_new_words call) result
-  kept-renamed call (Ok report) h = h
-  kept-renamed call (Err (Stalled before after)) h = λ steady all.
+  pub kept-back : {X : Type 0} (call : Call C) (result : Result X Failure) → NoneKeptBack new (in_new_words call) result → NoneKeptBack meaning call result
+  kept-back call (Ok report) h = h
+  kept-back call (Err (Stalled before after)) h = λ steady all.
       subst (λ (n : ℕ). OfDialogue (apart call) (λ s given taken. ((used : ℕ) × ((startup_after (apart call) s given).outcome ≡ Done used)) → n ≤ whole_units taken))
-      (sym (same-count f call.scripts)) (h steady (all-back call.scripts all))
-  kept-renamed call (Err (Tls cause)) h = h
-  kept-renamed call (Err _) h = h
+      (same-count f call.scripts) (h steady (all-on call.scripts all))
+  kept-back call (Err (Tls cause)) h = h
+  kept-back call (Err _) h = h

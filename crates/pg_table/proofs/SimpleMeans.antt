@@ -1,22 +1,24 @@
 -- What the commands of the table mean.
-use Rattle.std.proofs.Common.{◌≡◌, ℕ, List, [], Bool, true, false, Option, Some, None, option_map, Result, Ok, Err, refl, ap, ◌∙◌}
+use Rattle.std.proofs.Common.{◌≡◌, ℕ, List, [], Bool, true, false, Option, Some, None, option_map, Result, Ok, Err, refl, sym, ap, ◌∙◌, subst}
 use Rattle.std.specs.Prelude.{is_some}
 use Rattle.pg_spec.specs.Faults.{FrameFault}
-use Rattle.pg_spec.specs.Frames.{query_frame}
+use Rattle.pg_spec.specs.Frames.{query_frame, sync_frame}
+use Rattle.pg_spec.specs.RawMessages.{RawMessage, is_ready, ends_in}
 use Rattle.pg_spec.specs.SimpleQuery.{SimpleAnswer, simple_reading}
-use Rattle.pg_client.specs.Simple.{answer_from, asks_by as asks_of, told}
+use Rattle.pg_client.specs.Done.{batch_by, batch_execute, batch_reading, check_connection, check_reading}
+use Rattle.pg_client.specs.Simple.{answer_from, asks_by as asks_of, simple_query, told}
+use Rattle.pg_client.proofs.Done.{batch-free, done-free}
 use Rattle.pg_client.proofs.Leaving.{query-free}
 use Rattle.pg_faults.specs.declared.error.Error.{Error}
+use Rattle.pg_query.specs.Dialogue.{Dialogue as Code}
+use Rattle.pg_query.specs.Leaving.{Nothing}
 use Rattle.pg_query.specs.Reading.{ends}
-use Rattle.pg_query.specs.Requests.{reads_unless}
+use Rattle.pg_query.specs.Requests.{asks, reads_unless}
 use Rattle.pg_query.specs.declared.desk_call.DeskCall.{DeskCall}
 use Rattle.pg_query.specs.declared.desk_call.Reply.{Reply}
 use Rattle.pg_query.specs.declared.simple_message.SimpleMessage.{SimpleMessage}
 use Rattle.pg_text.specs.declared.command.Answer.{Answer}
 use Rattle.pg_text.specs.declared.command.Command.TheVariants as command
-use Rattle.pg_spec.specs.RawMessages.{RawMessage}
-use Rattle.pg_table.proofs.Decided.{whole-decides}
-use Rattle.pg_table.proofs.Queries.{whole-query}
 use Rattle.pg_course.specs.Dialogues.{Answers, Asks, Dialogue, Reads, behind}
 use Rattle.pg_course.specs.Meanings.{Ending}
 use Rattle.pg_course.specs.Simples.{AreSimple, asks_by, told_or}
@@ -24,8 +26,15 @@ use Rattle.pg_course.specs.Simples as simples
 use Rattle.pg_core.specs.Outcomes.{asked}
 use Rattle.pg_core.specs.Times.{IsCommand}
 use Rattle.pg_core.proofs.Requests.{request-so}
-use Rattle.pg_turns.specs.Speeches.{AreCommands, BookWhole, BooksWhole, LetGo, meaning_of}
-use Rattle.pg_table.specs.Table.{kept_answer, table, simply}
+use Rattle.pg_turns.specs.Speeches.{AreCommands, BookWhole, BooksWhole, IsWholeRequest, LetGo, meaning_of}
+use Rattle.pg_table.specs.Mapped.{mapped, mapped_answer}
+use Rattle.pg_table.specs.Slots.{Slots}
+use Rattle.pg_table.specs.Table.{in_done, in_messages, kept_answer, table, simply}
+use Rattle.pg_table.specs.declared.state.AnyAnswer.{AnyAnswer}
+use Rattle.pg_table.proofs.Decided.{whole-decides}
+use Rattle.pg_table.proofs.DoneDecides.{done-decides, whole-sync}
+use Rattle.pg_table.proofs.Mapped.{asked-mapped, asks-mapped, decides-mapped, lets-mapped, reading_in}
+use Rattle.pg_table.proofs.Queries.{whole-query}
 
 -- ---- they decide in time
 
@@ -33,12 +42,25 @@ some-told : (o : Option SimpleAnswer) → (o ≡ None → ⊥) → is_some (opti
 some-told None h = absurd (h refl)
 some-told (Some x) h = refl
 
-command-by : (take : Option ℕ) (o : Result (List ℕ) FrameFault) → IsCommand (asks_of take o)
+-- a command of one request whose reading decides by the ReadyForQuery, in other words
+request-mapped : {T : Type 0} (f : T → AnyAnswer) (stops : Bool) (frame : List ℕ) (reading : List RawMessage → Option (Result T Error)) →
+    ((ms : List RawMessage) → ends_in is_ready ms ≡ true → is_some (reading ms) ≡ true) → IsCommand (mapped f (asks stops frame reading))
+request-mapped f stops frame reading decides =
+    subst (λ (d : Code AnyAnswer). IsCommand d) (sym (asks-mapped f stops frame reading))
+    (request-so stops frame (reading_in f reading) (λ ms e. sym (decides-mapped f (reading ms)) ∙ decides ms e))
+
+command-by : (take : Option ℕ) (o : Result (List ℕ) FrameFault) → IsCommand (mapped in_messages (asks_of take o))
 command-by take (Err fault) = record { tidy = tt; nothing = tt; sane = tt; in_time = tt; faithful = tt }
-command-by take (Ok frame) = request-so (is_some take) frame (told take) (λ ms e. some-told (simple_reading take ms) (whole-decides take ms e))
+command-by take (Ok frame) = request-mapped in_messages (is_some take) frame (told take) (λ ms e. some-told (simple_reading take ms) (whole-decides take ms e))
+
+batch-command : (o : Result (List ℕ) FrameFault) → IsCommand (mapped in_done (batch_by o))
+batch-command (Err fault) = record { tidy = tt; nothing = tt; sane = tt; in_time = tt; faithful = tt }
+batch-command (Ok frame) = request-mapped in_done false frame batch_reading (done-decides true)
 
 pub are-commands : AreCommands table
 are-commands own (command.Simple text take) = command-by take (query_frame text)
+are-commands own (command.Batch text) = batch-command (query_frame text)
+are-commands own command.Check = request-mapped in_done false sync_frame check_reading (done-decides false)
 
 -- ---- and book whole requests
 
@@ -52,48 +74,65 @@ whole-unless : {T : Type 0} (stops : Bool) (reading : List RawMessage → Option
 whole-unless stops reading (Some r) = tt
 whole-unless stops reading None = λ ms. whole-ends stops (reading ms)
 
-whole-by : (take : Option ℕ) (text : List ℕ) (r : Result (List ℕ) FrameFault) → query_frame text ≡ r → BooksWhole (asks_of take r)
+whole-mapped : {T : Type 0} (f : T → AnyAnswer) (stops : Bool) (frame : List ℕ) (reading : List RawMessage → Option (Result T Error)) → IsWholeRequest frame →
+    BooksWhole (mapped f (asks stops frame reading))
+whole-mapped f stops frame reading whole =
+    subst (λ (d : Code AnyAnswer). BooksWhole d) (sym (asks-mapped f stops frame reading))
+    (whole, refl, whole-unless stops (reading_in f reading) (reading_in f reading []))
+
+whole-by : (take : Option ℕ) (text : List ℕ) (r : Result (List ℕ) FrameFault) → query_frame text ≡ r → BooksWhole (mapped in_messages (asks_of take r))
 whole-by take text (Err fault) e = tt
-whole-by take text (Ok frame) e = (whole-query text frame e, refl, whole-unless (is_some take) (told take) (told take []))
+whole-by take text (Ok frame) e = whole-mapped in_messages (is_some take) frame (told take) (whole-query text frame e)
+
+batch-whole : (text : List ℕ) (r : Result (List ℕ) FrameFault) → query_frame text ≡ r → BooksWhole (mapped in_done (batch_by r))
+batch-whole text (Err fault) e = tt
+batch-whole text (Ok frame) e = whole-mapped in_done false frame batch_reading (whole-query text frame e)
 
 pub book-whole : BookWhole table
 book-whole own (command.Simple text take) = whole-by take text (query_frame text) refl
+book-whole own (command.Batch text) = batch-whole text (query_frame text) refl
+book-whole own command.Check = whole-mapped in_done false sync_frame check_reading whole-sync
 
 -- ---- and let them go
 
 pub let-go : LetGo table
-let-go own (command.Simple text take) = query-free text take
+let-go own (command.Simple text take) = lets-mapped in_messages Nothing (simple_query text take) (query-free text take)
+let-go own (command.Batch text) = lets-mapped in_done Nothing (batch_execute text) (batch-free (query_frame text))
+let-go own command.Check = lets-mapped in_done Nothing check_connection (done-free false sync_frame)
 
 -- ---- and mean what the headline says
 
 abbrev Said : Type 0
-Said = Dialogue DeskCall Reply (Ending Answer (Unit {0}))
+Said = Dialogue DeskCall Reply (Ending Answer Slots)
 
 -- what is kept of an answer
-abbrev ending : Unit {0} → Result (List SimpleMessage) Error → Said
-ending own r = Answers (record { answer = kept_answer r; own = own })
+abbrev ending : Slots → Result (List SimpleMessage) Error → Said
+ending own r = Answers (record { answer = kept_answer (mapped_answer in_messages r); own = own })
 
 decides-same : (o : Option SimpleAnswer) → is_some (option_map answer_from o) ≡ is_some o
 decides-same None = refl
 decides-same (Some x) = refl
 
-ends-same : (own : Unit {0}) (stops : Bool) (o : Option SimpleAnswer) → behind (asked (ends stops (option_map answer_from o))) (ending own) ≡ ending own (answer_from (told_or o))
+ends-same : (own : Slots) (stops : Bool) (o : Option SimpleAnswer) → behind (asked (ends stops (option_map answer_from o))) (ending own) ≡ ending own (answer_from (told_or o))
 ends-same own stops None = refl
 ends-same own true (Some (Ok x)) = refl
 ends-same own false (Some (Ok x)) = refl
 ends-same own stops (Some (Err e)) = refl
 
-reads-same : (own : Unit {0}) (take : Option ℕ) (o : Option SimpleAnswer) →
+reads-same : (own : Slots) (take : Option ℕ) (o : Option SimpleAnswer) →
     behind (asked (reads_unless (is_some take) (told take) (option_map answer_from o))) (ending own) ≡ behind (simples.reads_unless take o) (λ a. ending own (answer_from a))
 reads-same own take (Some r) = refl
 reads-same own take None = λ i. Reads (λ ms. decides-same (simple_reading take ms) i) (λ ms. ends-same own (is_some take) (simple_reading take ms) i)
 
-asks-same : (own : Unit {0}) (take : Option ℕ) (o : Result (List ℕ) FrameFault) → behind (asked (asks_of take o)) (ending own) ≡ behind (asks_by take o) (λ a. ending own (answer_from a))
+asks-same : (own : Slots) (take : Option ℕ) (o : Result (List ℕ) FrameFault) → behind (asked (asks_of take o)) (ending own) ≡ behind (asks_by take o) (λ a. ending own (answer_from a))
 asks-same own take (Err fault) = refl
 asks-same own take (Ok frame) = ap (λ (d : Said). Asks false frame d) (reads-same own take (simple_reading take []))
 
 pub are-simple : AreSimple (meaning_of table) simply
 are-simple own (command.Simple text take) text' take' e =
     let same : (text, take) ≡ (text', take') = cc in
-    asks-same own take (query_frame text)
+    asked-mapped in_messages (λ r. Answers (record { answer = kept_answer r; own = own })) (asks_of take (query_frame text))
+    ∙ asks-same own take (query_frame text)
     ∙ ap (λ (t : List ℕ × Option ℕ). behind (asks_by t.1 (query_frame t.0)) (λ a. ending own (answer_from a))) same
+are-simple own (command.Batch text) text' take' e = absurd cc
+are-simple own command.Check text' take' e = absurd cc

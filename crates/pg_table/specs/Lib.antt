@@ -1,2 +1,5 @@
+pub mod Mapped
+pub mod Slots
 pub mod Table
+pub mod States
 pub mod Headlines

@@ -1,6 +1,7 @@
 -- The commands of a script: what each asks, and what is kept of its answer.
-use Rattle.std.specs.Prelude.{ℕ, List, Option, Some, Result, Ok, Err}
+use Rattle.std.specs.Prelude.{ℕ, List, [], Option, Some, None, Result, Ok, Err}
 use Rattle.pg_faults.specs.declared.error.Error.{Error}
+use Rattle.pg_client.specs.Done.{batch_execute, check_connection}
 use Rattle.pg_client.specs.Simple.{answer_from, simple_query}
 use Rattle.pg_course.specs.Simples.{Simply}
 use Rattle.pg_query.specs.Dialogue.{Dialogue}
@@ -12,32 +13,52 @@ use Rattle.pg_text.specs.declared.command.Command.TheVariants as command
 use Rattle.pg_turns.specs.Handles.{HandleState}
 use Rattle.pg_turns.specs.Speeches.{Speech}
 use Rattle.pg_turns.specs.States.{SessionState}
+use Rattle.pg_table.specs.Mapped.{mapped, mapped_answer}
+use Rattle.pg_table.specs.Slots.{Slots}
+use Rattle.pg_table.specs.declared.state.AnyAnswer.{AnyAnswer}
+use Rattle.pg_table.specs.declared.state.AnyAnswer.TheVariants.{Done, Messages}
 
--- what a command asks and answers
-abbrev pub says_of : Command → Dialogue (List SimpleMessage)
-says_of (command.Simple text take) = simple_query text take
+-- the messages of a simple query as an answer
+abbrev pub in_messages : List SimpleMessage → AnyAnswer
+in_messages messages = Messages messages
+
+-- that a command is done as an answer
+abbrev pub in_done : Unit {0} → AnyAnswer
+in_done x = Done
+
+-- what a command asks and answers, by the slots of its script: a line for each
+abbrev pub says_of : Slots → Command → Dialogue AnyAnswer
+says_of slots (command.Simple text take) = mapped in_messages (simple_query text take)
+says_of slots (command.Batch text) = mapped in_done (batch_execute text)
+says_of slots command.Check = mapped in_done check_connection
 
 -- the answer that is kept of a command
-abbrev pub kept_answer : Result (List SimpleMessage) Error → Answer
-kept_answer (Ok messages) = answer.Messages messages
+abbrev pub kept_answer : Result AnyAnswer Error → Answer
+kept_answer (Ok (Messages messages)) = answer.Messages messages
+kept_answer (Ok Done) = answer.Done
 kept_answer (Err e) = answer.Failed e
 
--- the table of commands: scripts keep nothing between them
-abbrev pub table : Speech Command (List SimpleMessage) Answer (Unit {0})
-table = record { begins = tt; says = λ own c. says_of c; ends = λ own c r. record { answer = kept_answer r; own = own } }
+-- the slots of its script behind a command that answered so: none changes them
+abbrev pub slots_behind : Slots → Command → Result AnyAnswer Error → Slots
+slots_behind slots c r = slots
+
+-- the table of commands: a script keeps its slots between them, and none holds a statement before the first
+abbrev pub table : Speech Command AnyAnswer Answer Slots
+table = record { begins = []; says = says_of; ends = λ slots c r. record { answer = kept_answer r; own = slots_behind slots c r } }
 
 -- which commands are simple queries
 abbrev pub query_of : Command → Option (List ℕ × Option ℕ)
 query_of (command.Simple text take) = Some (text, take)
+query_of other = None
 
 -- and so their answers are told
 abbrev pub simply : Simply Command Answer
-simply = record { simple = query_of; said = λ a. kept_answer (answer_from a) }
+simply = record { simple = query_of; said = λ a. kept_answer (mapped_answer in_messages (answer_from a)) }
 
 -- a handle of such scripts
 abbrev pub TableHandle : Type 0
-TableHandle = HandleState (List SimpleMessage) Answer (Unit {0})
+TableHandle = HandleState AnyAnswer Answer Slots
 
 -- a session of such scripts
 abbrev pub TableSession : Type 0
-TableSession = SessionState (List SimpleMessage) Answer (Unit {0})
+TableSession = SessionState AnyAnswer Answer Slots

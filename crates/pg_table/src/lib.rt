@@ -1,6 +1,13 @@
-//! The table of commands: what each asks, and that they are simple queries in the words of the main theorem on these.
+//! The table of commands: what each asks, the states of all of them in one, and what of that is said of simple queries.
 #![tactic(auto)]
 
 mod laws;
+mod slots;
+mod state;
 
-pub use laws::{failed_sessions_of_the_table, sessions_of_the_table, the_table_is_of_commands};
+pub use laws::{
+    failed_sessions_of_simple_queries, sessions_of_simple_queries, simple_queries_of_the_table,
+    the_table_is_of_commands,
+};
+pub use slots::{Slot, Slots};
+pub use state::{AnyAnswer, AnyState, begin, keep};
