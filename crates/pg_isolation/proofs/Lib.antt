@@ -1,0 +1,3 @@
+pub mod Entries
+pub mod Isolated
+pub mod ByNames

@@ -1,0 +1,47 @@
+//! Laws over the definitions. Each body does nothing.
+
+ghost use Rattle.std.specs.Prelude.{ℕ, List};
+ghost use Rattle.pg_course.specs.Courses.{Course};
+ghost use Rattle.pg_course.specs.Isolation.{IsByNames};
+ghost use Rattle.pg_course.specs.Meanings.{HasRun, Meaning};
+ghost use Rattle.pg_headline.specs.Endings.{EndedWell, IsRun, Report, Session};
+ghost use Rattle.pg_text.specs.declared.command.Answer.{Answer};
+ghost use Rattle.pg_text.specs.declared.command.Command.{Command};
+ghost use Rattle.pg_turns.specs.Speeches.{meaning_of};
+ghost use Rattle.pg_table.specs.Table.{table};
+ghost use Rattle.pg_isolation.specs.Names.{named};
+ghost use Rattle.pg_isolation.specs.Reads.{AreIsolated, EachAnswers};
+
+/// In a session of any commands each answered by what it read: what it booked, asked and answered is the outcome of its dialogue
+/// on the replies to its own requests and on what its desk told it.
+pub fn what_each_command_answered<C, A, E, Q, R>()
+    ensures { (meaning : Meaning C A E Q R) (scripts : List (List C)) (turns : List ℕ) (answers : List (List A)) (course : Course Q R)
+        (run : HasRun meaning scripts turns answers course) → EachAnswers run }
+{}
+
+/// In two sessions of any commands a command that read the same booked, asked and answered the same, whatever else they did.
+pub fn isolation_of_runs<C, A, E, Q, R, N>()
+    ensures { (meaning : Meaning C A E Q R) (named : C → E → N) → IsByNames meaning named →
+        (scripts others : List (List C)) (turns more : List ℕ) (one two : List (List A)) (a b : Course Q R)
+        (x : HasRun meaning scripts turns one a) (y : HasRun meaning others more two b) → AreIsolated named x y }
+{}
+
+/// What a command of the table names of what its script keeps decides all but what the script has then.
+pub fn commands_go_by_names()
+    ensures { IsByNames (meaning_of table) named }
+{}
+
+/// In a session of the table's commands that ended well, or has run, each answered by what it read.
+pub fn answers_of_sessions()
+    ensures ended_well { (s : Session Command Answer) (taken : List ℕ) (ended : EndedWell (meaning_of table) s taken) → EachAnswers ended.has_run }
+    ensures over_any_link { (scripts : List (List Command)) (turns : List ℕ) (report : Report Answer)
+        (ran : IsRun (meaning_of table) scripts turns report) → EachAnswers ran.has_run }
+{}
+
+/// In two sessions of the table's commands that ended well, or have run, a command that read the same did the same.
+pub fn isolation_of_sessions()
+    ensures ended_well { (s other : Session Command Answer) (taken sent : List ℕ)
+        (x : EndedWell (meaning_of table) s taken) (y : EndedWell (meaning_of table) other sent) → AreIsolated named x.has_run y.has_run }
+    ensures over_any_link { (scripts others : List (List Command)) (turns more : List ℕ) (one two : Report Answer)
+        (x : IsRun (meaning_of table) scripts turns one) (y : IsRun (meaning_of table) others more two) → AreIsolated named x.has_run y.has_run }
+{}

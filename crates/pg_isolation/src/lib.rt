@@ -1,0 +1,9 @@
+//! Isolation, for the commands of a session: what one answers follows from what it read, whatever else happened.
+#![tactic(auto)]
+
+mod laws;
+
+pub use laws::{
+    answers_of_sessions, commands_go_by_names, isolation_of_runs, isolation_of_sessions,
+    what_each_command_answered,
+};
