@@ -99,12 +99,12 @@ module _ (call : Call Command) (settings : Settings) (given : List ℕ) where
   abbrev empty_course : Course DeskCall Reply
   empty_course = course_so_far call settings given [] []
 
-  none-begun : (handle : ℕ) (script : List Command) → AskedInOrder (meaning_of table) empty_course handle 0 tt script
+  none-begun : (handle : ℕ) (script : List Command) → AskedInOrder (meaning_of table) empty_course handle 0 table.begins script
   none-begun handle [] = tt
   none-begun handle (c ∷ cs) = inl (record {
-    more = (outcome_in (meaning_of table) empty_course handle 0 tt c).requests;
+    more = (outcome_in (meaning_of table) empty_course handle 0 table.begins c).requests;
     requests = refl;
-    asked = sym (asks-nothing ((meaning_of table).asks tt c) [] []);
+    asked = sym (asks-nothing ((meaning_of table).asks table.begins c) [] []);
     none_later = λ later lt. (refl, refl);
   })
 

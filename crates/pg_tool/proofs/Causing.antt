@@ -1,6 +1,5 @@
 -- Each failure of a session has its cause.
 use Rattle.std.proofs.Common.{◌≡◌, List, IfErr, Result, Ok, Err, inl, inr, sym, subst}
-use Rattle.pg_failed.specs.Calls as any
 use Rattle.pg_promises.specs.Causes.{Call, HasCause, NeedsNoTls}
 use Rattle.pg_promises.specs.ConnectionStrings.{Means}
 use Rattle.pg_spec.specs.Settings.{Settings}
@@ -11,7 +10,6 @@ use Rattle.pg_session.proofs.Stalled.Start.{stalled-start}
 use Rattle.pg_session.proofs.Caused.Start.{made_cause, start_cause}
 use Rattle.pg_text.specs.declared.command.Command.{Command}
 use Rattle.pg_text.specs.declared.report.Report.{Report}
-use Rattle.pg_table.specs.Headlines.{in_words}
 use Rattle.pg_tool.specs.Fails.{SessionFails}
 use Rattle.pg_tool.specs.Openings.{OpenEnds}
 use Rattle.pg_tool.proofs.AtTable.{broken-cause}
@@ -33,22 +31,3 @@ pub caused : (call : Call) (settings : Settings) (scripts : List (List Command))
     IfErr r (SessionFails settings call.nonce scripts call.limit call.before call.after) → IfErr r (HasCause call)
 caused call settings scripts (Ok report) means plain fails = tt
 caused call settings scripts (Err e) means plain fails = caused_by call settings scripts e means plain fails
-
--- the cause is no matter of the scripts
-pub cause_apart : (call : any.Call Command) (e : Error) → HasCause (in_words call) e → HasCause (any.apart call) e
-cause_apart call (error.Stalled before after) h = record {
-  lulls = h.lulls;
-  from = h.from;
-  to = h.to;
-  rose = h.rose;
-  round = h.round;
-  last = h.last;
-  exact = h.exact;
-  awaited = h.awaited;
-}
-cause_apart call (error.LimitReached given limit) h = record { asked = h.asked; more = h.more; counted = h.counted }
-cause_apart call _ h = h
-
-pub causes_apart : (call : any.Call Command) (r : Result Report Error) → IfErr r (HasCause (in_words call)) → IfErr r (HasCause (any.apart call))
-causes_apart call (Ok report) h = tt
-causes_apart call (Err e) h = cause_apart call e h

@@ -1,43 +1,47 @@
 -- A session that must end well does so, and so does the program that plays it.
 use Rattle.std.proofs.Common.{◌≡◌, ◌≤◌, ◌+◌, ◌⊎◌, ℕ, inl, inr, List, [], ◌∷◌, length, codes, Option, Some, None, Result, Ok, Err, IfErr, refl, sym, ◌∙◌, ap, subst, arith}
 use Rattle.std.specs.Prelude.{IfSome}
-use Rattle.pg_promises.specs.Causes.{HasCause, startup_after}
+use Rattle.pg_promises.specs.Causes.{HasCause}
 use Rattle.pg_spec.specs.Faults.{Failure, OutOfMemory}
-use Rattle.pg_spec.specs.Links.{LinkView, OfBytes, Plan, Rose, added}
-use Rattle.pg_promises.specs.Promises.{AnswersStartup, EndsWell, IsValid, MustEndWell, SentInOrder, requests_in}
-use Rattle.pg_spec.specs.ReportText.{report_text}
-use Rattle.pg_spec.specs.Sent.{turns_given}
-use Rattle.pg_spec.specs.SessionText.{SessionText, IsSessionText}
+use Rattle.pg_spec.specs.Links.{LinkView, Plan, Rose, added}
+use Rattle.pg_promises.specs.Promises.{AnswersStartup, IsValid}
+use Rattle.pg_spec.specs.ReportText as simply
+use Rattle.pg_spec.specs.SessionText as said
 use Rattle.pg_spec.specs.Settings.{Settings}
 use Rattle.pg_promises.proofs.Strings.{means_one}
-use Rattle.pg_wire.specs.LinkCalls.{Continues, Extends, Tells}
+use Rattle.pg_wire.specs.LinkCalls.{Continues, Tells}
 use Rattle.pg_wire.specs.Streams.{SinkView}
 use Rattle.pg_faults.specs.declared.error.Error.{Error}
+use Rattle.pg_text.specs.ReportText.{report_text}
+use Rattle.pg_text.specs.Sessions.{as_session}
+use Rattle.pg_text.specs.SessionText.{IsSessionText, SessionText}
 use Rattle.pg_text.specs.declared.report.Report.{Report}
 use Rattle.pg_text.proofs.ReadLaws.{one_session, refused_is_none}
-use Rattle.pg_session.proofs.Complete.Course.{few-frames, in-plan, of-some}
+use Rattle.pg_text.proofs.SimpleReports.{prints-simply}
+use Rattle.pg_text.proofs.SimpleTexts.{text-as}
+use Rattle.pg_session.proofs.Complete.Course.{in-plan, of-some}
 use Rattle.pg_failed.specs.Calls as any
 use Rattle.pg_failed.specs.Completeness as must
-use Rattle.pg_failed.proofs.NoFlush.{answers}
-use Rattle.pg_text.specs.declared.command.Command.{Command}
-use Rattle.pg_table.specs.Headlines.{in_words}
-use Rattle.pg_tool.proofs.AskedFew.{asks-few}
-use Rattle.pg_failed.specs.Sent as orders
-use Rattle.pg_turns.specs.Speeches.{meaning_of}
+use Rattle.pg_failed.specs.Sent.{SentInOrder}
+use Rattle.pg_headline.specs.Endings.{Report as Told}
 use Rattle.pg_table.specs.Table.{table}
-use Rattle.pg_tool.proofs.AtTable.{must-end-well, no-flush}
+use Rattle.pg_turns.specs.Speeches.{meaning_of}
+use Rattle.pg_text.specs.declared.command.Answer.{Answer}
+use Rattle.pg_text.specs.declared.command.Command.{Command}
+use Rattle.pg_tool.proofs.AtTable.{must-end-well}
+use Rattle.pg_tool.proofs.Simply.{keeps_simply}
+use Rattle.pg_tool.proofs.WellMade.{made_simply}
 use Rattle.pg_tool.specs.TableContract as by_table
 use Rattle.pg_tool.specs.TableContract.{table_result}
 use Rattle.pg_tool.specs.Reading.{longest_text, ReadWhole}
-use Rattle.pg_tool.specs.RunContract.{EndsWith, IsOver, SummedUp, WritesSummary, IsPlayed, IsWellMade, MustPlay, PlayedSession, PlayedText, Run, SaysResult, call_of, new_link}
+use Rattle.pg_tool.specs.RunContract.{EndsWith, IsOver, IsOverSimply, IsPlayed, IsPlayedSimply, IsWellMade, MustPlay, PlayedSession, PlayedText, PlaysSimpleText, PlaysSimply, Run, SaysResult, SaysSimply, SessionAnswer, SummedUp, WritesSummary, call_of, call_over, new_link, plan_of, simple_call_of}
 use Rattle.pg_gen.specs.Generated.{IsCount, generated}
-use Rattle.pg_gen.specs.Laws.{plan_of}
 use Rattle.pg_gen.proofs.WellMade.{well_made}
 use Rattle.pg_tool.specs.Words.{Asks, play}
 use Rattle.pg_tool.specs.declared.numbers.Numbers.{Numbers}
 use Rattle.pg_tool.specs.declared.over.Over.{Over}
 use Rattle.pg_tool.specs.declared.over.Over.TheVariants as over
-use Rattle.pg_tool.specs.SessionContract.{SendsInOrder, SessionResult, result_of}
+use Rattle.pg_tool.specs.SessionContract.{IsSaidSo, SessionResult, ToldSimply}
 
 -- by what a session answered
 pub must_all : (call : any.Call Command) (r : Result Report Error) → Tells call.before → Tells call.after → Continues call.before call.after → by_table.SendsInOrder call (table_result r) →
@@ -45,53 +49,13 @@ pub must_all : (call : any.Call Command) (r : Result Report Error) → Tells cal
 must_all call (Ok report) before after goes sent causes = λ plan s taken none_given none_taken planned told means valid conforms. tt
 must_all call (Err e) before after goes sent causes = must-end-well call e before after goes sent causes
 
--- the bytes of a call that are told, where it gave and took none before
-told_bytes : (before after : LinkView) (taken : List ℕ) (P : List ℕ → List ℕ → Type 0) → Continues before after → before.given ≡ Some [] → before.taken ≡ Some [] → after.taken ≡ Some taken →
-    OfBytes before after P → (given : List ℕ) × P given taken
-told_bytes before after taken P goes none_given none_taken told h =
-    let given = subst (λ (o : Option (List ℕ)). Extends o after.given) none_given goes.given in
-    let g : added before.given after.given ≡ Some given.0 = ap (λ o. added o after.given) none_given ∙ ap (λ o. added (Some []) o) given.1 in
-    let t : added before.taken after.taken ≡ Some taken = ap (λ o. added o after.taken) none_taken ∙ ap (λ o. added (Some []) o) told in (
-      given.0,
-      of-some (added before.taken after.taken) taken (λ t. P given.0 t) t (of-some (added before.given after.given) given.0 (λ g. IfSome (added before.taken after.taken) (λ t. P g t)) g h),
-    )
-
-ends_simply : (r : Result Report Error) → must.EndsWell (table_result r) → EndsWell (result_of r)
-ends_simply (Ok report) h = tt
-ends_simply (Err OutOfMemory) h = tt
-ends_simply (Err _) h = h
-
--- and so by simple queries, which send no Flush
-pub must_simply : (call : any.Call Command) (r : Result Report Error) → Continues call.before call.after → must.MustEndWell call (table_result r) → by_table.SendsInOrder call (table_result r) → MustEndWell (in_words call) (result_of r)
-must_simply call (Ok report) goes ends sent = λ plan s taken none_given none_taken planned told means valid conforms. tt
-must_simply call (Err e) goes ends sent = λ plan s taken none_given none_taken planned told means valid conforms.
-    let crossed = sent (s, means, tt) in
-    let bytes = told_bytes call.before call.after taken (λ g t. orders.SentInOrder (meaning_of table) call crossed.0 g t) goes none_given none_taken told crossed.2 in
-    let in_order : orders.SentInOrder (meaning_of table) call s bytes.0 taken =
-    subst (λ (x : Settings). orders.SentInOrder (meaning_of table) call x bytes.0 taken) (means_one call.config crossed.0 s crossed.1 means) bytes.1 in
-    let none = no-flush call s bytes.0 taken valid.no_tls in_order in
-    ends_simply (Err e) (ends plan s taken none_given none_taken planned told means
-    (record { user = valid.user; nonce = valid.nonce; frame = valid.frame; no_tls = valid.no_tls; no_binding = valid.no_binding; limit = valid.limit })
-    (record {
-      opens = record {
-        untroubled = conforms.opens.untroubled;
-        whole = conforms.opens.whole;
-        frames = conforms.opens.frames;
-        started = conforms.opens.started;
-        each_frame = conforms.opens.each_frame;
-        all_frames = conforms.opens.all_frames;
-        readable = conforms.opens.readable;
-      };
-      later = answers plan conforms.opens.frames taken none conforms.later;
-    }))
-
 -- ---- the program
 
 -- a call that ended elsewhere was asked the same
-same_valid : (text : SessionText) (a b : LinkView) (s : Settings) (plan : Plan) → IsValid (call_of text a) s plan → IsValid (call_of text b) s plan
+same_valid : (text : SessionText) (a b : LinkView) (s : Settings) (plan : Plan) → IsValid (any.apart (call_of text a)) s plan → IsValid (any.apart (call_of text b)) s plan
 same_valid text a b s plan v = record { user = v.user; nonce = v.nonce; frame = v.frame; no_tls = v.no_tls; no_binding = v.no_binding; limit = v.limit }
 
-abbrev same_startup : (text : SessionText) (a b : LinkView) (s : Settings) (plan : Plan) → AnswersStartup (call_of text a) s plan → AnswersStartup (call_of text b) s plan
+abbrev same_startup : (text : SessionText) (a b : LinkView) (s : Settings) (plan : Plan) → AnswersStartup (any.apart (call_of text a)) s plan → AnswersStartup (any.apart (call_of text b)) s plan
 same_startup text a b s plan c = record {
   untroubled = c.untroubled;
   whole = c.whole;
@@ -102,37 +66,38 @@ same_startup text a b s plan c = record {
   readable = c.readable;
 }
 
+same_sent : (text : SessionText) (a b : LinkView) (s : Settings) (given taken : List ℕ) → SentInOrder (meaning_of table) (call_of text a) s given taken → SentInOrder (meaning_of table) (call_of text b) s given taken
+same_sent text a b s given taken h = record { book = h.book; asked = h.asked; order = h.order; front = h.front }
+
 -- only want of memory ends well in place of a report
-only_memory : (failure : Failure) → EndsWell (Err failure) → failure ≡ OutOfMemory
+only_memory : (failure : Failure) → must.EndsWell {T = Told Answer} (Err failure) → failure ≡ OutOfMemory
 only_memory OutOfMemory well = refl
 only_memory _ well = absurd well
 
--- what was sent gave no more turns than the startup has frames, and the text requests
-few_turns : (text : SessionText) (result : SessionResult) (failure : Failure) (p : IsPlayed text result) → result ≡ Err failure → (made : IsWellMade text) →
-    turns_given p.taken ≤ made.opens.frames + requests_in text.scripts
-few_turns text result failure p is made =
+-- what was sent is in order
+in_order : (text : SessionText) (failure : Failure) (p : IsPlayed text (Err failure)) (made : IsWellMade text) → SentInOrder (meaning_of table) (call_of text p.after) made.settings p.given p.taken
+in_order text failure p made =
     let call = call_of text p.after in
-    let sent : SendsInOrder call (Err failure) = subst (SendsInOrder call) is p.session.sent in
-    let crossed = sent (made.settings, made.means, tt) in
+    let crossed = p.by_table.sent (made.settings, made.means, tt) in
     let same : crossed.0 ≡ made.settings = means_one text.config crossed.0 made.settings crossed.1 made.means in
     let gave : added (Some []) p.after.given ≡ Some p.given = ap (λ o. added (Some []) o) p.told_given in
     let took : added (Some []) p.after.taken ≡ Some p.taken = ap (λ o. added (Some []) o) p.told_taken in
-    let t = of-some (added (Some []) p.after.taken) p.taken (λ t. SentInOrder call crossed.0 p.given t) took
-    (of-some (added (Some []) p.after.given) p.given (λ g. IfSome (added (Some []) p.after.taken) (λ t. SentInOrder call crossed.0 g t)) gave crossed.2) in
-    let few = asks-few call made.settings p.given p.taken made.valid.no_tls (subst (λ (x : Settings). SentInOrder call x p.given p.taken) same t) in
-    let most : length (startup_after call made.settings p.given).frames ≤ made.opens.frames =
-    few-frames call made.settings (plan_of text) p.taken p.given (same_startup text (new_link text) p.after made.settings (plan_of text) made.opens)
-    (in-plan call (plan_of text) p.taken p.session.link refl refl refl p.told_taken p.given p.told_given) in
-    omega (arith, few, most)
+    let t = of-some (added (Some []) p.after.taken) p.taken (λ t. SentInOrder (meaning_of table) call crossed.0 p.given t) took
+    (of-some (added (Some []) p.after.given) p.given (λ g. IfSome (added (Some []) p.after.taken) (λ t. SentInOrder (meaning_of table) call crossed.0 g t)) gave crossed.2) in
+    subst (λ (x : Settings). SentInOrder (meaning_of table) call x p.given p.taken) same t
 
-ends_well : (text : SessionText) (result : SessionResult) (failure : Failure) → IsPlayed text result → result ≡ Err failure → IsWellMade text → EndsWell (Err failure)
-ends_well text result failure p is made =
-    subst EndsWell is
-    (p.session.must_end_well (plan_of text) made.settings p.taken refl refl refl p.told_taken made.means (same_valid text (new_link text) p.after made.settings (plan_of text) made.valid)
+ends_well : (text : SessionText) (failure : Failure) → IsPlayed text (Err failure) → IsWellMade text → must.EndsWell {T = Told Answer} (Err failure)
+ends_well text failure p made =
+    let front = in-plan (any.apart (call_of text p.after)) (plan_of text) p.taken p.by_table.link refl refl refl p.told_taken p.given p.told_given in
+    p.by_table.must_end_well (plan_of text) made.settings p.taken refl refl refl p.told_taken made.means (same_valid text (new_link text) p.after made.settings (plan_of text) made.valid)
     (record {
       opens = same_startup text (new_link text) p.after made.settings (plan_of text) made.opens;
-      later = made.conforms p.taken (few_turns text result failure p is made);
-    }))
+      later = made.answers p.given p.taken front (same_sent text p.after (new_link text) made.settings p.given p.taken (in_order text failure p made));
+    })
+
+-- a session that is well made fails for want of memory alone
+fails_memory : (text : SessionText) (e : Failure) → IsPlayed text (Err e) → IsWellMade text → e ≡ OutOfMemory
+fails_memory text e p made = only_memory e (ends_well text e p made)
 
 -- the text due was written, or memory lacked
 ends_so : (old new : SinkView) (text : List ℕ) (status : ℕ) → EndsWith old new text 0 status → (status ≡ 4 → ⊥) → (status ≡ 0) ⊎ (status ≡ 5)
@@ -140,14 +105,14 @@ ends_so old new text status (inl wrote) calm = inl wrote.0
 ends_so old new text status (inr (inl four, front)) calm = absurd (calm four)
 ends_so old new text status (inr (inr five, front)) calm = inr five
 
-result_so : (text : SessionText) (old new : SinkView) (status : ℕ) (result : SessionResult) → PlayedSession IsPlayed text old new status result → IsWellMade text →
+result_so : (text : SessionText) (old new : SinkView) (status : ℕ) (result : SessionAnswer) → PlayedSession IsPlayed text old new status result → IsWellMade text →
     (Rose old.faults new.faults → ⊥) → (status ≡ 0) ⊎ (status ≡ 5)
 result_so text old new status (Ok report) played made calm = ends_so old new (report_text report) status played.answered.says (λ four. calm (played.answered.sink_failed four))
 result_so text old new status (Err failure) played made calm =
-    let memory = only_memory failure (ends_well text (Err failure) failure played.played refl made) in
+    let memory = fails_memory text failure played.played made in
     inr (subst (λ (f : Failure). SaysResult old new status (Err f)) memory played.answered.says).0
 
-text_so : (bytes : List ℕ) (text : SessionText) (old new : SinkView) (status : ℕ) (result : Option SessionResult) → PlayedText IsPlayed bytes old new status result → length bytes ≤ longest_text →
+text_so : (bytes : List ℕ) (text : SessionText) (old new : SinkView) (status : ℕ) (result : Option SessionAnswer) → PlayedText IsPlayed bytes old new status result → length bytes ≤ longest_text →
     IsSessionText bytes text → IsWellMade text → (Rose old.faults new.faults → ⊥) → (status ≡ 0) ⊎ (status ≡ 5)
 text_so bytes text old new status (Some result) played within is made calm =
     result_so text old new status result (subst (λ (t : SessionText). PlayedSession IsPlayed t old new status result) (one_session bytes played.0 text played.1 is) played.2) made calm
@@ -156,7 +121,7 @@ text_so bytes text old new status None (inl (Some n, refused, wrote)) within is 
 text_so bytes text old new status None (inr nothing) within is made calm = inr nothing.0
 
 -- over its own link
-own_text : (a b : LinkView) (bytes : List ℕ) (old new : SinkView) (status : ℕ) (result : Option SessionResult) → PlayedText (IsOver over.Own a b) bytes old new status result → PlayedText IsPlayed bytes old new status result
+own_text : (a b : LinkView) (bytes : List ℕ) (old new : SinkView) (status : ℕ) (result : Option SessionAnswer) → PlayedText (IsOver over.Own a b) bytes old new status result → PlayedText IsPlayed bytes old new status result
 own_text a b bytes old new status None played = played
 own_text a b bytes old new status (Some result) played = (played.0, played.1, record { answered = played.2.answered; played = played.2.played.0 })
 
@@ -169,12 +134,82 @@ must_text run over.Own bytes asks read played told text words left within is mad
     (subst (λ (l : List ℕ). IsSessionText l text) same is) made calm_sink
 must_text run over.Handed bytes asks read played told text words left within is made calm_source calm_sink = absurd (let no : play ≡ codes "pipe" ∷ asks.0 ∷ asks.1 ∷ [] = sym words ∙ asks.2 in cc)
 
+-- ---- texts of simple queries alone, in the words of these
+
+-- what a session of simple queries promises over its own link, in the words of these
+pub played_simply : (text : said.SessionText) (result : SessionAnswer) → IsPlayed (as_session text) result → ToldSimply result (IsPlayedSimply text)
+played_simply text result p =
+    let told = keeps_simply (call_of (as_session text) p.after) text.scripts refl result p.by_table in
+    record {
+      simple = told.simple;
+      said_so = told.said_so;
+      holds = record {
+        after = p.after;
+        given = p.given;
+        taken = p.taken;
+        told_given = p.told_given;
+        told_taken = p.told_taken;
+        tells = p.tells;
+        rest = p.rest;
+        front = p.front;
+        no_fault = p.no_fault;
+        session = told.holds;
+      };
+    }
+
+-- the one session of the text's bytes
+same_text : (bytes : List ℕ) (text : said.SessionText) (other : SessionText) → said.IsSessionText bytes text → IsSessionText bytes other → other ≡ as_session text
+same_text bytes text other is also = one_session bytes other (as_session text) also (text-as bytes text is)
+
+-- what was written
+says_simply : (old new : SinkView) (status : ℕ) (result : SessionAnswer) (told : SessionResult) → IsSaidSo result told → SaysResult old new status result → SaysSimply old new status told
+says_simply old new status (Ok report) (Ok simple) so says =
+    subst (λ (text : List ℕ). EndsWith old new text 0 status) (prints-simply report so.0 so.1 ∙ ap simply.report_text (sym so.2)) says
+says_simply old new status (Ok report) (Err failure) so says = absurd so
+says_simply old new status (Err e) (Ok simple) so says = absurd so
+says_simply old new status (Err e) (Err failure) so says = subst (λ (f : Failure). SaysSimply old new status (Err f)) (sym so) (failed_simply old new status e says)
+  where
+    failed_simply : (old new : SinkView) (status : ℕ) (e : Failure) → SaysResult old new status (Err e) → SaysSimply old new status (Err e)
+    failed_simply old new status OutOfMemory says = says
+    failed_simply old new status _ says = says
+
+-- by the link that was asked for
+over_simply : (which : Over) (before after : LinkView) (text : said.SessionText) (result : SessionAnswer) → IsOver which before after (as_session text) result → ToldSimply result (IsOverSimply which before after text)
+over_simply over.Own before after text result p =
+    let told = played_simply text result p.0 in record { simple = told.simple; said_so = told.said_so; holds = (told.holds, p.1) }
+over_simply over.Handed before after text result p = keeps_simply (call_over (as_session text) before after) text.scripts refl result p.by_table
+
+-- words ask for one link
+one_link : (words : List (List ℕ)) (a b : Over) → Asks words a → Asks words b → a ≡ b
+one_link words over.Own over.Own x y = refl
+one_link words over.Handed over.Handed x y = refl
+one_link words over.Own over.Handed x y = absurd (let no : play ≡ codes "pipe" ∷ y.0 ∷ y.1 ∷ [] = sym x ∙ y.2 in cc)
+one_link words over.Handed over.Own x y = absurd (let no : play ≡ codes "pipe" ∷ x.0 ∷ x.1 ∷ [] = sym y ∙ x.2 in cc)
+
+simple_text : (run : Run) (which : Over) (bytes : List ℕ) (text : said.SessionText) (result : Option SessionAnswer) → said.IsSessionText bytes text →
+    PlayedText (IsOver which run.link_before run.link_after) bytes run.sink_before run.sink_after run.status result → IfSome result (PlaysSimply run which text)
+simple_text run which bytes text None is played = tt
+simple_text run which bytes text (Some result) is played =
+    let session = subst (λ (t : SessionText). PlayedSession (IsOver which run.link_before run.link_after) t run.sink_before run.sink_after run.status result) (same_text bytes text played.0 is played.1) played.2 in
+    let told = over_simply which run.link_before run.link_after text result session.played in
+    record { simple = told.simple; said_so = told.said_so; holds = (says_simply run.sink_before run.sink_after run.status result told.simple told.said_so session.answered.says, told.holds) }
+
+-- a text was read and played
+pub simply_text : (run : Run) (which : Over) (bytes : List ℕ) → Asks run.words which → ReadWhole run.source_before bytes →
+    PlayedText (IsOver which run.link_before run.link_after) bytes run.sink_before run.sink_after run.status run.result → PlaysSimpleText run
+simply_text run which bytes asks read played other told text also left is =
+    let same : told ≡ bytes = of-some run.source_before.left told (λ l. l ≡ bytes) left read.all in
+    subst (λ (o : Over). IfSome run.result (PlaysSimply run o text)) (one_link run.words which other asks also)
+    (simple_text run which bytes text run.result (subst (λ (l : List ℕ). said.IsSessionText l text) same is) played)
+
 -- ---- a generated session
 
 -- its result was told; it fails for want of memory alone
-pub summed_up : (x : Numbers) (old new : SinkView) (status : ℕ) (r : SessionResult) → IsCount x.commands → IsPlayed (generated x.commands x.seed) r → WritesSummary old new status r → SummedUp old new status r
+pub summed_up : (x : Numbers) (old new : SinkView) (status : ℕ) (r : SessionAnswer) → IsCount x.commands → IsPlayed (as_session (generated x.commands x.seed)) r → WritesSummary old new status r → SummedUp old new status r
 summed_up x old new status (Ok report) count played w = record { says = w.ends; sink_failed = w.sink_failed (λ e. cc e) }
-summed_up x old new status (Err failure) count played nothing = record {
-  says = (only_memory failure (ends_well (generated x.commands x.seed) (Err failure) failure played refl (well_made x.commands x.seed (call_of (generated x.commands x.seed) (new_link (generated x.commands x.seed))) count (record { nonce = refl; limit = refl }))), nothing);
-  sink_failed = λ is. absurd (omega (arith, nothing.0, is));
-}
+summed_up x old new status (Err failure) count played nothing =
+    let text = generated x.commands x.seed in
+    record {
+      says = (fails_memory (as_session text) failure played (made_simply text (well_made x.commands x.seed (simple_call_of text (new_link (as_session text))) count (record { nonce = refl; limit = refl }))), nothing);
+      sink_failed = λ is. absurd (omega (arith, nothing.0, is));
+    }

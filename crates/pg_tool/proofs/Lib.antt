@@ -19,6 +19,7 @@ pub mod Going
 pub mod Causing
 pub mod Limiting
 pub mod Sending
+pub mod Simply
 pub mod Calming
 pub mod Crossing
 pub mod Completing

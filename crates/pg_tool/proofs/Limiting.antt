@@ -6,7 +6,10 @@ use Rattle.pg_promises.specs.ConnectionStrings.{Means}
 use Rattle.pg_spec.specs.Settings.{Settings}
 use Rattle.pg_spec.specs.Faults.{LimitReached}
 use Rattle.pg_spec.specs.Links.{LinkView, OfBytes, added}
-use Rattle.pg_spec.specs.Report as told
+use Rattle.pg_failed.specs.Calls as any
+use Rattle.pg_failed.specs.Calls.{apart}
+use Rattle.pg_headline.specs.Endings as ending
+use Rattle.pg_text.specs.declared.command.Answer.{Answer}
 use Rattle.pg_faults.specs.declared.error.Error.{Error}
 use Rattle.pg_faults.specs.declared.error.Error.TheVariants as error
 use Rattle.pg_startup.specs.declared.startup.Startup.{Startup}
@@ -16,7 +19,7 @@ use Rattle.pg_text.specs.declared.report.Report.{Report}
 use Rattle.pg_table.specs.Headlines.{told_in}
 use Rattle.pg_tool.specs.Fails.{PlaysWithin, SessionFails}
 use Rattle.pg_tool.specs.Openings.{OpenEnds}
-use Rattle.pg_tool.specs.SessionContract.{KeepsLimit, SessionResult, result_of}
+use Rattle.pg_tool.specs.TableContract.{KeepsLimit, TableResult, table_result}
 use Rattle.pg_tool.proofs.AtTable.{broken-limit, holds-ended}
 
 -- what follows of told bytes
@@ -41,23 +44,23 @@ any_bytes a b Q f = by (added a.given b.given)
     by (Some g) = all g (added a.taken b.taken)
 
 -- no more were given
-within_so : (call : Call) (r : SessionResult) → OfBytes call.before call.after (λ g t. length g ≤ call.limit) → KeepsLimit call r
+within_so : (call : any.Call Command) (r : TableResult) → OfBytes call.before call.after (λ g t. length g ≤ call.limit) → KeepsLimit call r
 within_so call r within =
-    map_bytes call.before call.after (λ g t. length g ≤ call.limit) (λ g t. call.limit < length g → Unless {R = told.Report} (λ failure. failure ≡ LimitReached (length g) call.limit) r)
+    map_bytes call.before call.after (λ g t. length g ≤ call.limit) (λ g t. call.limit < length g → Unless {R = ending.Report Answer} (λ failure. failure ≡ LimitReached (length g) call.limit) r)
     (λ g t less more. absurd (omega (arith, less, more))) within
 
-failed_so : (call : Call) (e : Error) → HoldsLimit call e → HasCause call e → KeepsLimit call (Err e)
+failed_so : (call : any.Call Command) (e : Error) → HoldsLimit (apart call) e → HasCause (apart call) e → KeepsLimit call (Err e)
 failed_so call (error.LimitReached given limit) holds cause =
-    map_bytes call.before call.after (λ g t. length g ≡ given) (λ g t. call.limit < length g → Unless {R = told.Report} (λ failure. failure ≡ LimitReached (length g) call.limit) (Err (LimitReached given limit)))
+    map_bytes call.before call.after (λ g t. length g ≡ given) (λ g t. call.limit < length g → Unless {R = ending.Report Answer} (λ failure. failure ≡ LimitReached (length g) call.limit) (Err (LimitReached given limit)))
     (λ g t count more. ap (λ (n : ℕ). LimitReached n limit) (sym count) ∙ ap (λ (n : ℕ). LimitReached (length g) n) cause.asked) cause.counted
 failed_so call error.OutOfMemory holds cause =
-    any_bytes call.before call.after (λ g t. call.limit < length g → Unless {R = told.Report} (λ failure. failure ≡ LimitReached (length g) call.limit) (Err error.OutOfMemory)) (λ g t more. tt)
+    any_bytes call.before call.after (λ g t. call.limit < length g → Unless {R = ending.Report Answer} (λ failure. failure ≡ LimitReached (length g) call.limit) (Err error.OutOfMemory)) (λ g t more. tt)
 failed_so call e holds cause = within_so call (Err e) holds
 
 -- by what a session answered
-pub keeps_limit : (call : Call) (r : Result Report Error) → IfOk r (λ report. OfBytes call.before call.after (λ g t. length g ≤ call.limit)) → IfErr r (HoldsLimit call) →
-    IfErr r (λ e. HasCause call e) → KeepsLimit call (result_of r)
-keeps_limit call (Ok report) ended holds causes = within_so call (result_of (Ok report)) ended
+pub keeps_limit : (call : any.Call Command) (r : Result Report Error) → IfOk r (λ report. OfBytes call.before call.after (λ g t. length g ≤ call.limit)) → IfErr r (HoldsLimit (apart call)) →
+    IfErr r (HasCause (apart call)) → KeepsLimit call (table_result r)
+keeps_limit call (Ok report) ended holds causes = within_so call (table_result (Ok report)) ended
 keeps_limit call (Err e) ended holds causes = failed_so call e holds causes
 
 -- ---- a session that ended well

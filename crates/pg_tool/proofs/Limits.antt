@@ -2,7 +2,8 @@
 use Rattle.std.proofs.Common.{◌≡◌, ℕ, ◌^◌, ◌<◌, Bool, true, false, cond, List, [], ◌∷◌, filter, Option, Some, None, subst, arith}
 use Rattle.std.specs.Prelude.{filter_map}
 use Rattle.std.specs.List.{AllByRecursion, AllZip, cons_option}
-use Rattle.pg_spec.specs.SessionText.{Line, Nothing, ConfigLine, NonceLine, EndLine, LimitLine, TurnsLine, HandleLine, StepLine, CutLine, CommandLine, Spells, SessionText, IsSessionText, is_said, limit_of, one_or}
+use Rattle.pg_spec.specs.SessionText.{one_or}
+use Rattle.pg_text.specs.SessionText.{Line, Nothing, ConfigLine, NonceLine, EndLine, LimitLine, TurnsLine, HandleLine, StepLine, CutLine, CommandLine, Spells, SessionText, IsSessionText, is_said, limit_of}
 
 -- a number, if it is one, fits
 abbrev IsWithin : Option ℕ → Type 0

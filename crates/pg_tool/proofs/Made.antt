@@ -13,7 +13,7 @@ use Rattle.pg_turns.specs.declared.handle_turn.Polling.{Polling}
 use Rattle.pg_text.specs.declared.command.Command.{Command}
 use Rattle.pg_tool.specs.declared.handle.Handle.{Handle}
 use Rattle.pg_tool.specs.declared.play.Play.{Play}
-use Rattle.pg_client.specs.Queries.{place_of_query}
+use Rattle.pg_table.specs.States.{place_of}
 use Rattle.pg_turns.specs.States.{new_handles}
 use Rattle.pg_turns.specs.Handles.{idle_handle}
 use Rattle.pg_table.specs.Table.{TableSession, table}
@@ -32,8 +32,9 @@ idle_views (h ∷ hs) [] count idle = absurd (omega (arith, count))
 idle_views (h ∷ hs) (script ∷ scripts) count idle =
     let first : IsIdleHandle h = idle 0 h (omega arith) in
     let views : view_of h ≡ idle_handle table.begins =
-    ap (λ r. record { running = option_map (λ state. place_of_query state.value) r; answers = h.answers.items; own = tt }) first.running
-    ∙ ap (λ items. record { running = None; answers = items; own = tt }) first.answers in
+    ap (λ r. record { running = option_map place_of r; answers = h.answers.items; own = h.slots }) first.running
+    ∙ ap (λ items. record { running = None; answers = items; own = h.slots }) first.answers
+    ∙ ap (λ slots. record { running = None; answers = []; own = slots }) first.slots in
     ap (λ v. v ∷ map view_of hs) views
     ∙ ap (λ vs. idle_handle table.begins ∷ vs) (idle_views hs scripts (omega (arith, count)) (λ k d within. idle (suc k) d (omega (arith, within))))
 

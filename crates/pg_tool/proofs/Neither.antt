@@ -1,6 +1,7 @@
 -- Each text is that of a session or is refused at one of its lines.
 use Rattle.std.proofs.Common.{◌+◌, ◌++◌, ◌∷◌, ℕ, false, List, [], length, refl, sym, subst, append_assoc}
-use Rattle.pg_spec.specs.SessionText.{AreLines, ConfigLine, IsRefusedAt, IsSessionText, MayBegin, SessionText, default_nonce}
+use Rattle.pg_spec.specs.SessionText.{AreLines, default_nonce}
+use Rattle.pg_text.specs.SessionText.{ConfigLine, IsRefusedAt, IsSessionText, MayBegin, SessionText}
 use Rattle.pg_text.proofs.TextLaws.{are_lines}
 use Rattle.pg_text.specs.Texts.{lines_of}
 

@@ -70,9 +70,9 @@ next_on scripts turn s t l m over (inl handle) on =
 next_on scripts turn s t l m over (inr connection) on = subst (λ (hs : List TableHandle). AreOnScripts scripts hs) (sym connection.made.handles) on
 
 -- before the first turn none runs
-idle_at : (scripts : List (List Command)) (place : ℕ) (h : TableHandle) → slice_get (new_handles tt scripts) place ≡ Some h → h.running ≡ None
+idle_at : (scripts : List (List Command)) (place : ℕ) (h : TableHandle) → slice_get (new_handles table.begins scripts) place ≡ Some h → h.running ≡ None
 idle_at [] place h e = absurd cc
-idle_at (script ∷ scripts) zero h e = let same : idle_handle tt ≡ h = cc in ap (λ (x : TableHandle). x.running) (sym same)
+idle_at (script ∷ scripts) zero h e = let same : idle_handle table.begins ≡ h = cc in ap (λ (x : TableHandle). x.running) (sym same)
 idle_at (script ∷ scripts) (suc place) h e = idle_at scripts place h e
 
 pub new_on : (scripts : List (List Command)) (s : TableSession) → IsNewSession table scripts s → AreOnScripts scripts s.handles

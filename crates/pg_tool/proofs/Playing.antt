@@ -1,7 +1,6 @@
 -- A session that was played over a link in memory.
 use Rattle.std.proofs.Common.{◌≡◌, ℕ, ◌&&◌, nat_le, Bool, true, false, if◌then◌else◌, zero, suc, List, [], ◌∷◌, ◌++◌, length, take, drop, take-append-drop, append_assoc, Option, Some, None, IfOk, Result, Ok, Err, refl, sym, ap, subst, ◌∙◌}
 use Rattle.std.specs.List.{concat}
-use Rattle.pg_promises.specs.Causes.{Call}
 use Rattle.pg_spec.specs.Links.{LinkView, Plan}
 use Rattle.pg_wire.specs.declared.memory_link.MemoryLink.TheInside.{Inside}
 use Rattle.pg_wire.specs.Giving.{bytes_before, entries_of, entry_of}
@@ -9,14 +8,12 @@ use Rattle.pg_wire.specs.Memory.{Memory, as_count, link_of, tells}
 use Rattle.pg_wire.specs.MemoryLinks.{memory_of}
 use Rattle.pg_text.specs.declared.session.Session.{Session}
 use Rattle.pg_text.specs.Sessions.{IsNew, session_of}
-use Rattle.pg_text.specs.Views.{scripts_of}
 use Rattle.pg_faults.specs.declared.error.Error.{Error}
 use Rattle.pg_promises.specs.ConnectionStrings.{Means}
 use Rattle.pg_turns.specs.Sessions.{HasPlayed}
 use Rattle.pg_spec.specs.Settings.{Settings}
 use Rattle.pg_text.specs.declared.report.Report.{Report}
-use Rattle.pg_tool.specs.RunContract.{IsPiped, IsPlayed, KeepsTable, WasPlayed, call_of, call_over, new_link}
-use Rattle.pg_tool.specs.SessionContract.{SessionContract, result_of}
+use Rattle.pg_tool.specs.RunContract.{IsPiped, IsPlayed, WasPlayed, call_of, call_over, new_link}
 use Rattle.pg_table.specs.Headlines.{told_in}
 use Rattle.pg_table.specs.Table.{table}
 use Rattle.pg_tool.specs.TableContract.{TableContract, table_call, table_result}
@@ -57,65 +54,31 @@ no_end false = refl
 link_is : (s : Session) → IsNew s → link_of s.link ≡ new_link (session_of s)
 link_is s new = ap link_of new.link ∙ ap (λ (n : ℕ). record (new_link (session_of s)) { ends = n }) (no_end (s.link.ends && nat_le (length (concat s.link.entries)) 0))
 
--- the call of `run_session` for a session, with these texts and turns
-abbrev pub asked : (config nonce turns : List ℕ) → Session → LinkView → Call
-asked config nonce turns s after = record {
-  config = config;
-  nonce = nonce;
-  scripts = scripts_of s.scripts;
-  turns = turns;
-  limit = s.max_bytes;
-  before = link_of s.link;
-  after = after;
-}
-
--- it is the text's, over a new link
-asked_is : (config nonce turns : List ℕ) (s : Session) (after : LinkView) → IsNew s → config ≡ s.config → nonce ≡ s.nonce → turns ≡ s.turns →
-    asked config nonce turns s after ≡ call_of (session_of s) after
-asked_is config nonce turns s after new config_is nonce_is turns_is =
-    ap (λ (v : List ℕ). asked v nonce turns s after) config_is
-    ∙ ap (λ (v : List ℕ). asked s.config v turns s after) nonce_is
-    ∙ ap (λ (v : List ℕ). asked s.config s.nonce v s after) turns_is
-    ∙ ap (λ (l : LinkView). record (call_of (session_of s) after) { before = l }) (link_is s new)
-
 -- by the table, of the text
 keeps_table : (config nonce turns : List ℕ) (s : Session) (before after : LinkView) (r : Result Report Error) → config ≡ s.config → nonce ≡ s.nonce → turns ≡ s.turns →
-    TableContract (table_call config nonce s.scripts turns s.max_bytes before after) (table_result r) → KeepsTable (session_of s) before after (result_of r)
-keeps_table config nonce turns s before after r config_is nonce_is turns_is kept = (
-  s.scripts,
-  refl,
-  r,
-  refl,
-  subst (λ (v : List ℕ). TableContract (table_call v s.nonce s.scripts s.turns s.max_bytes before after) (table_result r)) config_is
-      (subst (λ (v : List ℕ). TableContract (table_call config v s.scripts s.turns s.max_bytes before after) (table_result r)) nonce_is
-      (subst (λ (v : List ℕ). TableContract (table_call config nonce s.scripts v s.max_bytes before after) (table_result r)) turns_is kept)),
-)
+    TableContract (table_call config nonce s.scripts turns s.max_bytes before after) (table_result r) → TableContract (call_over (session_of s) before after) (table_result r)
+keeps_table config nonce turns s before after r config_is nonce_is turns_is kept =
+    subst (λ (v : List ℕ). TableContract (table_call v s.nonce s.scripts s.turns s.max_bytes before after) (table_result r)) config_is
+    (subst (λ (v : List ℕ). TableContract (table_call config v s.scripts s.turns s.max_bytes before after) (table_result r)) nonce_is
+    (subst (λ (v : List ℕ). TableContract (table_call config nonce s.scripts v s.max_bytes before after) (table_result r)) turns_is kept))
 
 -- it was played turn by turn, of the text
-was_played : (config nonce turns : List ℕ) (s : Session) (m : Memory) (r : Result Report Error) → IsNew s → config ≡ s.config → nonce ≡ s.nonce → turns ≡ s.turns →
-    IfOk r (λ told. (settings : Settings) × Means config settings × HasPlayed table settings nonce s.scripts turns (link_of s.link) (link_of m) (told_in told)) →
-    WasPlayed (session_of s) (new_link (session_of s)) (link_of m) (result_of r)
-was_played config nonce turns s m (Err e) new config_is nonce_is turns_is played = tt
-was_played config nonce turns s m (Ok told) new config_is nonce_is turns_is played =
-    let named : HasPlayed table played.0 s.nonce s.scripts turns (link_of s.link) (link_of m) (told_in told) =
-    subst (λ (v : List ℕ). HasPlayed table played.0 v s.scripts turns (link_of s.link) (link_of m) (told_in told)) nonce_is played.2 in
-    let turned : HasPlayed table played.0 s.nonce s.scripts s.turns (link_of s.link) (link_of m) (told_in told) =
-    subst (λ (v : List ℕ). HasPlayed table played.0 s.nonce s.scripts v (link_of s.link) (link_of m) (told_in told)) turns_is named in (
+was_played : (config nonce turns : List ℕ) (s : Session) (before after : LinkView) (r : Result Report Error) → config ≡ s.config → nonce ≡ s.nonce → turns ≡ s.turns →
+    IfOk r (λ told. (settings : Settings) × Means config settings × HasPlayed table settings nonce s.scripts turns before after (told_in told)) →
+    WasPlayed (session_of s) before after r
+was_played config nonce turns s before after (Err e) config_is nonce_is turns_is played = tt
+was_played config nonce turns s before after (Ok told) config_is nonce_is turns_is played =
+    let named : HasPlayed table played.0 s.nonce s.scripts turns before after (told_in told) = subst (λ (v : List ℕ). HasPlayed table played.0 v s.scripts turns before after (told_in told)) nonce_is played.2 in (
       played.0,
       subst (λ (v : List ℕ). Means v played.0) config_is played.1,
-      s.scripts,
-      refl,
-      told,
-      refl,
-      subst (λ (v : LinkView). HasPlayed table played.0 s.nonce s.scripts s.turns v (link_of m) (told_in told)) (link_is s new) turned,
+      subst (λ (v : List ℕ). HasPlayed table played.0 s.nonce s.scripts v before after (told_in told)) turns_is named,
     )
 
-pub played_over : (config nonce turns : List ℕ) (s : Session) (m : Memory) (r : Result Report Error) → IsNew s →
-    config ≡ s.config → nonce ≡ s.nonce → turns ≡ s.turns → SessionContract (asked config nonce turns s (link_of m)) (result_of r) →
+pub played_over : (config nonce turns : List ℕ) (s : Session) (m : Memory) (r : Result Report Error) → IsNew s → config ≡ s.config → nonce ≡ s.nonce → turns ≡ s.turns →
     TableContract (table_call config nonce s.scripts turns s.max_bytes (link_of s.link) (link_of m)) (table_result r) →
     IfOk r (λ told. (settings : Settings) × Means config settings × HasPlayed table settings nonce s.scripts turns (link_of s.link) (link_of m) (told_in told)) →
-    (rest : List ℕ) × (m.given ++ rest ≡ concat m.entries) → IsPlayed (session_of s) (result_of r)
-played_over config nonce turns s m r new config_is nonce_is turns_is promised kept played front = record {
+    (rest : List ℕ) × (m.given ++ rest ≡ concat m.entries) → IsPlayed (session_of s) r
+played_over config nonce turns s m r new config_is nonce_is turns_is kept played front = record {
   after = link_of m;
   given = m.given;
   taken = m.taken;
@@ -123,48 +86,24 @@ played_over config nonce turns s m r new config_is nonce_is turns_is promised ke
   told_taken = refl;
   tells = tells m;
   rest = front.0;
-  front = front.1 ∙ ap (λ (plan : Option Plan). concat (told_entries plan)) session.link.keeps.plan;
+  front = front.1 ∙ ap (λ (plan : Option Plan). concat (told_entries plan)) contract.link.keeps.plan;
   no_fault = refl;
-  session = session;
-  by_table = subst (λ (l : LinkView). KeepsTable (session_of s) l (link_of m) (result_of r)) (link_is s new) (keeps_table config nonce turns s (link_of s.link) (link_of m) r config_is nonce_is turns_is kept);
-  turns = was_played config nonce turns s m r new config_is nonce_is turns_is played;
+  by_table = contract;
+  turns = subst (λ (l : LinkView). WasPlayed (session_of s) l (link_of m) r) (link_is s new) (was_played config nonce turns s (link_of s.link) (link_of m) r config_is nonce_is turns_is played);
 }
   where
-    session : SessionContract (call_of (session_of s) (link_of m)) (result_of r)
-    session = subst (λ (call : Call). SessionContract call (result_of r)) (asked_is config nonce turns s (link_of m) new config_is nonce_is turns_is) promised
+    contract : TableContract (call_of (session_of s) (link_of m)) (table_result r)
+    contract =
+        subst (λ (l : LinkView). TableContract (call_over (session_of s) l (link_of m)) (table_result r)) (link_is s new)
+        (keeps_table config nonce turns s (link_of s.link) (link_of m) r config_is nonce_is turns_is kept)
 
 -- ---- over the link that was handed in
 
--- it was played turn by turn, of the text
-was_piped : (config nonce turns : List ℕ) (s : Session) (before after : LinkView) (r : Result Report Error) → config ≡ s.config → nonce ≡ s.nonce → turns ≡ s.turns →
-    IfOk r (λ told. (settings : Settings) × Means config settings × HasPlayed table settings nonce s.scripts turns before after (told_in told)) →
-    WasPlayed (session_of s) before after (result_of r)
-was_piped config nonce turns s before after (Err e) config_is nonce_is turns_is played = tt
-was_piped config nonce turns s before after (Ok told) config_is nonce_is turns_is played =
-    let named : HasPlayed table played.0 s.nonce s.scripts turns before after (told_in told) = subst (λ (v : List ℕ). HasPlayed table played.0 v s.scripts turns before after (told_in told)) nonce_is played.2 in (
-      played.0,
-      subst (λ (v : List ℕ). Means v played.0) config_is played.1,
-      s.scripts,
-      refl,
-      told,
-      refl,
-      subst (λ (v : List ℕ). HasPlayed table played.0 s.nonce s.scripts v before after (told_in told)) turns_is named,
-    )
-
-piped_is : (config nonce turns : List ℕ) (s : Session) (before after : LinkView) → config ≡ s.config → nonce ≡ s.nonce → turns ≡ s.turns →
-    record (asked config nonce turns s after) { before = before } ≡ call_over (session_of s) before after
-piped_is config nonce turns s before after config_is nonce_is turns_is =
-    ap (λ (v : List ℕ). record (asked v nonce turns s after) { before = before }) config_is
-    ∙ ap (λ (v : List ℕ). record (asked s.config v turns s after) { before = before }) nonce_is
-    ∙ ap (λ (v : List ℕ). record (asked s.config s.nonce v s after) { before = before }) turns_is
-
-pub piped_over : (config nonce turns : List ℕ) (s : Session) (before after : LinkView) (r : Result Report Error) →
-    config ≡ s.config → nonce ≡ s.nonce → turns ≡ s.turns → SessionContract (record (asked config nonce turns s after) { before = before }) (result_of r) →
+pub piped_over : (config nonce turns : List ℕ) (s : Session) (before after : LinkView) (r : Result Report Error) → config ≡ s.config → nonce ≡ s.nonce → turns ≡ s.turns →
     TableContract (table_call config nonce s.scripts turns s.max_bytes before after) (table_result r) →
     IfOk r (λ told. (settings : Settings) × Means config settings × HasPlayed table settings nonce s.scripts turns before after (told_in told)) →
-    IsPiped before after (session_of s) (result_of r)
-piped_over config nonce turns s before after r config_is nonce_is turns_is promised kept played = record {
-  session = subst (λ (call : Call). SessionContract call (result_of r)) (piped_is config nonce turns s before after config_is nonce_is turns_is) promised;
+    IsPiped before after (session_of s) r
+piped_over config nonce turns s before after r config_is nonce_is turns_is kept played = record {
   by_table = keeps_table config nonce turns s before after r config_is nonce_is turns_is kept;
-  turns = was_piped config nonce turns s before after r config_is nonce_is turns_is played;
+  turns = was_played config nonce turns s before after r config_is nonce_is turns_is played;
 }

@@ -18,7 +18,6 @@ use Rattle.pg_promises.specs.ConnectionStrings.{Means}
 use Rattle.pg_spec.specs.Settings.{Settings, Require, Postgres, Direct}
 use Rattle.pg_spec.specs.Faults.{Cause, ConfigParse, OutOfMemory}
 use Rattle.pg_spec.specs.Links.{LinkView, added}
-use Rattle.pg_spec.specs.Report as said
 use Rattle.pg_wire.specs.LinkCalls.{Continues, Tells}
 use Rattle.pg_connect.specs.Calm.{StaysCalm}
 use Rattle.pg_faults.specs.declared.cause.Cause.TheVariants as cause
@@ -28,68 +27,70 @@ use Rattle.pg_text.specs.declared.command.Command.{Command}
 use Rattle.pg_text.specs.declared.report.Report.{Report}
 use Rattle.pg_turns.specs.Speeches.{meaning_of}
 use Rattle.pg_session.specs.WholeSession.{IsClosed, LeavesOpen}
-use Rattle.pg_table.specs.Headlines.{in_words, told_in}
+use Rattle.pg_spec.specs.Report as said
+use Rattle.pg_table.specs.Headlines.{simple_call, told_in}
 use Rattle.pg_table.specs.Table.{table}
-use Rattle.pg_tool.specs.Asked.{call_of, MayStart}
+use Rattle.pg_text.specs.Views.{as_scripts}
+use Rattle.pg_tool.specs.Asked.{MayStart}
 use Rattle.pg_tool.specs.Fails.{PlaysWithin, SessionFails}
 use Rattle.pg_startup.specs.declared.ssl_request.SslRequest.{SslRequest}
 use Rattle.pg_tls.specs.declared.choice.TlsChoice.TheVariants.{Asks, Shakes}
 use Rattle.pg_tool.specs.Required.{AsksInVain, AsksWithin, choice_of}
-use Rattle.pg_tool.specs.SessionContract.{KeepsLimit, SessionContract, result_of}
+use Rattle.pg_tool.specs.SessionContract.{SessionContract, ToldSimply}
 use Rattle.pg_headline.specs.Endings.{IsRun}
-use Rattle.pg_tool.specs.TableContract.{IsEndedWell, SendsInOrder, TableContract, table_call, table_result}
+use Rattle.pg_tool.specs.TableContract.{IsEndedWell, KeepsLimit, SendsInOrder, TableContract, table_call, table_result}
 use Rattle.pg_tool.proofs.AtTable.{is-closed, sent-untouched}
-use Rattle.pg_tool.proofs.Causing.{caused, causes_apart}
-use Rattle.pg_tool.proofs.Completing.{must_all, must_simply}
+use Rattle.pg_tool.proofs.Causing.{caused}
+use Rattle.pg_tool.proofs.Completing.{must_all}
 use Rattle.pg_tool.proofs.Following.{continues_same}
 use Rattle.pg_tool.proofs.Limiting.{ended_within, holds_all, keeps_limit}
-use Rattle.pg_tool.proofs.Played.{ended_simply, ended_well, has_run, run_simply}
+use Rattle.pg_tool.proofs.Played.{ended_well, has_headline, has_run, ran_by_headline}
 use Rattle.pg_tool.proofs.Requiring.{asks_so, shakes_cause, shakes_so, vain_cause, vain_goes, vain_holds, vain_kept, vain_open, vain_sent}
-use Rattle.pg_tool.proofs.Sending.{asks_all, kept_simply, leaves_all, sends_all, sends_simply}
+use Rattle.pg_tool.proofs.Sending.{asks_all, leaves_all, sends_all}
+use Rattle.pg_tool.proofs.Simply.{keeps_simply}
 
 -- ---- both contracts
 
--- what a call promises by the table, and by simple queries
+-- what a call promises by the table, and of simple queries alone by the words on these
 pub record Promises (call : any.Call Command) (r : Result Report Error) : Type 0 where
-  pub session : SessionContract (in_words call) (result_of r)
   pub by_table : TableContract call (table_result r)
+  pub simply : (scripts : List (List said.Command)) → call.scripts ≡ as_scripts scripts → ToldSimply r (SessionContract (simple_call call scripts))
 
--- what only today's words say
+-- what is said of it without a word of its commands
 record Beside (call : any.Call Command) (r : Result Report Error) : Type 0 where
   pub told : Tells call.before
   pub tells : Tells call.after
-  pub closed : IfOk (result_of r) (λ report. IsClosed call.before call.after)
-  pub stays_open : IfErr (result_of r) (LeavesOpen call.before call.after)
+  pub closed : IfOk (table_result r) (λ report. IsClosed call.before call.after)
+  pub stays_open : IfErr (table_result r) (LeavesOpen call.before call.after)
   pub link : Continues call.before call.after
-  pub cause : IfErr r (HasCause (in_words call))
-  pub limit : KeepsLimit (in_words call) (result_of r)
-  pub must_refuse : MustRefuse {R = said.Report} (in_words call) (result_of r)
+  pub cause : IfErr r (HasCause (any.apart call))
+  pub limit : KeepsLimit call (table_result r)
+  pub must_refuse : MustRefuse {R = ending.Report Answer} (any.apart call) (table_result r)
 
-in_error : (call : Call) (r : Result Report Error) → IfErr r (HasCause call) → IfErr (result_of r) (HasCause call)
+in_error : (call : any.Call Command) (r : Result Report Error) → IfErr r (HasCause (any.apart call)) → IfErr (table_result r) (HasCause (any.apart call))
 in_error call (Ok report) h = tt
 in_error call (Err e) h = h
 
--- the one follows from the other, and from what stands beside it
+-- the one follows from the other
 both : (call : any.Call Command) (r : Result Report Error) → Beside call r → IfOk (table_result r) (IsEndedWell call) → IfOk (table_result r) (IsRun (meaning_of table) call.scripts call.turns) → SendsInOrder call (table_result r) →
     NoneKeptBack (meaning_of table) call (table_result r) → Promises call r
-both call r beside ended run sent kept =
-    let must = must_all call r beside.told beside.tells beside.link sent (causes_apart call r beside.cause) in
-    let simply = sends_simply call r sent in
-    record {
-      session = record {
-        ended_well = ended_simply call r ended;
-        has_run = run_simply call r run;
-        closed = beside.closed;
-        stays_open = beside.stays_open;
-        link = beside.link;
-        cause = in_error (in_words call) r beside.cause;
-        limit = beside.limit;
-        sent = simply;
-        none_kept_back = kept_simply call r kept;
-        must_end_well = must_simply call r beside.link must sent;
-        must_refuse = beside.must_refuse;
-      };
-      by_table = record { ended_well = ended; has_run = run; sent = sent; none_kept_back = kept; must_end_well = must };
+both call r beside ended run sent kept = record { by_table = contract; simply = λ scripts are. keeps_simply call scripts are r contract }
+  where
+    contract : TableContract call (table_result r)
+    contract = record {
+      ended_well = ended;
+      has_run = run;
+      headline = has_headline call r ended;
+      headline_over_any_link = ran_by_headline call r run;
+      closed = beside.closed;
+      stays_open = beside.stays_open;
+      link = beside.link;
+      cause = in_error call r beside.cause;
+      limit = beside.limit;
+      sent = sent;
+      none_kept_back = kept;
+      must_end_well = must_all call r beside.told beside.tells beside.link sent beside.cause;
+      must_refuse = beside.must_refuse;
     }
 
 -- ---- what was asked is refused
@@ -116,7 +117,7 @@ early_kept call _ same early = tt
 
 -- it is answered over a link that is left alone, where it has its cause and all that must be refused is
 pub refuses : (config nonce : List ℕ) (scripts : List (List Command)) (turns : List ℕ) (limit : ℕ) (link : LinkView) (e : Error) → Tells link → IsEarly e →
-    HasCause (call_of config nonce scripts turns limit link link) e → MustRefuse {R = said.Report} (call_of config nonce scripts turns limit link link) (Err e) →
+    HasCause (any.apart (table_call config nonce scripts turns limit link link)) e → MustRefuse {R = ending.Report Answer} (any.apart (table_call config nonce scripts turns limit link link)) (Err e) →
     Promises (table_call config nonce scripts turns limit link link) (Err e)
 refuses config nonce scripts turns limit link e tells early has must =
     let call = table_call config nonce scripts turns limit link link in
@@ -137,7 +138,7 @@ refuses config nonce scripts turns limit link e tells early has must =
 
 -- memory lacked, and nothing crossed
 lacks : {R : Type 0} (config nonce : List ℕ) (scripts : List (List Command)) (turns : List ℕ) (limit : ℕ) (link : LinkView) →
-    MustRefuse {R = R} (call_of config nonce scripts turns limit link link) (Err OutOfMemory)
+    MustRefuse {R = R} (any.apart (table_call config nonce scripts turns limit link link)) (Err OutOfMemory)
 lacks config nonce scripts turns limit link = record {
   text = λ c fault. record { answer = inr refl; untouched = refl };
   user = λ w. record { answer = inr refl; untouched = refl };
@@ -150,7 +151,7 @@ same_fault a b c d e f same = cc
 
 -- a fault is the only thing that a text with a fault says
 faulty : {R : Type 0} (config nonce : List ℕ) (scripts : List (List Command)) (turns : List ℕ) (limit : ℕ) (link : LinkView) (c : Cause) →
-    ConnectionStringMeans config (Err c) → MustRefuse {R = R} (call_of config nonce scripts turns limit link link) (Err (ConfigParse c))
+    ConnectionStringMeans config (Err c) → MustRefuse {R = R} (any.apart (table_call config nonce scripts turns limit link link)) (Err (ConfigParse c))
 faulty config nonce scripts turns limit link c fault = record {
   text = λ d other. record {
     answer = inl (ap (λ x. Err (ConfigParse x)) (same_fault (Err c) (Err d) c d refl refl (meaning_one config (Err c) (Err d) fault other)));
@@ -215,8 +216,8 @@ start_refused config nonce scripts turns limit link s _ tells means why = absurd
 -- settings that name a user, and a nonce in form, are refused for nothing
 starts : {R : Type 0} (config : List ℕ) (settings : Settings) (nonce : List ℕ) (scripts : List (List Command)) (turns : List ℕ) (limit : ℕ) (before after : LinkView) (r : Result R Error) →
     Means config settings → MayStart settings nonce (Ok tt) →
-    ((settings.ssl_mode ≡ Require) × (settings.ssl_negotiation ≡ Direct) → RefusedFor {R = R} (error.Tls cause.Handshake) (call_of config nonce scripts turns limit before after) r) →
-    MustRefuse {R = R} (call_of config nonce scripts turns limit before after) r
+    ((settings.ssl_mode ≡ Require) × (settings.ssl_negotiation ≡ Direct) → RefusedFor {R = R} (error.Tls cause.Handshake) (any.apart (table_call config nonce scripts turns limit before after)) r) →
+    MustRefuse {R = R} (any.apart (table_call config nonce scripts turns limit before after)) r
 starts config settings nonce scripts turns limit before after r means may direct = record {
   text = λ d fault. absurd (no_fault config settings d means fault);
   user = λ w. absurd (none_some settings.user (user_of_said config settings w.0 means w.1 ∙ w.2) may.0);
@@ -234,8 +235,8 @@ pub shakes : (config : List ℕ) (settings : Settings) (nonce : List ℕ) (scrip
     Promises (table_call config nonce scripts turns limit link link) (Err (error.Tls cause.Handshake))
 shakes config settings nonce scripts turns limit link means may choice tells =
     refuses config nonce scripts turns limit link (error.Tls cause.Handshake) tells tt
-    (shakes_cause (call_of config nonce scripts turns limit link link) settings means (shakes_so settings choice) refl)
-    (starts {R = said.Report} config settings nonce scripts turns limit link link (Err (error.Tls cause.Handshake)) means may (λ must. record { answer = inl refl; untouched = refl }))
+    (shakes_cause (any.apart (table_call config nonce scripts turns limit link link)) settings means (shakes_so settings choice) refl)
+    (starts {R = ending.Report Answer} config settings nonce scripts turns limit link link (Err (error.Tls cause.Handshake)) means may (λ must. record { answer = inl refl; untouched = refl }))
 
 -- the server was asked
 asks-in : (config : List ℕ) (settings : Settings) (nonce : List ℕ) (scripts : List (List Command)) (turns : List ℕ) (limit : ℕ) (before after : LinkView) (e : Error) (s : SslRequest) →
@@ -243,7 +244,7 @@ asks-in : (config : List ℕ) (settings : Settings) (nonce : List ℕ) (scripts 
     Promises (table_call config nonce scripts turns limit before after) (Err e)
 asks-in config settings nonce scripts turns limit before after e s means may must told tells is vain =
     let call = table_call config nonce scripts turns limit before after in
-    let causes = vain_cause (in_words call) settings s e means must is vain in
+    let causes = vain_cause (any.apart call) settings s e means must is vain in
     both call (Err e)
     (record {
       told = told;
@@ -252,8 +253,8 @@ asks-in config settings nonce scripts turns limit before after e s means may mus
       stays_open = vain_open before after s e vain;
       link = vain_goes before after s e vain;
       cause = causes;
-      limit = keeps_limit (in_words call) (Err e) tt (vain_holds (in_words call) s e is vain) causes;
-      must_refuse = starts {R = said.Report} config settings nonce scripts turns limit before after (Err e) means may (λ direct. absurd (let no : Direct ≡ Postgres = sym direct.1 ∙ must.1 in cc));
+      limit = keeps_limit call (Err e) tt (vain_holds (any.apart call) s e is vain) causes;
+      must_refuse = starts {R = ending.Report Answer} config settings nonce scripts turns limit before after (Err e) means may (λ direct. absurd (let no : Direct ≡ Postgres = sym direct.1 ∙ must.1 in cc));
     })
     tt tt (λ w. vain_sent call settings s e means must vain) (vain_kept call settings s e means vain)
 
@@ -275,7 +276,7 @@ asks config settings nonce scripts turns limit before after e means may choice t
 -- ---- it was played
 
 -- what a report that was answered says of the link
-closed_so : (r : Result Report Error) (P : Report → Type 0) (Q : Type 0) → ((report : Report) → P report → Q) → IfOk r P → IfOk (result_of r) (λ report. Q)
+closed_so : (r : Result Report Error) (P : Report → Type 0) (Q : Type 0) → ((report : Report) → P report → Q) → IfOk r P → IfOk (table_result r) (λ report. Q)
 closed_so (Ok report) P Q f h = f report h
 closed_so (Err e) P Q f h = tt
 
@@ -285,7 +286,7 @@ pub plays : (config : List ℕ) (settings : Settings) (nonce : List ℕ) (script
     Promises (table_call config nonce scripts turns limit before after) r
 plays config settings nonce scripts turns limit before after r means may plain told tells link fails played calm =
     let call = table_call config nonce scripts turns limit before after in
-    let causes = caused (in_words call) settings scripts r means plain fails in
+    let causes = caused (any.apart call) settings scripts r means plain fails in
     both call r
     (record {
       told = told;
@@ -294,8 +295,8 @@ plays config settings nonce scripts turns limit before after r means may plain t
       stays_open = leaves_all settings nonce scripts limit before after r fails;
       link = link;
       cause = causes;
-      limit = keeps_limit (in_words call) r (ended_within settings nonce scripts turns limit before after r played) (holds_all (in_words call) settings scripts r means fails) causes;
-      must_refuse = starts {R = said.Report} config settings nonce scripts turns limit before after (result_of r) means may (λ direct. absurd (plain direct.0));
+      limit = keeps_limit call r (ended_within settings nonce scripts turns limit before after r played) (holds_all (any.apart call) settings scripts r means fails) causes;
+      must_refuse = starts {R = ending.Report Answer} config settings nonce scripts turns limit before after (table_result r) means may (λ direct. absurd (plain direct.0));
     })
     (ended_well call settings r means played) (has_run call settings r played) (sends_all call settings r means plain fails)
-    (asks_all call settings r means plain calm (causes_apart call r causes) fails)
+    (asks_all call settings r means plain calm causes fails)

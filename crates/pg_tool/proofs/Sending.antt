@@ -3,14 +3,11 @@ use Rattle.std.proofs.Common.{◌≡◌, ℕ, List, IfErr, Result, Ok, Err, inl,
 use Rattle.std.specs.Prelude.{OnOk}
 use Rattle.pg_headline.specs.Endings as ending
 use Rattle.pg_text.specs.declared.command.Answer.{Answer}
-use Rattle.pg_spec.specs.Report as said
 use Rattle.pg_failed.specs.Calls.{Call, apart}
 use Rattle.pg_failed.specs.Kept as any
-use Rattle.pg_failed.specs.Sent as orders
 use Rattle.pg_promises.specs.Causes.{HasCause, NeedsNoTls}
 use Rattle.pg_promises.specs.ConnectionStrings.{Means}
 use Rattle.pg_promises.proofs.Strings.{means_one}
-use Rattle.pg_promises.specs.Promises.{NoneKeptBack, SentInOrder}
 use Rattle.pg_spec.specs.Faults.{Cause}
 use Rattle.pg_spec.specs.Settings.{Settings}
 use Rattle.pg_spec.specs.Links.{LinkView}
@@ -23,16 +20,12 @@ use Rattle.pg_session.specs.WholeSession.{LeavesOpen}
 use Rattle.pg_text.specs.declared.command.Command.{Command}
 use Rattle.pg_text.specs.declared.report.Report.{Report}
 use Rattle.pg_turns.specs.Speeches.{meaning_of}
-use Rattle.pg_table.specs.Headlines.{in_words}
 use Rattle.pg_table.specs.Table.{table}
-use Rattle.pg_table.proofs.Headlines.{kept-as-before, sent-as-before}
 use Rattle.pg_tool.specs.Fails.{SessionFails}
 use Rattle.pg_tool.specs.Openings.{OpenEnds}
-use Rattle.pg_tool.specs.SessionContract.{SendsInOrder, result_of}
 use Rattle.pg_tool.specs.TableContract as by_table
 use Rattle.pg_tool.specs.TableContract.{table_result}
 use Rattle.pg_tool.proofs.AtTable.{IsInOrder, broken-kept, broken-open, broken-sent, over-closed, sent-failed, sent-opened, sent-over, sent-stopped, sent-untouched, stopped-kept}
-use Rattle.pg_tool.proofs.Limiting.{map_bytes}
 
 start_sent : (call : Call Command) (settings : Settings) (s : Startup) (e : Error) → Means call.config settings → NeedsNoTls settings → OpenEnds settings call.nonce call.before call.after s (Err e) → IsInOrder call
 start_sent call settings s (error.Stalled a b) means plain ends = sent-stopped call settings s a b means ends
@@ -54,17 +47,6 @@ pub sends_all : (call : Call Command) (settings : Settings) (r : Result Report E
 sends_all call settings (Ok report) means plain fails = tt
 sends_all call settings (Err e) means plain fails = λ w. sent_by call settings e means plain fails
 
--- and so in the words of simple queries
-pub sends_simply : (call : Call Command) (r : Result Report Error) → by_table.SendsInOrder call (table_result r) → SendsInOrder (in_words call) (result_of r)
-sends_simply call (Ok report) sends = tt
-sends_simply call (Err e) sends = λ w.
-    let d = sends w in (
-      d.0,
-      d.1,
-      map_bytes call.before call.after (λ g t. orders.SentInOrder (meaning_of table) call d.0 g t) (λ g t. SentInOrder (in_words call) d.0 g t)
-          (λ g t sent. sent-as-before call d.0 g t sent) d.2,
-    )
-
 -- ---- where it ended well or stalled
 
 -- settings that need no TLS give no error of it
@@ -85,17 +67,6 @@ pub asks_all : (call : Call Command) (settings : Settings) (r : Result Report Er
 asks_all call settings (Ok report) means plain calm has fails = calm.no_lull
 asks_all call settings (Err e) means plain calm has fails = asks_by call settings e means plain has fails
 
--- the same of the answer in other words
-kept_told : (call : Call Command) (e : Error) → any.NoneKeptBack {T = ending.Report Answer} (meaning_of table) call (Err e) → any.NoneKeptBack {T = said.Report} (meaning_of table) call (Err e)
-kept_told call (error.Stalled a b) h = h
-kept_told call (error.Tls c) h = h
-kept_told call _ h = tt
-
--- and so in the words of simple queries
-pub kept_simply : (call : Call Command) (r : Result Report Error) → any.NoneKeptBack (meaning_of table) call (table_result r) → NoneKeptBack (in_words call) (result_of r)
-kept_simply call (Ok report) kept = kept-as-before call (result_of (Ok report)) kept
-kept_simply call (Err e) kept = kept-as-before call (result_of (Err e)) (kept_told call e kept)
-
 -- ---- the writing side
 
 start_open : (settings : Settings) (nonce : List ℕ) (before after : LinkView) (s : Startup) (e : Error) → OpenEnds settings nonce before after s (Err e) → after.shut ≡ before.shut
@@ -112,6 +83,6 @@ leaves_by settings nonce scripts limit before after e (inr (inr (inl start))) = 
 leaves_by settings nonce scripts limit before after e (inr (inr (inr later))) = broken-open settings nonce scripts before after e later.broken
 
 pub leaves_all : (settings : Settings) (nonce : List ℕ) (scripts : List (List Command)) (limit : ℕ) (before after : LinkView) (r : Result Report Error) →
-    IfErr r (SessionFails settings nonce scripts limit before after) → IfErr (result_of r) (LeavesOpen before after)
+    IfErr r (SessionFails settings nonce scripts limit before after) → IfErr (table_result r) (LeavesOpen before after)
 leaves_all settings nonce scripts limit before after (Ok report) fails = tt
 leaves_all settings nonce scripts limit before after (Err e) fails = leaves_by settings nonce scripts limit before after e fails

@@ -3,16 +3,17 @@ use Rattle.std.proofs.Common.{◌≡◌, ◌≢◌, ◌⊎◌, ℕ, ◌≤◌, i
 use Rattle.std.specs.Prelude.{IfSome}
 use Rattle.pg_spec.specs.Faults.{Failure, OutOfMemory}
 use Rattle.pg_spec.specs.Links.{Rose}
-use Rattle.pg_spec.specs.ReportText.{report_text, error_text}
-use Rattle.pg_spec.specs.Report.{Report}
-use Rattle.pg_spec.specs.SessionText.{SessionText, IsRefusedAt}
+use Rattle.pg_spec.specs.ReportText.{error_text}
+use Rattle.pg_text.specs.ReportText.{report_text}
+use Rattle.pg_text.specs.SessionText.{SessionText, IsRefusedAt}
+use Rattle.pg_text.specs.declared.report.Report.{Report}
 use Rattle.pg_wire.specs.Streams.{SinkView}
 use Rattle.pg_faults.specs.declared.error.Error.{Error}
 use Rattle.pg_faults.specs.declared.error.Error.TheVariants as error
+use Rattle.pg_gen.specs.Generated.{generated}
 use Rattle.pg_tool.specs.Reading.{longest_text, ReadWhole}
-use Rattle.pg_tool.proofs.Completing.{must_text}
-use Rattle.pg_tool.specs.SessionContract.{SessionResult}
-use Rattle.pg_tool.specs.RunContract.{Answered, EndsWith, IsOver, IsRefused, IsRefusedFor, NotPlayed, PlayedText, PlaysNumbers, PlaysText, RefusedLine, Run, RunContract, SaysResult, StatusSays, SumsUp, Written, usage}
+use Rattle.pg_tool.proofs.Completing.{must_text, played_simply, simply_text}
+use Rattle.pg_tool.specs.RunContract.{Answered, EndsWith, IsOver, IsRefused, IsRefusedFor, NotPlayed, PlayedText, PlaysNumbers, PlaysText, RefusedLine, Run, RunContract, SaysResult, SessionAnswer, StatusSays, SumsUp, Written, usage}
 use Rattle.pg_tool.specs.Words.{AreOthers, Asks, IsGen, play}
 use Rattle.pg_tool.specs.declared.numbers.Numbers.{Numbers}
 use Rattle.pg_tool.specs.declared.over.Over.TheVariants as over
@@ -41,13 +42,13 @@ failed_not_3 : (old new : SinkView) (status : ℕ) (failure : Failure) → SaysR
 failed_not_3 old new status OutOfMemory says is = omega (arith, says.0, is)
 failed_not_3 old new status _ says is = ends_not_3 old new _ 1 status says (λ e. cc e) is
 
-text_not_3 : (Is : SessionText → SessionResult → Type 0) (bytes : List ℕ) (old new : SinkView) (status : ℕ) (result : Option SessionResult) → PlayedText Is bytes old new status result → status ≡ 3 → ⊥
+text_not_3 : (Is : SessionText → SessionAnswer → Type 0) (bytes : List ℕ) (old new : SinkView) (status : ℕ) (result : Option SessionAnswer) → PlayedText Is bytes old new status result → status ≡ 3 → ⊥
 text_not_3 Is bytes old new status None (inl refused) is = ends_not_3 old new _ 2 status refused.2.ends (λ e. cc e) is
 text_not_3 Is bytes old new status None (inr nothing) is = omega (arith, nothing.0, is)
 text_not_3 Is bytes old new status (Some (Ok report)) played is = ends_not_3 old new _ 0 status played.2.answered.says (λ e. cc e) is
 text_not_3 Is bytes old new status (Some (Err failure)) played is = failed_not_3 old new status failure played.2.answered.says is
 
-text_sink_failed : (Is : SessionText → SessionResult → Type 0) (bytes : List ℕ) (old new : SinkView) (status : ℕ) (result : Option SessionResult) → PlayedText Is bytes old new status result → status ≡ 4 → Rose old.faults new.faults
+text_sink_failed : (Is : SessionText → SessionAnswer → Type 0) (bytes : List ℕ) (old new : SinkView) (status : ℕ) (result : Option SessionAnswer) → PlayedText Is bytes old new status result → status ≡ 4 → Rose old.faults new.faults
 text_sink_failed Is bytes old new status None (inl refused) is = refused.2.sink_failed (λ e. cc e) is
 text_sink_failed Is bytes old new status None (inr nothing) is = absurd (omega (arith, nothing.0, is))
 text_sink_failed Is bytes old new status (Some result) played is = played.2.answered.sink_failed is
@@ -67,7 +68,7 @@ of_left P None bytes all p = tt
 of_left P (Some l) bytes all p = subst P (sym all) p
 
 -- where no session was played nothing is said of one
-no_session : (P : SessionResult → Type 0) (result : Option SessionResult) → result ≡ None → IfSome result P
+no_session : (P : SessionAnswer → Type 0) (result : Option SessionAnswer) → result ≡ None → IfSome result P
 no_session P result none = subst (λ r. IfSome r P) (sym none) tt
 
 -- other words
@@ -78,6 +79,7 @@ run_usage run unused unread other none w = record {
   source_failed = λ is. absurd (ends_not_3 _ _ _ 2 run.status w.ends (λ e. cc e) is);
   sink_failed = w.sink_failed (λ e. cc e);
   session = no_session _ run.result none;
+  simply = λ which bytes text words left is. no_session _ run.result none;
   must_play = λ bytes text words left within is made calm_source calm_sink. absurd (other.0.0 words);
   must_sum = λ x words. absurd (other.1 x words);
 }
@@ -86,14 +88,14 @@ refused_so : (bytes : List ℕ) (why : Option ℕ) → length bytes ≤ longest_
 refused_so bytes None within refused = refused
 refused_so bytes (Some n) within refused = (within, refused)
 
-text_status : (run : Run) (which : Over) (bytes : List ℕ) (result : Option SessionResult) → Asks run.words which → IfSome run.source_before.left (λ left. left ≡ bytes) → length bytes ≤ longest_text →
+text_status : (run : Run) (which : Over) (bytes : List ℕ) (result : Option SessionAnswer) → Asks run.words which → IfSome run.source_before.left (λ left. left ≡ bytes) → length bytes ≤ longest_text →
     PlayedText (IsOver which run.link_before run.link_after) bytes run.sink_before run.sink_after run.status result → StatusSays run result
 text_status run which bytes (Some result) words all within played = inl (which, words, played.2.answered.says)
 text_status run which bytes None words all within (inl refused) =
     inr (inl (which, words, inl (refused.0, of_left (λ text. IsRefused text refused.0) run.source_before.left bytes all (refused_so bytes refused.0 within refused.1), refused.2.ends)))
 text_status run which bytes None words all within (inr nothing) = inr (inl (which, words, inr (inr nothing.0, nothing.1)))
 
-text_session : (run : Run) (which : Over) (bytes : List ℕ) (result : Option SessionResult) → Asks run.words which → ReadWhole run.source_before bytes →
+text_session : (run : Run) (which : Over) (bytes : List ℕ) (result : Option SessionAnswer) → Asks run.words which → ReadWhole run.source_before bytes →
     PlayedText (IsOver which run.link_before run.link_after) bytes run.sink_before run.sink_after run.status result →
     IfSome result (λ result. PlaysText run result ⊎ PlaysNumbers run result)
 text_session run which bytes None words read played = tt
@@ -113,6 +115,7 @@ run_text run which bytes unused words read played = record {
   source_failed = λ is. absurd (text_not_3 _ bytes _ _ run.status run.result played is);
   sink_failed = text_sink_failed _ bytes _ _ run.status run.result played;
   session = text_session run which bytes run.result words read played;
+  simply = simply_text run which bytes words read played;
   must_play = must_text run which bytes words read played;
   must_sum = λ x gen. absurd (not_gen run.words which x words gen);
 }
@@ -124,7 +127,7 @@ summary_one_of : (old new : SinkView) (text : List ℕ) (status : ℕ) → EndsW
 summary_one_of old new text status (inl wrote) = inl wrote.0
 summary_one_of old new text status (inr front) = inr front.0
 
-sums_one_of : (x : Numbers) (old new : SinkView) (status : ℕ) (result : Option SessionResult) → SumsUp x old new status result → (status ≡ 0) ⊎ ((status ≡ 4) ⊎ (status ≡ 5))
+sums_one_of : (x : Numbers) (old new : SinkView) (status : ℕ) (result : Option SessionAnswer) → SumsUp x old new status result → (status ≡ 0) ⊎ ((status ≡ 4) ⊎ (status ≡ 5))
 sums_one_of x old new status None nothing = inr (inr nothing.0)
 sums_one_of x old new status (Some (Ok report)) sums = summary_one_of old new _ status sums.0.says
 sums_one_of x old new status (Some (Err failure)) sums = inr (inr sums.0.says.1.0)
@@ -134,18 +137,18 @@ not_3 status (inl zero) is = omega (arith, zero, is)
 not_3 status (inr (inl four)) is = omega (arith, four, is)
 not_3 status (inr (inr five)) is = omega (arith, five, is)
 
-sums_status : (run : Run) (x : Numbers) (result : Option SessionResult) → IsGen run.words x → SumsUp x run.sink_before run.sink_after run.status result → StatusSays run result
+sums_status : (run : Run) (x : Numbers) (result : Option SessionAnswer) → IsGen run.words x → SumsUp x run.sink_before run.sink_after run.status result → StatusSays run result
 sums_status run x None gen nothing = inr (inr (x, gen, nothing))
 sums_status run x (Some result) gen sums = inr (x, gen, sums.0.says)
 
-sums_failed : (x : Numbers) (old new : SinkView) (status : ℕ) (result : Option SessionResult) → SumsUp x old new status result → status ≡ 4 → Rose old.faults new.faults
+sums_failed : (x : Numbers) (old new : SinkView) (status : ℕ) (result : Option SessionAnswer) → SumsUp x old new status result → status ≡ 4 → Rose old.faults new.faults
 sums_failed x old new status None nothing is = absurd (omega (arith, nothing.0, is))
 sums_failed x old new status (Some result) sums is = sums.0.sink_failed is
 
-sums_session : (run : Run) (x : Numbers) (result : Option SessionResult) → run.link_after ≡ run.link_before → run.source_after ≡ run.source_before → IsGen run.words x →
+sums_session : (run : Run) (x : Numbers) (result : Option SessionAnswer) → run.link_after ≡ run.link_before → run.source_after ≡ run.source_before → IsGen run.words x →
     SumsUp x run.sink_before run.sink_after run.status result → IfSome result (λ result. PlaysText run result ⊎ PlaysNumbers run result)
 sums_session run x None unused unread gen sums = tt
-sums_session run x (Some result) unused unread gen sums = inr (x, gen, sums.1, unread, unused)
+sums_session run x (Some result) unused unread gen sums = inr (x, gen, sums.1, played_simply (generated x.commands x.seed) result sums.1, unread, unused)
 
 pub run_sums : (run : Run) (x : Numbers) → run.link_after ≡ run.link_before → run.source_after ≡ run.source_before → IsGen run.words x →
     SumsUp x run.sink_before run.sink_after run.status run.result → RunContract run
@@ -155,6 +158,7 @@ run_sums run x unused unread gen sums = record {
   source_failed = λ is. absurd (not_3 run.status (sums_one_of x _ _ run.status run.result sums) is);
   sink_failed = sums_failed x _ _ run.status run.result sums;
   session = sums_session run x run.result unused unread gen sums;
+  simply = λ which bytes text words left is. absurd (not_gen run.words which x words gen);
   must_play = λ bytes text words left within is made calm_source calm_sink. absurd (not_gen run.words over.Own x words gen);
   must_sum = λ y asks. sums_one_of x _ _ run.status run.result sums;
 }

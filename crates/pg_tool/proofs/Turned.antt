@@ -6,7 +6,7 @@ use Rattle.pg_desk.specs.declared.event.Event.{Event}
 use Rattle.pg_spec.specs.declared.stamps.Stamp.{Stamp}
 use Rattle.pg_faults.specs.declared.error.Error.{Error}
 use Rattle.pg_query.specs.Meaning.{Place}
-use Rattle.pg_query.specs.declared.simple_message.SimpleMessage.{SimpleMessage}
+use Rattle.pg_table.specs.declared.state.AnyAnswer.{AnyAnswer}
 use Rattle.pg_turns.specs.HandleTurns.{AsksCommand}
 use Rattle.pg_turns.specs.Turns.{HandleTurns}
 use Rattle.pg_turns.specs.declared.handle_turn.Polling.{Polling}
@@ -17,8 +17,8 @@ use Rattle.pg_tool.specs.declared.handle.Handle.{Handle}
 use Rattle.pg_tool.specs.Handles.{OneTurned, PollEnds, view_of}
 
 -- its next command began, and was polled
-pub turn_begins : {D : Type 0} (becomes : D → List Event → D → Type 0) (script : List Command) (stamp : Stamp) (a : D) (old : TableHandle) (b : D) (new : TableHandle) (command : Command) (from : Place (List SimpleMessage)) (r : Result Polling Error) →
-    old.running ≡ None → slice_get script (length old.answers) ≡ Some command → AsksCommand (says_of command) from.dialogue → IfOk r (PollEnds becomes stamp a from b old.answers new polling.Began) →
+pub turn_begins : {D : Type 0} (becomes : D → List Event → D → Type 0) (script : List Command) (stamp : Stamp) (a : D) (old : TableHandle) (b : D) (new : TableHandle) (command : Command) (from : Place AnyAnswer) (r : Result Polling Error) →
+    old.running ≡ None → slice_get script (length old.answers) ≡ Some command → AsksCommand (says_of old.own command) from.dialogue → IfOk r (PollEnds becomes stamp command a from b old.answers old.own new polling.Began) →
     IfOk r (HandleTurns becomes table script stamp a old b new)
 turn_begins becomes script stamp a old b new command from (Err e) none stands asks ends = tt
 turn_begins becomes script stamp a old b new command from (Ok did) none stands asks (inl (is, paused)) =
@@ -43,8 +43,8 @@ turn_begins becomes script stamp a old b new command from (Ok did) none stands a
     })
 
 -- the command that ran was polled
-pub turn_waits : {D : Type 0} (becomes : D → List Event → D → Type 0) (script : List Command) (stamp : Stamp) (a : D) (old : TableHandle) (b : D) (new : TableHandle) (command : Command) (from : Place (List SimpleMessage)) (r : Result Polling Error) →
-    old.running ≡ Some from → slice_get script (length old.answers) ≡ Some command → IfOk r (PollEnds becomes stamp a from b old.answers new polling.Waits) →
+pub turn_waits : {D : Type 0} (becomes : D → List Event → D → Type 0) (script : List Command) (stamp : Stamp) (a : D) (old : TableHandle) (b : D) (new : TableHandle) (command : Command) (from : Place AnyAnswer) (r : Result Polling Error) →
+    old.running ≡ Some from → slice_get script (length old.answers) ≡ Some command → IfOk r (PollEnds becomes stamp command a from b old.answers old.own new polling.Waits) →
     IfOk r (HandleTurns becomes table script stamp a old b new)
 turn_waits becomes script stamp a old b new command from (Err e) runs stands ends = tt
 turn_waits becomes script stamp a old b new command from (Ok did) runs stands (inl (is, paused)) =

@@ -1,13 +1,14 @@
 -- Handles, and what their turns and polls do.
 use Rattle.std.specs.Prelude.{◌≡◌, ◌≢◌, ◌⊎◌, ℕ, List, [], ◌∷◌, ◌++◌, length, Some, None, IfSome, option_map, slice_get, slice_set, Result, Err}
-use Rattle.pg_client.specs.Queries.{IsLiveQuery, place_of_query}
 use Rattle.pg_desk.specs.declared.event.Event.{Event}
 use Rattle.pg_spec.specs.declared.stamps.Stamp.{Stamp}
 use Rattle.pg_faults.specs.declared.error.Error.{Error}
 use Rattle.pg_faults.specs.declared.error.Error.TheVariants.{OutOfMemory}
 use Rattle.pg_query.specs.Meaning.{Place, Pauses, GoesToAnswer}
-use Rattle.pg_query.specs.declared.simple_message.SimpleMessage.{SimpleMessage}
-use Rattle.pg_table.specs.Table.{TableHandle, kept_answer, table}
+use Rattle.pg_table.specs.States.{IsLive, place_of}
+use Rattle.pg_table.specs.Slots.{Slots}
+use Rattle.pg_table.specs.Table.{TableHandle, kept_answer, slots_behind, table}
+use Rattle.pg_table.specs.declared.state.AnyAnswer.{AnyAnswer}
 use Rattle.pg_turns.specs.Turns.{HandleTurns}
 use Rattle.pg_turns.specs.declared.handle_turn.Polling.{Polling}
 use Rattle.pg_turns.specs.declared.handle_turn.Polling.TheVariants as polling
@@ -17,16 +18,17 @@ use Rattle.pg_tool.specs.declared.handle.Handle.{Handle}
 
 -- the command that runs hasn't answered
 abbrev pub IsLiveHandle : Handle → Type 0
-IsLiveHandle h = IfSome h.running (λ state. IsLiveQuery state.value)
+IsLiveHandle h = IfSome h.running IsLive
 
 -- it has begun no command
 pub record IsIdleHandle (h : Handle) : Type 0 where
   pub running : h.running ≡ None
   pub answers : h.answers.items ≡ []
+  pub slots : h.slots ≡ []
 
--- what a handle stands for; scripts of the table keep nothing
+-- what a handle stands for
 abbrev pub view_of : Handle → TableHandle
-view_of h = record { running = option_map (λ state. place_of_query state.value) h.running; answers = h.answers.items; own = tt }
+view_of h = record { running = option_map place_of h.running; answers = h.answers.items; own = h.slots }
 
 -- it is on its script: where that has no command left, none runs
 abbrev pub IsOnScript : List Command → TableHandle → Type 0
@@ -37,23 +39,23 @@ abbrev pub AreOnScripts : List (List Command) → List TableHandle → Type 0
 AreOnScripts scripts handles = (place : ℕ) (script : List Command) (h : TableHandle) → slice_get scripts place ≡ Some script → slice_get handles place ≡ Some h → IsOnScript script h
 
 -- a command was polled and waits
-pub record Paused {D : Type 0} (becomes : D → List Event → D → Type 0) (stamp : Stamp) (a : D) (from : Place (List SimpleMessage)) (b : D) (answers : List Answer) (new : TableHandle) : Type 0 where
-  pub to : Place (List SimpleMessage)
+pub record Paused {D : Type 0} (becomes : D → List Event → D → Type 0) (stamp : Stamp) (a : D) (from : Place AnyAnswer) (b : D) (answers : List Answer) (own : Slots) (new : TableHandle) : Type 0 where
+  pub to : Place AnyAnswer
   pub pauses : Pauses becomes stamp a from b to
-  pub handle : new ≡ record { running = Some to; answers = answers; own = tt }
+  pub handle : new ≡ record { running = Some to; answers = answers; own = own }
 
--- a command was polled and answered
-pub record AnsweredBy {D : Type 0} (becomes : D → List Event → D → Type 0) (stamp : Stamp) (a : D) (from : Place (List SimpleMessage)) (b : D) (answers : List Answer) (new : TableHandle) : Type 0 where
-  pub answer : Result (List SimpleMessage) Error
+-- this command was polled and answered
+pub record AnsweredBy {D : Type 0} (becomes : D → List Event → D → Type 0) (stamp : Stamp) (command : Command) (a : D) (from : Place AnyAnswer) (b : D) (answers : List Answer) (own : Slots) (new : TableHandle) : Type 0 where
+  pub answer : Result AnyAnswer Error
   pub goes : GoesToAnswer becomes stamp a from b answer
   pub memory : answer ≢ Err OutOfMemory
-  pub handle : new ≡ record { running = None; answers = answers ++ kept_answer answer ∷ []; own = tt }
+  pub handle : new ≡ record { running = None; answers = answers ++ kept_answer answer ∷ []; own = slots_behind own command answer }
 
 -- how the poll of a command ended, where `waiting` is told if it waits
-abbrev pub PollEnds : {D : Type 0} → (D → List Event → D → Type 0) → Stamp → D → Place (List SimpleMessage) → D → List Answer → TableHandle → (waiting did : Polling) → Type 0
-PollEnds becomes stamp a from b answers new waiting did =
-    ((did ≡ waiting) × Paused becomes stamp a from b answers new)
-    ⊎ ((did ≡ polling.Answered) × AnsweredBy becomes stamp a from b answers new)
+abbrev pub PollEnds : {D : Type 0} → (D → List Event → D → Type 0) → Stamp → Command → D → Place AnyAnswer → D → List Answer → Slots → TableHandle → (waiting did : Polling) → Type 0
+PollEnds becomes stamp command a from b answers own new waiting did =
+    ((did ≡ waiting) × Paused becomes stamp a from b answers own new)
+    ⊎ ((did ≡ polling.Answered) × AnsweredBy becomes stamp command a from b answers own new)
 
 -- the handle at a place made its turn, and no other changed
 pub record OneTurned {D : Type 0} (becomes : D → List Event → D → Type 0) (script : List Command) (stamp : TableHandle → Stamp) (place : ℕ) (a : D) (olds : List TableHandle) (b : D) (news : List TableHandle) (did : Polling) : Type 0 where

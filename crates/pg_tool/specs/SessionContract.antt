@@ -1,14 +1,14 @@
--- What a session promises, by what was asked.
+-- What a session of simple queries alone promises, by what was asked.
 use Rattle.std.specs.Prelude.{◌≡◌, ◌<◌, ℕ, List, length, Result, Ok, Err, IfOk, IfErr, ⊤}
 use Rattle.pg_promises.specs.Causes.{Call, HasCause, MustRefuse, OfDialogue, Unless, WithSettings}
 use Rattle.pg_spec.specs.Links.{OfBytes}
 use Rattle.pg_faults.specs.declared.error.Error.{Error}
-use Rattle.pg_text.specs.Views.{report_of}
+use Rattle.pg_text.specs.Views.{as_answers, simple_report}
 use Rattle.pg_text.specs.declared.report.Report as told
 use Rattle.pg_promises.specs.EndedWell.{Session, HasRun, EndedWell}
 use Rattle.pg_spec.specs.Faults.{Failure, LimitReached}
 use Rattle.pg_promises.specs.Promises.{MustEndWell, NoneKeptBack, SentInOrder}
-use Rattle.pg_spec.specs.Report.{Report}
+use Rattle.pg_spec.specs.Report.{Answer, Report}
 use Rattle.pg_spec.specs.Settings.{Settings}
 use Rattle.pg_spec.specs.Turns.{Times}
 use Rattle.pg_wire.specs.LinkCalls.{Continues}
@@ -18,10 +18,17 @@ use Rattle.pg_session.specs.WholeSession.{IsClosed, LeavesOpen}
 abbrev pub SessionResult : Type 0
 SessionResult = Result Report Failure
 
--- the same of what `run_session` answers
-abbrev pub result_of : Result told.Report Error → SessionResult
-result_of (Ok report) = Ok (report_of report)
-result_of (Err error) = Err error
+-- it tells what `run_session` answered, whose answers are those of simple queries
+abbrev pub IsSaidSo : Result told.Report Error → SessionResult → Type 0
+IsSaidSo (Ok report) (Ok simple) = (answers : List (List Answer)) × (report.answers ≡ as_answers answers) × (simple ≡ simple_report report answers)
+IsSaidSo (Err error) (Err failure) = failure ≡ error
+IsSaidSo _ _ = ⊥
+
+-- What `run_session` answered is told in the words of simple queries, and this holds of that.
+pub record ToldSimply (result : Result told.Report Error) (P : SessionResult → Type 0) : Type 0 where
+  pub simple : SessionResult
+  pub said_so : IsSaidSo result simple
+  pub holds : P simple
 
 -- a call that ended with this report, where the server gave these bytes
 abbrev pub session_of : Call → Settings → List ℕ → Report → Session
@@ -47,7 +54,7 @@ abbrev pub SendsInOrder : Call → SessionResult → Type 0
 SendsInOrder call (Ok report) = ⊤
 SendsInOrder call (Err failure) = WithSettings call (λ s. ⊤) → OfDialogue call (λ s g t. SentInOrder call s g t)
 
--- What a session promises of what was asked and of its answer.
+-- What a session of simple queries promises of what was asked and of its answer.
 pub record SessionContract (call : Call) (result : SessionResult) : Type 0 where
   -- where it answers Ok, the main theorem
   pub ended_well : IfOk result (IsEndedWell call)

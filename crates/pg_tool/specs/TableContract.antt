@@ -1,21 +1,25 @@
--- What a session promises by the words over any commands, of those of the table.
-use Rattle.std.specs.Prelude.{ℕ, List, Result, Ok, Err, IfOk, ⊤}
+-- What a session promises, by what the commands of the table mean.
+use Rattle.std.specs.Prelude.{◌≡◌, ◌<◌, ℕ, List, length, Result, Ok, Err, IfOk, IfErr, ⊤}
+use Rattle.pg_course.specs.Simples.{Headline}
 use Rattle.pg_failed.specs.Calls.{Call, apart}
 use Rattle.pg_failed.specs.Completeness.{MustEndWell}
 use Rattle.pg_failed.specs.Kept.{NoneKeptBack}
 use Rattle.pg_failed.specs.Sent.{SentInOrder}
 use Rattle.pg_faults.specs.declared.error.Error.{Error}
-use Rattle.pg_headline.specs.Endings.{EndedWell, IsRun, Report, Session}
-use Rattle.pg_promises.specs.Causes.{OfDialogue, WithSettings}
-use Rattle.pg_spec.specs.Faults.{Failure}
-use Rattle.pg_spec.specs.Links.{LinkView}
+use Rattle.pg_headline.specs.Endings.{EndedWell, IsRun, Report, Session, course_of, replies}
+use Rattle.pg_promises.specs.Causes.{HasCause, MustRefuse, OfDialogue, Unless, WithSettings}
+use Rattle.pg_spec.specs.Faults.{Failure, LimitReached}
+use Rattle.pg_spec.specs.Links.{LinkView, OfBytes}
+use Rattle.pg_spec.specs.RawMessages.{groups}
 use Rattle.pg_spec.specs.Settings.{Settings}
 use Rattle.pg_text.specs.declared.command.Answer.{Answer}
 use Rattle.pg_text.specs.declared.command.Command.{Command}
 use Rattle.pg_text.specs.declared.report.Report as told
 use Rattle.pg_turns.specs.Speeches.{meaning_of}
 use Rattle.pg_table.specs.Headlines.{told_in}
-use Rattle.pg_table.specs.Table.{table}
+use Rattle.pg_table.specs.Table.{simply, table}
+use Rattle.pg_wire.specs.LinkCalls.{Continues}
+use Rattle.pg_session.specs.WholeSession.{IsClosed, LeavesOpen}
 
 -- what a session answers, with the answers of its own commands
 abbrev pub TableResult : Type 0
@@ -47,6 +51,20 @@ session_of call s g report = record { settings = s; nonce = call.nonce; scripts 
 abbrev pub IsEndedWell : Call Command → Report Answer → Type 0
 IsEndedWell call report = OfDialogue (apart call) (λ s g t. EndedWell (meaning_of table) (session_of call s g report) t)
 
+-- in a session that ended well so, each simple query read exactly its own group, whatever other commands ran beside it
+abbrev pub HasHeadline : Call Command → Report Answer → Type 0
+HasHeadline call report = OfDialogue (apart call) (λ s g t. (ended : EndedWell (meaning_of table) (session_of call s g report) t)
+    × Headline simply call.scripts report.answers (course_of report (replies (session_of call s g report)) ended.asked) ended.has_run.schedule)
+
+-- the same, over every link
+abbrev pub RanByHeadline : Call Command → Report Answer → Type 0
+RanByHeadline call report = (run : IsRun (meaning_of table) call.scripts call.turns report)
+    × Headline simply call.scripts report.answers (course_of report (groups run.later) run.asked) run.has_run.schedule
+
+-- More bytes than the limit are given only where the session fails for that, and tells how many, or memory lacks.
+abbrev pub KeepsLimit : Call Command → TableResult → Type 0
+KeepsLimit call result = OfBytes call.before call.after (λ g t. call.limit < length g → Unless (λ failure. failure ≡ LimitReached (length g) call.limit) result)
+
 -- Where a session fails, what was sent is in order by the definition over any commands.
 abbrev pub SendsInOrder : Call Command → TableResult → Type 0
 SendsInOrder call (Ok report) = ⊤
@@ -57,7 +75,20 @@ pub record TableContract (call : Call Command) (result : TableResult) : Type 0 w
   -- where it answers Ok, the main theorem, and what can be said of it over every link
   pub ended_well : IfOk result (IsEndedWell call)
   pub has_run : IfOk result (IsRun (meaning_of table) call.scripts call.turns)
+  -- and of these its simple queries, by the theorem on them
+  pub headline : IfOk result (HasHeadline call)
+  pub headline_over_any_link : IfOk result (RanByHeadline call)
+  -- and all that the link took is flushed, and it is shut down; where it fails, it isn't shut down before Terminate was flushed
+  pub closed : IfOk result (λ report. IsClosed call.before call.after)
+  pub stays_open : IfErr result (LeavesOpen call.before call.after)
+  -- the link went on from where it stood
+  pub link : Continues call.before call.after
+  -- each failure has its cause
+  pub cause : IfErr result (HasCause (apart call))
+  pub limit : KeepsLimit call result
   -- where it fails, what it sent
   pub sent : SendsInOrder call result
   pub none_kept_back : NoneKeptBack (meaning_of table) call result
   pub must_end_well : MustEndWell call result
+  -- what is refused before any byte, exactly there: the string's first fault, no user, a nonce out of form, TLS that begins at once
+  pub must_refuse : MustRefuse (apart call) result

@@ -1,39 +1,42 @@
 //! A handle, which runs the commands of its script one after another.
 
-ghost use Rattle.std.specs.Prelude.{◌≡◌, ◌≢◌, ◌<◌, ◌++◌, ◌∷◌, IfOk, IfErr, IfSome, OnOk, Err, MatchResult, length, map, None, slice_get, []};
+ghost use Rattle.std.specs.Prelude.{◌≡◌, ◌≢◌, ◌<◌, ◌++◌, ◌∷◌, IfOk, IfErr, IfSome, OnOk, Err, MatchResult, length, map, None, option_map, slice_get, []};
 ghost use Rattle.std.specs.List.{All};
-ghost use Rattle.pg_client.specs.Queries.{IsLiveQuery, place_of_query};
-ghost use Rattle.pg_turns.specs.HandleTurns.{AsksCommand};
 ghost use Rattle.pg_turns.specs.Turns.{HandleTurns};
-ghost use Rattle.pg_table.specs.Table.{kept_answer, says_of, table};
+ghost use Rattle.pg_table.specs.States.{IsLive, place_of};
+ghost use Rattle.pg_table.specs.Table.{kept_answer, slots_behind, table};
 ghost use Rattle.pg_tool.specs.Handles.{IsIdleHandle, IsLiveHandle, IsOnScript, OneTurned, PollEnds, view_of};
 
 use futures::task::Poll;
-use pg_client::SimpleQueryState;
 use pg_desk::{Desk, Stamp};
 use pg_errors::Error;
-use pg_query::{Polled, SimpleMessage};
+use pg_query::Polled;
+use pg_table::{AnyAnswer, AnyState, Slots, begin, keep};
 use pg_text::{Answer, Command};
 use pg_turns::Polling;
 use pg_types::List;
 use std::alloc::Global;
 
-/// A handle: the command that runs, and the answers so far. The next command, or the one that runs, is
-/// that at the place of their number. A running command stands on the heap, so that a handle is small.
+/// A handle: the command that runs, the answers so far, and what its script keeps between its commands. The
+/// next command, or the one that runs, is that at the place of the number of answers. A running command stands
+/// on the heap, so that a handle is small.
 #[derive(Drop)]
-pub(crate) struct Handle {
-    running: Option<Box<SimpleQueryState>>,
+pub(crate) struct Handle<'a> {
+    running: Option<AnyState<'a>>,
     answers: Vec<Answer>,
+    slots: Slots,
 }
 
-impl Handle {
-    pub(crate) fn new(alloc: Global) -> Handle
+impl<'a> Handle<'a> {
+    pub(crate) fn new(alloc: Global) -> Handle<'a>
         ensures running { result.running ≡ None }
         ensures answers { result.answers.items ≡ [] }
+        ensures slots { result.slots ≡ [] }
     {
         Handle {
             running: None,
             answers: Vec::new(alloc),
+            slots: Slots::new(alloc),
         }
     }
 
@@ -54,7 +57,7 @@ impl Handle {
         &mut self,
         alloc: Global,
         desk: &mut D,
-        script: &[Command],
+        script: &'a [Command],
         owner: u32,
         turn: u64,
     ) -> Result<Polling, Error>
@@ -66,14 +69,14 @@ impl Handle {
         ensures error { IfErr result (λ e. e ≡ Error.OutOfMemory) }
     {
         let stamp = Stamp::new(owner, self.answered()?, turn);
-        let Some(command) = script.get(self.answers.len()) else {
+        let Some(command) = command_at(script, self.answers.len()) else {
             return Ok(Polling::Idle);
         };
         if let Some(state) = self.running.take() {
-            return self.poll(alloc, desk, stamp, state, Polling::Waits);
+            return self.poll(alloc, desk, stamp, command, state, Polling::Waits);
         }
-        let state = begin(alloc, command)?;
-        self.poll(alloc, desk, stamp, state, Polling::Began)
+        let state = begin(alloc, command, &self.slots)?;
+        self.poll(alloc, desk, stamp, command, state, Polling::Began)
     }
 
     /// Polls a command once. Where it waits, `waiting` is what the turn did.
@@ -82,13 +85,14 @@ impl Handle {
         alloc: Global,
         desk: &mut D,
         stamp: Stamp,
-        state: Box<SimpleQueryState>,
+        command: &Command,
+        state: AnyState<'a>,
         waiting: Polling,
     ) -> Result<Polling, Error>
-        requires state { IsLiveQuery state.value }
+        requires state { IsLive state }
         requires none { self.old.running ≡ None }
         ensures live { IsLiveHandle self.new }
-        ensures ends { IfOk result (PollEnds D.becomes stamp desk.old (place_of_query state.value) desk.new self.old.answers.items (view_of self.new) waiting) }
+        ensures ends { IfOk result (PollEnds D.becomes stamp command.now desk.old (place_of state.entry) desk.new self.old.answers.items self.old.slots (view_of self.new) waiting) }
         ensures error { IfErr result (λ e. e ≡ Error.OutOfMemory) }
     {
         let mut state = state;
@@ -98,33 +102,36 @@ impl Handle {
                 Ok(waiting)
             }
             Poll::Ready(answer) => {
-                self.answer(answer)?;
+                self.answer(command, answer)?;
                 Ok(Polling::Answered)
             }
         }
     }
 
-    /// Keeps the answer of the command that ran. Want of memory ends the session.
-    fn answer(&mut self, answer: Result<List<SimpleMessage>, Error>) -> Result<(), Error>
+    /// Keeps the answer of the command that ran, and what its script keeps of it. Want of memory ends the session.
+    fn answer(&mut self, command: &Command, answer: Result<AnyAnswer, Error>) -> Result<(), Error>
         ensures running { self.new.running ≡ self.old.running }
         ensures kept { OnOk result (self.new.answers.items ≡ self.old.answers.items ++ kept_answer answer ∷ []) }
+        ensures slots { OnOk result (self.new.slots ≡ slots_behind self.old.slots command.now answer) }
         ensures memory { OnOk result (answer ≢ Err Error.OutOfMemory) }
         ensures error { IfErr result (λ e. e ≡ Error.OutOfMemory) }
     {
-        let answer = match answer {
-            Ok(messages) => Answer::Messages(messages),
-            Err(Error::OutOfMemory) => return Err(Error::OutOfMemory),
-            Err(error) => Answer::Failed(error),
-        };
-        pushed(&mut self.answers, answer)
+        match answer {
+            Err(Error::OutOfMemory) => Err(Error::OutOfMemory),
+            answer => {
+                let told = keep(&mut self.slots, command, answer)?;
+                pushed(&mut self.answers, told)
+            }
+        }
     }
 
     pub(crate) fn into_answers(self) -> List<Answer>
-        ensures { result ≡ self.answers.items }
+        ensures { result ≡ self.entry.answers.items }
     {
         let Handle {
             running: _,
             answers,
+            slots: _,
         } = self;
         List::new(answers)
     }
@@ -139,29 +146,15 @@ fn pushed<T: Drop>(values: &mut Vec<T>, value: T) -> Result<(), Error>
     Ok(())
 }
 
-/// Puts a value on the heap.
-fn boxed<T: Drop>(alloc: Global, value: T) -> Result<Box<T>, Error>
-    ensures { MatchResult result (λ boxed. boxed.value ≡ value) (λ e. e ≡ Error.OutOfMemory) }
+/// The command at a place of a script.
+fn command_at(script: &[Command], place: usize) -> Option<&Command>
+    ensures { slice_get script.now place ≡ option_map (λ command. command.now) result }
 {
-    Ok(Box::new(alloc, value)?)
-}
-
-/// The state of a command.
-fn begin(alloc: Global, command: &Command) -> Result<Box<SimpleQueryState>, Error>
-    ensures live { IfOk result (λ state. IsLiveQuery state.value) }
-    ensures asks { IfOk result (λ state. AsksCommand (says_of command.now) (place_of_query state.value).dialogue) }
-    ensures error { IfErr result (λ e. e ≡ Error.OutOfMemory) }
-{
-    match command {
-        Command::Simple { text, take } => boxed(
-            alloc,
-            SimpleQueryState::new(alloc, text.as_str(), *take),
-        ),
-    }
+    script.get(place)
 }
 
 /// So many handles, none of which has begun a command.
-pub(crate) fn new_handles(alloc: Global, count: usize) -> Result<Vec<Handle>, Error>
+pub(crate) fn new_handles<'a>(alloc: Global, count: usize) -> Result<Vec<Handle<'a>>, Error>
     ensures { MatchResult result
         (λ handles. (length handles.items ≡ count) × All IsIdleHandle handles.items)
         (λ e. e ≡ Error.OutOfMemory) }
@@ -174,12 +167,12 @@ pub(crate) fn new_handles(alloc: Global, count: usize) -> Result<Vec<Handle>, Er
 }
 
 /// The turn of the handle at a place, behind so many turns.
-pub(crate) fn turn_at<D: Desk>(
-    handles: &mut [Handle],
+pub(crate) fn turn_at<'a, D: Desk>(
+    handles: &mut [Handle<'a>],
     place: u32,
     alloc: Global,
     desk: &mut D,
-    script: &[Command],
+    script: &'a [Command],
     turn: u64,
 ) -> Result<Polling, Error>
     requires place { place < length handles.old }

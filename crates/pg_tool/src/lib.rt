@@ -15,7 +15,10 @@ mod required;
 mod session;
 mod writing;
 
-pub use laws::{no_text_is_neither, some_text_is_well_made};
+pub use laws::{
+    no_text_is_neither, sessions_of_simple_queries_keep_theirs, simple_texts_are_well_made,
+    some_text_is_well_made,
+};
 pub use pg_text::{
     Answer, Cells, Command, Pair, Report, Scripts, Session, SimpleMessage, TextFault, TurnMark,
     report_text, session_text,

@@ -26,19 +26,19 @@ use std::alloc::Global;
 
 /// The session's state between two turns.
 #[derive(Drop)]
-pub(crate) struct Play {
+pub(crate) struct Play<'a> {
     pub(crate) hub: Hub,
     pub(crate) streams: Streams,
-    pub(crate) handles: Vec<Handle>,
+    pub(crate) handles: Vec<Handle<'a>>,
     /// How many commands of all handles aren't answered.
     pub(crate) unanswered: usize,
     pub(crate) trace: Vec<TurnMark>,
     pub(crate) asynchronous: Vec<AsyncMessage>,
 }
 
-impl Play {
+impl<'a> Play<'a> {
     /// A session before its first turn. Requests are closed at once where there is no command.
-    pub(crate) fn new(alloc: Global, streams: Streams, scripts: &Scripts) -> Result<Play, Error>
+    pub(crate) fn new(alloc: Global, streams: Streams, scripts: &Scripts) -> Result<Play<'a>, Error>
         requires limit { streams.max_bytes < 2 ^ 63 }
         requires within { streams.given ≤ streams.max_bytes }
         ensures ready { IfOk result (λ p. IsReady scripts.now p) }
@@ -81,7 +81,7 @@ impl Play {
         &mut self,
         alloc: Global,
         link: &mut L,
-        scripts: &Scripts,
+        scripts: &'a Scripts,
         turns: &[u32],
     ) -> Result<(), Error>
         requires ready { IsReady scripts.now self.old }
@@ -108,7 +108,7 @@ impl Play {
         &mut self,
         alloc: Global,
         link: &mut L,
-        scripts: &Scripts,
+        scripts: &'a Scripts,
     ) -> Result<(), Error>
         requires ready { IsReady scripts.now self.old }
         requires going { IsGoing scripts.now self.old }
@@ -146,7 +146,7 @@ impl Play {
         &mut self,
         alloc: Global,
         link: &mut L,
-        scripts: &Scripts,
+        scripts: &'a Scripts,
     ) -> Result<Option<bool>, Error>
         requires ready { IsReady scripts.now self.old }
         requires going { IsGoing scripts.now self.old }
@@ -174,7 +174,7 @@ impl Play {
         &mut self,
         alloc: Global,
         link: &mut L,
-        scripts: &Scripts,
+        scripts: &'a Scripts,
         turn: u32,
     ) -> Result<Option<bool>, Error>
         requires ready { IsReady scripts.now self.old }
@@ -215,7 +215,7 @@ impl Play {
     fn handle_turn(
         &mut self,
         alloc: Global,
-        scripts: &Scripts,
+        scripts: &'a Scripts,
         turn: u32,
     ) -> Result<Option<bool>, Error>
         requires ready { IsReady scripts.now self.old }

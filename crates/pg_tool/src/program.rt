@@ -1,11 +1,10 @@
 //! The program around a session.
 
-ghost use Rattle.std.specs.Prelude.{◌≡◌, ◌↔◌, ◌<◌, ◌^◌, ℕ, List, None, Err, IfOk, IfSome, IsSome, length, map, option_map, string_bytes};
+ghost use Rattle.std.specs.Prelude.{◌≡◌, ◌↔◌, ◌<◌, ◌^◌, ℕ, List, None, Err, IfOk, IfSome, IsSome, length, map, string_bytes};
 ghost use Rattle.pg_text.specs.Sessions.{IsNew, ReadsText, session_of};
 ghost use Rattle.pg_text.specs.declared.session.TextFault.TheVariants as fault;
 ghost use Rattle.pg_gen.specs.Generated.{IsCount};
 ghost use Rattle.pg_tool.specs.RunContract.{Answered, IsOver, IsPiped, IsPlayed, PlayedSession, PlayedText, RefusedLine, RunContract, SumsUp, WritesSummary, Written};
-ghost use Rattle.pg_tool.specs.SessionContract.{result_of};
 
 use crate::numbers::{Numbers, asked_numbers};
 use crate::over::{Over, asked_link};
@@ -52,7 +51,7 @@ pub fn run<S: Source, K: Sink, L: Link>(
       link_before = L.view link.old;
       link_after = L.view link.new;
       status = result.status;
-      result = option_map result_of result.result;
+      result = result.result;
     }) }
 {
     if let Some(numbers) = asked_numbers(words) {
@@ -115,7 +114,7 @@ fn play<K: Sink, L: Link>(
     link: &mut L,
 ) -> Outcome
     ensures played { PlayedText (IsOver over (L.view link.old) (L.view link.new)) text.items (K.state sink.old) (K.state sink.new)
-        result.status (option_map result_of result.result) }
+        result.status result.result }
     ensures unused { result.result ≡ None → L.view link.new ≡ L.view link.old }
 {
     match read_session(alloc, text) {
@@ -144,7 +143,7 @@ fn refuse_line<K: Sink>(alloc: Global, number: u64, sink: &mut K) -> Outcome
 fn play_own(alloc: Global, session: Session) -> Result<Report, Error>
     requires limit { session.max_bytes < 2 ^ 63 }
     requires new { IsNew session }
-    ensures { IsPlayed (session_of session) (result_of result) }
+    ensures { IsPlayed (session_of session) result }
 {
     let Session {
         config,
@@ -170,7 +169,7 @@ fn play_session<K: Sink>(alloc: Global, session: Session, sink: &mut K) -> Outco
     requires limit { session.max_bytes < 2 ^ 63 }
     requires new { IsNew session }
     ensures some { IsSome result.result }
-    ensures played { IfSome (option_map result_of result.result)
+    ensures played { IfSome result.result
         (PlayedSession IsPlayed (session_of session) (K.state sink.old) (K.state sink.new) result.status) }
 {
     let result = play_own(alloc, session);
@@ -184,7 +183,7 @@ fn play_session<K: Sink>(alloc: Global, session: Session, sink: &mut K) -> Outco
 /// Plays a generated session over its own link, and writes what its report comes to.
 fn sum_up<K: Sink>(alloc: Global, numbers: Numbers, sink: &mut K) -> Outcome
     requires count { IsCount numbers.commands }
-    ensures { SumsUp numbers (K.state sink.old) (K.state sink.new) result.status (option_map result_of result.result) }
+    ensures { SumsUp numbers (K.state sink.old) (K.state sink.new) result.status result.result }
 {
     let Ok(session) = gen_session(alloc, numbers.commands, numbers.seed) else {
         return without_session(5);
@@ -199,7 +198,7 @@ fn sum_up<K: Sink>(alloc: Global, numbers: Numbers, sink: &mut K) -> Outcome
 
 /// Writes what a report comes to, and gives the status. Where there is none, memory lacked.
 fn write_summary<K: Sink>(alloc: Global, answer: &Result<Report, Error>, sink: &mut K) -> u8
-    ensures { WritesSummary (K.state sink.old) (K.state sink.new) result (result_of answer.now) }
+    ensures { WritesSummary (K.state sink.old) (K.state sink.new) result answer.now }
 {
     match answer {
         Ok(report) => write_text(sink, summary_text(alloc, report), 0),
@@ -216,7 +215,7 @@ fn pipe_session<K: Sink, L: Link>(
 ) -> Outcome
     requires limit { session.max_bytes < 2 ^ 63 }
     ensures some { IsSome result.result }
-    ensures played { IfSome (option_map result_of result.result)
+    ensures played { IfSome result.result
         (PlayedSession (IsPiped (L.view link.old) (L.view link.new)) (session_of session) (K.state sink.old) (K.state sink.new) result.status) }
 {
     let Session {
@@ -245,7 +244,7 @@ fn pipe_session<K: Sink, L: Link>(
 
 /// Writes the report or the error, and gives the status.
 fn write_answer<K: Sink>(alloc: Global, answer: &Result<Report, Error>, sink: &mut K) -> u8
-    ensures { Answered (K.state sink.old) (K.state sink.new) result (result_of answer.now) }
+    ensures { Answered (K.state sink.old) (K.state sink.new) result answer.now }
 {
     match answer {
         Ok(report) => write_text(sink, report_text(alloc, report), 0),

@@ -19,7 +19,7 @@ use pg_text::{Answer, Pair, Report};
 use pg_types::{Blob, List, Text};
 use std::alloc::Global;
 
-impl Play {
+impl<'a> Play<'a> {
     /// The report, where `opening` is what startup sent, and `key` the server's process and the secret key.
     pub(crate) fn into_report(
         self,
@@ -27,8 +27,8 @@ impl Play {
         opening: Vec<u8>,
         key: (i32, i32),
     ) -> Result<Report, Error>
-        ensures report { IfOk result (λ report. Reports opening.items key (state_of self) (told_in report)) }
-        ensures counted { self.streams.given < 2 ^ 64 }
+        ensures report { IfOk result (λ report. Reports opening.items key (state_of self.entry) (told_in report)) }
+        ensures counted { self.entry.streams.given < 2 ^ 64 }
         ensures error { IfErr result (λ e. e ≡ Error.OutOfMemory) }
     {
         let Play {
@@ -59,7 +59,7 @@ impl Play {
 /// The answers of all handles.
 fn answers_of(alloc: Global, handles: Vec<Handle>) -> Result<List<List<Answer>>, Error>
     ensures { MatchResult result
-        (λ answers. answers ≡ map (λ handle. handle.answers.items) handles.items)
+        (λ answers. answers ≡ map (λ handle. handle.answers.items) handles.entry.items)
         (λ e. e ≡ Error.OutOfMemory) }
 {
     let mut answers = Vec::new(alloc);

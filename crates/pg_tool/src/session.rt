@@ -1,17 +1,19 @@
 //! A session: the startup, the turns, and the report.
 
-ghost use Rattle.std.specs.Prelude.{◌<◌, ◌^◌, IfErr, IfOk, IsTrue, OnOk};
+ghost use Rattle.std.specs.Prelude.{◌≡◌, ◌<◌, ◌^◌, List, IfErr, IfOk, IsTrue, OnOk};
 ghost use Rattle.pg_config.specs.Views.{settings_of};
 ghost use Rattle.pg_promises.specs.Causes.{NeedsNoTls};
 ghost use Rattle.pg_promises.specs.ConnectionStrings.{Means};
 ghost use Rattle.pg_spec.specs.Passwords.{is_nonce};
+ghost use Rattle.pg_spec.specs.Report.{Command};
 ghost use Rattle.pg_spec.specs.Settings.{Settings};
 ghost use Rattle.pg_connect.specs.Calm.{StaysCalm};
 ghost use Rattle.pg_turns.specs.Sessions.{HasPlayed};
 ghost use Rattle.pg_wire.specs.LinkCalls.{Continues};
+ghost use Rattle.pg_text.specs.Views.{as_scripts};
 ghost use Rattle.pg_table.specs.Headlines.{told_in};
 ghost use Rattle.pg_table.specs.Table.{table};
-ghost use Rattle.pg_tool.specs.SessionContract.{SessionContract, result_of};
+ghost use Rattle.pg_tool.specs.SessionContract.{SessionContract, ToldSimply};
 ghost use Rattle.pg_tool.specs.TableContract.{TableContract, table_call, table_result};
 ghost use Rattle.pg_tool.specs.Fails.{PlaysWithin, SessionFails};
 ghost use Rattle.pg_tool.specs.Asked.{call_of};
@@ -50,10 +52,10 @@ pub fn run_session<L: Link>(
     link: &mut L,
 ) -> Result<Report, Error>
     requires { max_bytes < 2 ^ 63 }
-    ensures session { SessionContract
-        (call_of config.now nonce.now scripts.now turns.now max_bytes (L.view link.old) (L.view link.new)) (result_of result) }
     ensures by_table { TableContract
         (table_call config.now nonce.now scripts.now turns.now max_bytes (L.view link.old) (L.view link.new)) (table_result result) }
+    ensures simply { (simple : List (List Command)) → scripts.now ≡ as_scripts simple → ToldSimply result
+        (SessionContract (call_of config.now nonce.now simple turns.now max_bytes (L.view link.old) (L.view link.new))) }
     ensures played { IfOk result (λ report. (s : Settings) × Means config.now s
         × HasPlayed table s nonce.now scripts.now turns.now (L.view link.old) (L.view link.new) (told_in report)) }
 {
