@@ -11,7 +11,7 @@ use Rattle.pg_server.specs.ByteLists.{are_bytes}
 use Rattle.pg_server.specs.Handlers.{Step}
 use Rattle.pg_server.specs.ServerLinks.{FailsByFault, Served, link_of}
 use Rattle.pg_server.proofs.FaultCourseLaws.{fault-of-new}
-use Rattle.pg_tool.specs.SessionContract.{SessionResult}
+use Rattle.pg_tool.specs.RunContract.{SessionAnswer}
 use Rattle.pg_tool.proofs.Following.{continues_same}
 use Rattle.pg_tool.proofs.Piped.{piped}
 use Rattle.pg_rehearse.specs.Rehearsals.{Around, FailsByServer, HasItsFault, PlaysOver, over}
@@ -27,7 +27,7 @@ has-fault new before fails rose = by new.fault refl
 pub fails-by-server : {S : Type 0} (step : Step S) (old new : Served S) (a : Around) → FailsByFault new → PlaysOver (link_of step old) (link_of step new) a → FailsByServer new a.result
 fails-by-server step old new a fails (inl contract) is =
     let played = piped (over a (link_of step old) (link_of step new)) (codes "-") (codes "-") (Err (Io Link)) refl is contract in
-    has-fault new (as_count old.crossed.faults) fails played.1.session.cause
+    has-fault new (as_count old.crossed.faults) fails played.1.by_table.cause
 fails-by-server step old new a fails (inr lacks) is = absurd (none-some (Err (Io Link)) (sym lacks.result ∙ is))
 
 -- the link went on from where it stood
@@ -41,9 +41,9 @@ goes-on {S = S} step old new a plays = by plays
     by (inr lacks) = still lacks.link
     by (inl contract) = by_result a.result refl
       where
-        by_result : (o : Option SessionResult) → a.result ≡ o → Continues (link_of step old) (link_of step new)
+        by_result : (o : Option SessionAnswer) → a.result ≡ o → Continues (link_of step old) (link_of step new)
         by_result None is = still (contract.link is)
-        by_result (Some result) is = (piped (over a (link_of step old) (link_of step new)) (codes "-") (codes "-") result refl is contract).1.session.link
+        by_result (Some result) is = (piped (over a (link_of step old) (link_of step new)) (codes "-") (codes "-") result refl is contract).1.by_table.link
 
 pub its-fault : {S : Type 0} (step : Step S) (old new : Served S) (a : Around) → are_bytes new.crossed.taken ≡ true → PlaysOver (link_of step old) (link_of step new) a → HasItsFault step old new
 its-fault {S = S} step old new a bytes plays = λ state startup cut room made.

@@ -8,8 +8,7 @@ use Rattle.pg_server.specs.Hearing.{said_to}
 use Rattle.pg_server.specs.ServerLinks.{Served, new_link}
 use Rattle.pg_server.specs.Servers.{new_heard}
 use Rattle.pg_server.specs.Standings.{unfed}
-use Rattle.pg_tool.specs.RunContract.{Run, RunContract}
-use Rattle.pg_tool.specs.SessionContract.{SessionResult}
+use Rattle.pg_tool.specs.RunContract.{Run, RunContract, SessionAnswer}
 
 -- the words by which a session text is played over the link handed in
 abbrev pub pipe_words : List (List ℕ)
@@ -22,7 +21,7 @@ pub record Around : Type 0 where
   pub sink_before : SinkView
   pub sink_after : SinkView
   pub status : ℕ
-  pub result : Option SessionResult
+  pub result : Option SessionAnswer
 
 -- the program's run with these words, over a link before and after
 abbrev pub over : Around → (before after : LinkView) → Run
@@ -53,7 +52,7 @@ PlaysOver before after a = RunContract (over a before after) ⊎ LacksMemory bef
 -- ---- over a link to a server
 
 -- the session fails for its link only where the server has a fault
-abbrev pub FailsByServer : {S : Type 0} → (new : Served S) → Option SessionResult → Type 0
+abbrev pub FailsByServer : {S : Type 0} → (new : Served S) → Option SessionAnswer → Type 0
 FailsByServer new result = result ≡ Some (Err (Io Link)) → IsSome new.fault
 
 -- where the link was just made, its fault is the one for which the server stops at the bytes that were taken

@@ -1,10 +1,9 @@
 //! A session text against a server that echoes.
 
-ghost use Rattle.std.specs.Prelude.{◌≡◌, ◌<◌, IfOk, option_map};
+ghost use Rattle.std.specs.Prelude.{◌≡◌, ◌<◌, IfOk};
 ghost use Rattle.pg_server.specs.Echoes.{echo_step};
 ghost use Rattle.pg_server.specs.ServerLinks.{link_of, new_link, served_of};
 ghost use Rattle.pg_server.specs.Servers.{heard_of, new_heard};
-ghost use Rattle.pg_tool.specs.SessionContract.{result_of};
 ghost use Rattle.pg_rehearse.specs.Rehearsals.{FailsByServer, HasItsFault, PlaysOver};
 
 use crate::pieces::Pieces;
@@ -54,9 +53,9 @@ pub fn rehearse_echo<S: Source, K: Sink>(
       sink_before = K.state sink.old;
       sink_after = K.state sink.new;
       status = result.status;
-      result = option_map result_of result.result;
+      result = result.result;
     }) }
-    ensures fault { FailsByServer (served_of {S = Unit {0}} (λ _. tt) link.new) (option_map result_of result.result) }
+    ensures fault { FailsByServer (served_of {S = Unit {0}} (λ _. tt) link.new) result.result }
     ensures its_fault { HasItsFault {S = Unit {0}} echo_step (served_of (λ _. tt) link.old) (served_of (λ _. tt) link.new) }
 {
     let outcome = rehearse(alloc, source, sink, link);

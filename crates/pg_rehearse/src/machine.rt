@@ -1,8 +1,7 @@
 //! A session text against a machine.
 
-ghost use Rattle.std.specs.Prelude.{◌≡◌, ◌<◌, option_map};
+ghost use Rattle.std.specs.Prelude.{◌≡◌, ◌<◌};
 ghost use Rattle.pg_machine.specs.MachineLinks.{link_of, new_link};
-ghost use Rattle.pg_tool.specs.SessionContract.{result_of};
 ghost use Rattle.pg_rehearse.specs.Rehearsals.{PlaysOver};
 
 use crate::pieces::Pieces;
@@ -37,7 +36,7 @@ pub fn rehearse_machine<S: Source, K: Sink>(
       sink_before = K.state sink.old;
       sink_after = K.state sink.new;
       status = result.status;
-      result = option_map result_of result.result;
+      result = result.result;
     }) }
 {
     rehearse(alloc, source, sink, link)

@@ -1,7 +1,6 @@
 //! A session text over a link that is handed in.
 
-ghost use Rattle.std.specs.Prelude.{◌≡◌, IfOk, map, option_map, string_bytes};
-ghost use Rattle.pg_tool.specs.SessionContract.{result_of};
+ghost use Rattle.std.specs.Prelude.{◌≡◌, IfOk, map, string_bytes};
 ghost use Rattle.pg_rehearse.specs.Rehearsals.{PlaysOver, pipe_words};
 
 use pg_tool::{Outcome, run};
@@ -43,7 +42,7 @@ pub(crate) fn rehearse<S: Source, K: Sink, L: Link>(
       sink_before = K.state sink.old;
       sink_after = K.state sink.new;
       status = result.status;
-      result = option_map result_of result.result;
+      result = result.result;
     }) }
 {
     match pipe_words(alloc) {

@@ -42,7 +42,7 @@ use Rattle.pg_server.proofs.HearingLaws.{said_to-says, said_to-stops, said_to-wa
 use Rattle.pg_server.proofs.ServedLaws.{goes_on}
 use Rattle.pg_tool.specs.SessionContract.{SessionContract, SessionResult, session_of}
 use Rattle.pg_served.specs.Conforming.{Conforms, HasNoFault, HasNoneBehind, IsValid, MayBook, ServerMustEndWell}
-use Rattle.pg_served.specs.Runs.{Asked, FailsByServer, HasItsFault, call_over_server}
+use Rattle.pg_served.specs.Runs.{Asked, HasItsFault, call_over_server}
 use Rattle.pg_served.proofs.Booked.{booked-asks, came}
 use Rattle.pg_served.proofs.Crossed.{server-said}
 use Rattle.pg_served.proofs.Ending.{HasCrossed, Left, Opens, Part, Past, Says, Silent, Stands, Taken, dialogue-says, frame-made, frames-written, never-rose, sent-front, taken-of, what-is-left}
@@ -260,7 +260,7 @@ module _ (S : Type 0) (step : Step S) (asked : Asked) (state : S) (startup : Lis
 no-rise : {S : Type 0} (new : Served S) (before : ℕ) → FailsByFault new → Rose before (as_count new.crossed.faults) → new.fault ≡ None → ⊥
 no-rise new before fails rose is = let none : new.crossed.faults ≡ 0 = fails is in omega (arith, none, rose)
 
-has-fault : {S : Type 0} (new : Served S) (before : ℕ) → FailsByFault new → Rose before (as_count new.crossed.faults) → IsSome new.fault
+pub has-fault : {S : Type 0} (new : Served S) (before : ℕ) → FailsByFault new → Rose before (as_count new.crossed.faults) → IsSome new.fault
 has-fault new before fails rose = by new.fault refl
   where
     by : (o : Option ServerFault) → new.fault ≡ o → IsSome o
@@ -282,16 +282,10 @@ server-ends {S = S} step asked old new (Err f) fails bytes contract = λ state s
       | inr link ↦ absurd (no-rise new 0 fails link.1 (none-new S step asked state startup made.cut made.room new s f contract' means v' c' none bytes))
     ]
 
-pub server-fails : {S : Type 0} (step : Step S) (asked : Asked) (old new : Served S) (r : SessionResult) → FailsByFault new → SessionContract (call_over_server step asked old new) r → FailsByServer new r
-server-fails step asked old new (Ok report) fails contract is = absurd cc
-server-fails {S = S} step asked old new (Err f) fails contract is =
-    let same : f ≡ errors.Io errors.Link = cc in
-    has-fault new (as_count old.crossed.faults) fails (subst (HasCause (call_over_server step asked old new)) same contract.cause)
-
 -- its fault follows from the bytes taken
-pub its-fault : {S : Type 0} (step : Step S) (asked : Asked) (old new : Served S) (r : SessionResult) → are_bytes new.crossed.taken ≡ true → SessionContract (call_over_server step asked old new) r → HasItsFault step old new
-its-fault {S = S} step asked old new r bytes contract = λ state startup made.
-    fault-of-new step state startup made.cut made.room new (subst (λ (m : Served S). Continues (link_of step m) (link_of step new)) made.link_is contract.link) bytes
+pub its-fault : {S : Type 0} (step : Step S) (old new : Served S) → are_bytes new.crossed.taken ≡ true → Continues (link_of step old) (link_of step new) → HasItsFault step old new
+its-fault {S = S} step old new bytes goes = λ state startup made.
+    fault-of-new step state startup made.cut made.room new (subst (λ (m : Served S). Continues (link_of step m) (link_of step new)) made.link_is goes) bytes
 
 -- ---- behind an answer of Ok
 

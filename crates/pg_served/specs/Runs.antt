@@ -6,6 +6,7 @@ use Rattle.pg_promises.specs.ConnectionStrings.{Means}
 use Rattle.pg_spec.specs.Faults.{Io, Link}
 use Rattle.pg_spec.specs.Links.{LinkView}
 use Rattle.pg_spec.specs.Report.{Report}
+use Rattle.pg_spec.specs.Report as said
 use Rattle.pg_spec.specs.Settings.{Settings}
 use Rattle.pg_turns.specs.Sessions.{HasPlayed}
 use Rattle.pg_table.specs.Headlines.{told_in}
@@ -22,34 +23,41 @@ use Rattle.pg_server.specs.Servers.{new_heard}
 use Rattle.pg_server.specs.Standings.{unfed}
 use Rattle.pg_server.specs.Startups.{is_startup}
 use Rattle.pg_tool.specs.Asked.{call_of}
-use Rattle.pg_tool.specs.SessionContract.{SessionContract, SessionResult, result_of, session_of}
+use Rattle.pg_tool.specs.SessionContract.{session_of}
 use Rattle.pg_tool.specs.TableContract.{TableContract, table_call, table_result}
 use Rattle.pg_served.specs.OneAtATime.{IsOneAtATime}
 
--- What was asked of a session.
-pub record Asked : Type 0 where
+-- What was asked of a session, with these commands.
+pub record AskedOf (C : Type 0) : Type 0 where
   pub config : List ℕ
   pub nonce : List ℕ
-  pub scripts : List (List Command)
+  pub scripts : List (List C)
   pub turns : List ℕ
   pub limit : ℕ
+
+-- what was asked of a session of simple queries
+abbrev pub Asked : Type 0
+Asked = AskedOf said.Command
+
+-- the same, where the scripts are these
+abbrev pub with_scripts : AskedOf Command → List (List said.Command) → Asked
+with_scripts asked scripts = record { config = asked.config; nonce = asked.nonce; scripts = scripts; turns = asked.turns; limit = asked.limit }
 
 -- the call, over a link that stands so before it and behind it
 abbrev pub call_to : Asked → (before after : LinkView) → Call
 call_to asked before after = call_of asked.config asked.nonce asked.scripts asked.turns asked.limit before after
 
--- the same by what the commands of the table mean
-abbrev pub TableSession : Asked → (before after : LinkView) → Result told.Report Error → Type 0
+-- what any session promises of its link, by what the commands of the table mean
+abbrev pub TableSession : AskedOf Command → (before after : LinkView) → Result told.Report Error → Type 0
 TableSession asked before after result = TableContract (table_call asked.config asked.nonce asked.scripts asked.turns asked.limit before after) (table_result result)
 
 -- where it answers Ok, what its turns did
-abbrev pub WasPlayed : Asked → (before after : LinkView) → Result told.Report Error → Type 0
+abbrev pub WasPlayed : AskedOf Command → (before after : LinkView) → Result told.Report Error → Type 0
 WasPlayed asked before after result = IfOk result (λ report. (s : Settings) × Means asked.config s
     × HasPlayed table s asked.nonce asked.scripts asked.turns before after (told_in report))
 
 -- The session was played as asked, with all that any session promises of its link.
-pub record IsSession (asked : Asked) (before after : LinkView) (result : Result told.Report Error) : Type 0 where
-  pub session : SessionContract (call_to asked before after) (result_of result)
+pub record IsSession (asked : AskedOf Command) (before after : LinkView) (result : Result told.Report Error) : Type 0 where
   pub by_table : TableSession asked before after result
   pub played : WasPlayed asked before after result
 
@@ -77,7 +85,7 @@ ServesOneAtATime {S} step asked old new report = (state : S) (startup : List ℕ
     RanOneAtATime (service_of step) state startup (call_over_server step asked old new) report
 
 -- the session fails for its link only where the server has a fault
-abbrev pub FailsByServer : {S : Type 0} → (new : server_links.Served S) → SessionResult → Type 0
+abbrev pub FailsByServer : {S R : Type 0} → (new : server_links.Served S) → Result R Error → Type 0
 FailsByServer new result = result ≡ Err (Io Link) → IsSome new.fault
 
 -- where the link was just made, its fault is the one for which the server stops at the bytes that were taken

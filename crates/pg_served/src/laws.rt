@@ -1,7 +1,6 @@
 //! Sessions over a server, as laws. Each body does nothing.
 
-ghost use Rattle.std.specs.Prelude.{◌≡◌, ℕ, List, Result, true};
-ghost use Rattle.pg_faults.specs.declared.error.Error.{Error};
+ghost use Rattle.std.specs.Prelude.{◌≡◌, ℕ, List, true};
 ghost use Rattle.pg_promises.specs.Causes.{Call};
 ghost use Rattle.pg_promises.specs.ConnectionStrings.{Means};
 ghost use Rattle.pg_promises.specs.EndedWell.{HasRun};
@@ -10,7 +9,6 @@ ghost use Rattle.pg_spec.specs.Book.{Booking};
 ghost use Rattle.pg_spec.specs.Report.{Command, Report};
 ghost use Rattle.pg_spec.specs.Settings.{Settings};
 ghost use Rattle.pg_spec.specs.Turns.{Times};
-ghost use Rattle.pg_text.specs.declared.report.Report as told;
 ghost use Rattle.pg_wire.specs.LinkCalls.{Continues};
 ghost use Rattle.pg_serving.specs.Serving.{Service};
 ghost use Rattle.pg_serving.specs.Sessions.{IsStartup};
@@ -20,10 +18,10 @@ ghost use Rattle.pg_server.specs.Echoes.{echo_step};
 ghost use Rattle.pg_server.specs.Handlers.{Step, service_of};
 ghost use Rattle.pg_server.specs.ServerLinks as server_links;
 ghost use Rattle.pg_server.specs.Startups.{is_startup};
-ghost use Rattle.pg_tool.specs.SessionContract.{IsEndedWell, result_of};
+ghost use Rattle.pg_tool.specs.SessionContract.{IsEndedWell, SessionResult};
 ghost use Rattle.pg_served.specs.Conforming.{Conforms, HasNoFault, IsValid, MayBook, are_texts};
 ghost use Rattle.pg_served.specs.OneAtATime.{AsksInRequests};
-ghost use Rattle.pg_served.specs.Promised.{OverServer};
+ghost use Rattle.pg_served.specs.Promised.{SimplyOverServer};
 ghost use Rattle.pg_served.specs.Runs.{Asked, IsNewMachine, IsNewServer, RanOneAtATime, call_over_server};
 
 /// What simple queries book are requests, and they open no copy of any server.
@@ -56,8 +54,8 @@ pub fn a_session_over_a_machine_is_one_at_a_time()
 pub fn a_session_over_an_echo_ends_well()
     ensures no_fault { (s : Settings) (nonce startup : List ℕ) (starts : IsStartup s nonce startup) (scripts : List (List Command)) (book : List Booking) →
         are_texts scripts ≡ true → MayBook scripts book → HasNoFault echo_step tt startup starts.frame book }
-    ensures ends_well { (asked : Asked) (old new : server_links.Served (Unit {0})) (result : Result told.Report Error) (startup : List ℕ) (s : Settings) →
-        OverServer echo_step asked old new result → IsNewServer old tt startup → Means asked.config s → IsValid (call_over_server echo_step asked old new) s →
+    ensures ends_well { (asked : Asked) (old new : server_links.Served (Unit {0})) (result : SessionResult) (startup : List ℕ) (s : Settings) →
+        SimplyOverServer echo_step asked old new result → IsNewServer old tt startup → Means asked.config s → IsValid (call_over_server echo_step asked old new) s →
         Conforms (call_over_server echo_step asked old new) s (service_of echo_step) tt startup → are_texts (call_over_server echo_step asked old new).scripts ≡ true →
-        EndsWell (result_of result) }
+        EndsWell result }
 {}

@@ -10,13 +10,13 @@ use pg_server::{Handler, ServerLink};
 use pg_tool::{Report, Scripts, run_session};
 use std::alloc::Global;
 
-/// Plays the scripts over a link to a server. Where it answers Ok and the link was just made, to a server that was fed with
-/// nothing, the server's reply to each request, but for notices, notifications and parameter reports, is what it is where the
-/// requests are fed one at a time, whatever the turns, and however many bytes the link gives and takes at a time.
+/// Plays the scripts over a link to a server. Where they are simple queries alone, it answers Ok and the link was just made, to a
+/// server that was fed with nothing, the server's reply to each request, but for notices, notifications and parameter reports, is
+/// what it is where the requests are fed one at a time, whatever the turns, and however many bytes the link gives and takes at a time.
 ///
 /// The errors are those of `run_session`, but for Io(Ended) and Closed. Io(Link) comes only where the server has a fault, which
 /// `ServerLink::fault` tells then; over such a link it is the one for which the server stops at the bytes that were taken. There
-/// valid input to a server that conforms and has no fault for what the scripts ask answers Ok, or OutOfMemory.
+/// valid input of simple queries to a server that conforms and has no fault for what they ask answers Ok, or OutOfMemory.
 pub fn run_served<H: Handler>(
     alloc: Global,
     config: &str,
@@ -37,12 +37,12 @@ pub fn run_served<H: Handler>(
     result
 }
 
-/// Plays the scripts over a link to a machine. Where it answers Ok, the link was just made and the startup is in form,
-/// the machine's reply to each request, but for notices, notifications and parameter reports, is what `feed_alone` answers,
-/// whatever the turns, and however many bytes the link gives and takes at a time.
+/// Plays the scripts over a link to a machine. Where they are simple queries alone, it answers Ok, the link was just made and the
+/// startup is in form, the machine's reply to each request, but for notices, notifications and parameter reports, is what
+/// `feed_alone` answers, whatever the turns, and however many bytes the link gives and takes at a time.
 ///
-/// The errors are those of `run_session`, but for Io(Link), Io(Ended) and Closed. Over such a link, valid input to a machine
-/// that conforms answers Ok, or OutOfMemory.
+/// The errors are those of `run_session`, but for Io(Link), Io(Ended) and Closed. Over such a link, valid input of simple
+/// queries to a machine that conforms answers Ok, or OutOfMemory.
 pub fn run_over_machine(
     alloc: Global,
     config: &str,

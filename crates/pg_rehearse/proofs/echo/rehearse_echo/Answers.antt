@@ -1,7 +1,5 @@
-use Rattle.std.specs.Prelude.{option_map}
 use Rattle.pg_server.specs.Echoes.{echo_step}
 use Rattle.pg_server.specs.ServerLinks.{Served, served_of}
-use Rattle.pg_tool.specs.SessionContract.{result_of}
 use Rattle.pg_rehearse.specs.Rehearsals.{Around}
 use Rattle.pg_rehearse.proofs.Faulting.{fails-by-server, its-fault}
 use Rattle.pg_rehearse.proofs.echo.rehearse_echo.Goals as goal
@@ -16,7 +14,7 @@ returns-clause-fault g c =
       sink_before = g.K.Sink.state c.args.sink.now;
       sink_after = g.K.Sink.state c.rehearse-outcome.new.sink;
       status = c.rehearse-outcome.result.status;
-      result = option_map result_of c.rehearse-outcome.result.result;
+      result = c.rehearse-outcome.result.result;
     } in
     fails-by-server echo_step old new around c.fault_law.ensures c.rehearse-outcome.ensures
 
@@ -30,6 +28,6 @@ returns-clause-its_fault g c =
       sink_before = g.K.Sink.state c.args.sink.now;
       sink_after = g.K.Sink.state c.rehearse-outcome.new.sink;
       status = c.rehearse-outcome.result.status;
-      result = option_map result_of c.rehearse-outcome.result.result;
+      result = c.rehearse-outcome.result.result;
     } in
     its-fault echo_step old new around c.bytes_law.ensures c.rehearse-outcome.ensures

@@ -1,6 +1,5 @@
 use Rattle.std.proofs.Common.{inl, inr, refl, ap, map, ◌∙◌}
-use Rattle.std.specs.Prelude.{option_map, string_bytes}
-use Rattle.pg_tool.specs.SessionContract.{result_of}
+use Rattle.std.specs.Prelude.{string_bytes}
 use Rattle.pg_rehearse.proofs.rehearsal.rehearse.Goals as goal
 
 pub returns-in-Ok : goal.returns-in-Ok
@@ -11,7 +10,7 @@ returns-in-Ok g c =
 pub returns-in-Err : goal.returns-in-Err
 returns-in-Err g c = inr (record {
   status = ap (λ outcome. outcome.status) c.out_of_memory.ensures;
-  result = ap (λ outcome. option_map result_of outcome.result) c.out_of_memory.ensures;
+  result = ap (λ outcome. outcome.result) c.out_of_memory.ensures;
   source = refl;
   sink = refl;
   link = refl;
