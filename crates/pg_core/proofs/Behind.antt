@@ -1,11 +1,11 @@
 -- One command behind another is a command that the core takes.
-use Rattle.std.proofs.Common.{◌≡◌, List, Result, Err}
+use Rattle.std.proofs.Common.{◌≡◌, List, Bool, true, false, Result, Err}
 use Rattle.pg_faults.specs.declared.error.Error.{Error}
 use Rattle.pg_faults.specs.declared.error.Error.TheVariants.{OutOfMemory}
 use Rattle.pg_query.specs.Dialogue.{Dialogue, Answer, Ask, Send, Leave, Read, Put, Finish, Close, HangUp, Call, Hear}
 use Rattle.pg_core.specs.Behind.{behind}
 use Rattle.pg_query.specs.declared.desk_call.Cleanup.{Cleanup}
-use Rattle.pg_core.specs.Runs.{IsTidy, ReadsNothing}
+use Rattle.pg_core.specs.Runs.{AddsNone, AddsTo, IsTidy, ReadsNothing}
 use Rattle.pg_core.specs.Times.{ReadsNo, IsSane, IsInTime, IsCommand, LacksMemory, IsFaithful}
 use Rattle.pg_core.proofs.Gone.{no-reads}
 
@@ -29,38 +29,69 @@ module _ {A T : Type 0} (extra : List Cleanup) (f : Result A Error → Dialogue 
   no-behind (Send p refused d) h = (λ e. no-behind (refused e) (h.0 e), no-behind d h.1)
   no-behind (Leave k d) h = no-behind d h
   no-behind (Read cleanup decides next) h = absurd h
-  no-behind (Put cleanup p d) h = absurd h
-  no-behind (Finish p d) h = absurd h
-  no-behind (Close p d) h = absurd h
+  no-behind (Put cleanup p d) h = no-behind d h
+  no-behind (Finish p d) h = no-behind d h
+  no-behind (Close p d) h = no-behind d h
   no-behind (HangUp d) h = no-behind d h
   no-behind (Call q refused next) h = (λ e. no-behind (refused e) (h.0 e), λ r fit. no-behind (next r) (h.1 r fit))
   no-behind (Hear next) h = tt
 
+  adds-nothing : (d : Dialogue T) → ReadsNothing d → AddsNone d
+  adds-nothing (Answer r) h = tt
+  adds-nothing (Ask c p d) h = tt
+  adds-nothing (Send p refused d) h = (λ e. adds-nothing (refused e) (h.0 e), adds-nothing d h.1)
+  adds-nothing (Leave k d) h = adds-nothing d h
+  adds-nothing (Read cleanup decides next) h = absurd h
+  adds-nothing (Put cleanup p d) h = absurd h
+  adds-nothing (Finish p d) h = absurd h
+  adds-nothing (Close p d) h = absurd h
+  adds-nothing (HangUp d) h = absurd h
+  adds-nothing (Call q refused next) h = (λ e. adds-nothing (refused e) (h.0 e), λ r fit. adds-nothing (next r) (h.1 r fit))
+  adds-nothing (Hear next) h = absurd h
+
+  adds-behind : (d : Dialogue A) → AddsNone d → AddsNone (behind extra d f)
+  adds-behind (Answer r) h = adds-nothing (f r) (later r).nothing
+  adds-behind (Ask c p d) h = tt
+  adds-behind (Send p refused d) h = (λ e. adds-behind (refused e) (h.0 e), adds-behind d h.1)
+  adds-behind (Leave k d) h = adds-behind d h
+  adds-behind (Read cleanup decides next) h = λ ms e. adds-behind (next ms) (h ms e)
+  adds-behind (Put cleanup p d) h = absurd h
+  adds-behind (Finish p d) h = absurd h
+  adds-behind (Close p d) h = absurd h
+  adds-behind (HangUp d) h = adds-behind d h
+  adds-behind (Call q refused next) h = (λ e. adds-behind (refused e) (h.0 e), λ r fit. adds-behind (next r) (h.1 r fit))
+  adds-behind (Hear next) h = tt
+
+  to-behind : (c : Bool) (d : Dialogue A) → AddsTo c d → AddsTo c (behind extra d f)
+  to-behind true d h = tt
+  to-behind false d h = adds-behind d h
+
   tidy-behind : (d : Dialogue A) → IsTidy d → IsTidy (behind extra d f)
   tidy-behind (Answer r) h = (later r).tidy
-  tidy-behind (Ask c p d) h = tidy-behind d h
+  tidy-behind (Ask c p d) h = (to-behind c d h.0, tidy-behind d h.1)
   tidy-behind (Send p refused d) h = (λ e. tidy-behind (refused e) (h.0 e), tidy-behind d h.1)
   tidy-behind (Leave k d) h = tidy-behind d h
   tidy-behind (Read cleanup decides next) h = λ ms e. tidy-behind (next ms) (h ms e)
-  tidy-behind (Put cleanup p d) h = absurd h
-  tidy-behind (Finish p d) h = absurd h
-  tidy-behind (Close p d) h = absurd h
+  tidy-behind (Put cleanup p d) h = tidy-behind d h
+  tidy-behind (Finish p d) h = tidy-behind d h
+  tidy-behind (Close p d) h = tidy-behind d h
   tidy-behind (HangUp d) h = (nothing-behind d h.0, tidy-behind d h.1)
   tidy-behind (Call q refused next) h = (λ e. tidy-behind (refused e) (h.0 e), λ r fit. tidy-behind (next r) (h.1 r fit))
   tidy-behind (Hear next) h = tt
 
-  sane-behind : (d : Dialogue A) → IsSane d → IsSane (behind extra d f)
-  sane-behind (Answer r) h = (later r).sane
-  sane-behind (Ask c p d) h = sane-behind d h
-  sane-behind (Send p refused d) h = (λ e. sane-behind (refused e) (h.0 e), sane-behind d h.1)
-  sane-behind (Leave k d) h = absurd h
-  sane-behind (Read cleanup decides next) h = λ ms e. sane-behind (next ms) (h ms e)
-  sane-behind (Put cleanup p d) h = absurd h
-  sane-behind (Finish p d) h = absurd h
-  sane-behind (Close p d) h = absurd h
-  sane-behind (HangUp d) h = (no-behind d h.0, sane-behind d h.1)
-  sane-behind (Call q refused next) h = (λ e. sane-behind (refused e) (h.0 e), λ r fit. sane-behind (next r) (h.1 r fit))
-  sane-behind (Hear next) h = tt
+  sane-behind : (opened : Bool) (d : Dialogue A) → IsSane opened d → IsSane opened (behind extra d f)
+  sane-behind true (Answer r) h = absurd h
+  sane-behind false (Answer r) h = (later r).sane
+  sane-behind opened (Ask c p d) h = (h.0, sane-behind c d h.1)
+  sane-behind opened (Send p refused d) h = (λ e. sane-behind opened (refused e) (h.0 e), sane-behind opened d h.1)
+  sane-behind opened (Leave k d) h = absurd h
+  sane-behind opened (Read cleanup decides next) h = λ ms e. sane-behind opened (next ms) (h ms e)
+  sane-behind opened (Put cleanup p d) h = (h.0, sane-behind true d h.1)
+  sane-behind opened (Finish p d) h = (h.0, sane-behind false d h.1)
+  sane-behind opened (Close p d) h = (h.0, sane-behind false d h.1)
+  sane-behind opened (HangUp d) h = (h.0, no-behind d h.1, sane-behind false d h.2)
+  sane-behind opened (Call q refused next) h = (λ e. sane-behind opened (refused e) (h.0 e), λ r fit. sane-behind opened (next r) (h.1 r fit))
+  sane-behind opened (Hear next) h = tt
 
   time-behind : (d : Dialogue A) → IsInTime d → IsInTime (behind extra d f)
   time-behind (Answer r) h = (later r).in_time
@@ -68,9 +99,9 @@ module _ {A T : Type 0} (extra : List Cleanup) (f : Result A Error → Dialogue 
   time-behind (Send p refused d) h = (λ e. time-behind (refused e) (h.0 e), time-behind d h.1)
   time-behind (Leave k d) h = time-behind d h
   time-behind (Read cleanup decides next) h = (h.0, λ ms e. (λ any. no-behind (next ms) ((h.1 ms e).0 any), time-behind (next ms) (h.1 ms e).1))
-  time-behind (Put cleanup p d) h = absurd h
-  time-behind (Finish p d) h = absurd h
-  time-behind (Close p d) h = absurd h
+  time-behind (Put cleanup p d) h = time-behind d h
+  time-behind (Finish p d) h = time-behind d h
+  time-behind (Close p d) h = time-behind d h
   time-behind (HangUp d) h = time-behind d h
   time-behind (Call q refused next) h = (λ e. time-behind (refused e) (h.0 e), λ r fit. time-behind (next r) (h.1 r fit))
   time-behind (Hear next) h = tt
@@ -85,7 +116,7 @@ module _ {A T : Type 0} (extra : List Cleanup) (f : Result A Error → Dialogue 
   lacks-behind g (Read cleanup decides next) h = absurd h
   lacks-behind g (Put cleanup p d) h = absurd h
   lacks-behind g (Finish p d) h = absurd h
-  lacks-behind g (Close p d) h = absurd h
+  lacks-behind g (Close p d) h = lacks-behind g d h
   lacks-behind g (Call q refused next) h = absurd h
   lacks-behind g (Hear next) h = absurd h
 
@@ -95,9 +126,9 @@ module _ {A T : Type 0} (extra : List Cleanup) (f : Result A Error → Dialogue 
   faithful-behind g (Send p refused d) h = (lacks-behind g (refused OutOfMemory) h.0, faithful-behind g d h.1)
   faithful-behind g (Leave k d) h = faithful-behind g d h
   faithful-behind g (Read cleanup decides next) h = λ ms. faithful-behind g (next ms) (h ms)
-  faithful-behind g (Put cleanup p d) h = absurd h
-  faithful-behind g (Finish p d) h = absurd h
-  faithful-behind g (Close p d) h = absurd h
+  faithful-behind g (Put cleanup p d) h = faithful-behind g d h
+  faithful-behind g (Finish p d) h = faithful-behind g d h
+  faithful-behind g (Close p d) h = faithful-behind g d h
   faithful-behind g (HangUp d) h = faithful-behind g d h
   faithful-behind g (Call q refused next) h = (lacks-behind g (refused OutOfMemory) h.0, λ r fit. faithful-behind g (next r) (h.1 r fit))
   faithful-behind g (Hear next) h = tt
@@ -106,7 +137,7 @@ module _ {A T : Type 0} (extra : List Cleanup) (f : Result A Error → Dialogue 
   command-behind g d h = record {
     tidy = tidy-behind d h.tidy;
     nothing = nothing-behind d h.nothing;
-    sane = sane-behind d h.sane;
+    sane = sane-behind false d h.sane;
     in_time = time-behind d h.in_time;
     faithful = faithful-behind g d h.faithful;
   }

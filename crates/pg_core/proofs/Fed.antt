@@ -6,7 +6,7 @@ use Rattle.pg_faults.specs.declared.error.Error.{Error}
 use Rattle.pg_query.specs.declared.desk_call.Cleanup.{Cleanup}
 use Rattle.pg_query.specs.declared.desk_call.DeskCall.{DeskCall}
 use Rattle.pg_query.specs.declared.desk_call.Reply.{Reply}
-use Rattle.pg_query.specs.Dialogue.{Dialogue, Answer, Ask, Send, Leave, Read, HangUp, Call, Hear, feed, feed_one}
+use Rattle.pg_query.specs.Dialogue.{Dialogue, Answer, Ask, Send, Leave, Read, Put, Finish, Close, HangUp, Call, Hear, feed, feed_one}
 use Rattle.pg_course.specs.Dialogues.{decided_after}
 
 pub feed-answer : {T : Type 0} (ms : List RawMessage) (r : Result T Error) → feed ms (Answer r) ≡ Answer r
@@ -24,6 +24,18 @@ feed-send (m ∷ ms) part refused d = feed-send ms part (λ e. feed_one m (refus
 pub feed-leave : {T : Type 0} (ms : List RawMessage) (id : ℕ) (d : Dialogue T) → feed ms (Leave id d) ≡ Leave id (feed ms d)
 feed-leave [] id d = refl
 feed-leave (m ∷ ms) id d = feed-leave ms id (feed_one m d)
+
+pub feed-put : {T : Type 0} (ms : List RawMessage) (cleanup : List Cleanup) (part : List ℕ) (d : Dialogue T) → feed ms (Put cleanup part d) ≡ Put cleanup part (feed ms d)
+feed-put [] cleanup part d = refl
+feed-put (m ∷ ms) cleanup part d = feed-put ms cleanup part (feed_one m d)
+
+pub feed-finish : {T : Type 0} (ms : List RawMessage) (part : List ℕ) (d : Dialogue T) → feed ms (Finish part d) ≡ Finish part (feed ms d)
+feed-finish [] part d = refl
+feed-finish (m ∷ ms) part d = feed-finish ms part (feed_one m d)
+
+pub feed-close : {T : Type 0} (ms : List RawMessage) (part : List ℕ) (d : Dialogue T) → feed ms (Close part d) ≡ Close part (feed ms d)
+feed-close [] part d = refl
+feed-close (m ∷ ms) part d = feed-close ms part (feed_one m d)
 
 pub feed-hang-up : {T : Type 0} (ms : List RawMessage) (d : Dialogue T) → feed ms (HangUp d) ≡ HangUp d
 feed-hang-up [] d = refl

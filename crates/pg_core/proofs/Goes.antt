@@ -13,28 +13,16 @@ use Rattle.pg_query.specs.declared.desk_call.Reply.{Reply}
 use Rattle.pg_course.specs.Dialogues as said
 use Rattle.pg_course.specs.Dialogues.{decided_after}
 use Rattle.pg_course.specs.Courses.{Asked, Course, Request, Point, unread, reply_to, delivered_to, Who, stamp_of}
-use Rattle.pg_core.proofs.Walk.{Step, goes, stands, is_delivered}
+use Rattle.pg_core.proofs.Walk.{Step, goes, stands, books, sends, puts, asks, is_delivered}
 use Rattle.pg_core.specs.Runs.{Ran, of_request, stays, run, of_question}
-use Rattle.pg_core.specs.Deeds.{granted, AreGranted}
+use Rattle.pg_core.specs.Deeds.{Addition, granted, AreGranted}
 use Rattle.pg_core.specs.Outcomes.{asked}
 use Rattle.pg_core.specs.Trails.{point_of, CameBy, AreNumbered, AreToldIn, IsSettled}
 use Rattle.pg_core.proofs.Fed.{still-decides, front-decides}
 
--- A step of a turn whose request gets no parts in later ones: no command here puts any.
-pub record Plain (T : Type 0) : Type 0 where
-  pub parts : List (List ℕ)
-  pub requests : List Request
-  pub asked : List (Asked DeskCall Reply)
-  pub at : Point
-  pub left : said.Dialogue DeskCall Reply (Result T Error)
-
--- a step, where no part is put later
-abbrev pub plain : {T : Type 0} → Step DeskCall Reply (Result T Error) → Plain T
-plain s = record { parts = s.parts []; requests = s.requests []; asked = s.asked; at = s.at; left = s.left }
-
--- where it stands in this turn, in the words of the law on turns; it put no part
-abbrev pub step_of : {T : Type 0} → (turn : ℕ) → Ran T → Plain T
-step_of turn s = record { parts = []; requests = s.requests; asked = s.asked; at = point_of turn s; left = asked s.left }
+-- where it stands in this turn, in the words of the law on turns
+abbrev pub step_of : {T : Type 0} → (turn : ℕ) → Ran T → Step DeskCall Reply (Result T Error)
+step_of turn s = record { parts = s.parts; requests = s.whole; asked = s.asked; at = point_of turn s; left = asked s.left }
 
 le-true : (a b : ℕ) → a ≤ b → nat_le a b ≡ true
 le-true a b e = grind (arith, nat_tests, e)
@@ -75,25 +63,16 @@ fronts decides xs m = record {
 abbrev Here : (turn : ℕ) → Option ℕ → ℕ → Point
 Here turn at n = record { turn = turn; request = at; read = n; parts = [] }
 
--- a request, and a question, more
-abbrev books_plain : {T : Type 0} → ℕ → Stamp → List ℕ → Plain T → Plain T
-books_plain number stamp part s = record s { parts = []; requests = record { number = number; booking = record { stamp = stamp; parts = part ∷ s.parts } } ∷ s.requests }
+module _ {T : Type 0} (tells : List DeskCall → DeskCall → Reply) (course : Course DeskCall Reply) (who : Who) (turn : ℕ) (came : ℕ → List RawMessage) (is_came : CameBy course turn came) where
+  -- with some room for parts
+  abbrev Goes-so : ℕ → List DeskCall → Option ℕ → ℕ → Dialogue T → List (Result Request Error) → List (Result (Asked DeskCall Reply) Error) → List (Result Addition Error) → Type 0
+  Goes-so number before at n d rs qs ps = (room : ℕ) × (goes tells course who number before (Here turn at n) (asked d) room ≡ step_of turn (run came at n d rs qs ps))
 
-abbrev sends_plain : {T : Type 0} → ℕ → Stamp → List ℕ → Plain T → Plain T
-sends_plain number stamp part s = record s { requests = record { number = number; booking = record { stamp = stamp; parts = part ∷ [] } } ∷ s.requests }
+  abbrev chosen : Option ℕ → ℕ → List Cleanup → (List RawMessage → Bool) → (List RawMessage → Dialogue T) → List (Result Request Error) → List (Result (Asked DeskCall Reply) Error) → List (Result Addition Error) → Option ℕ → Ran T
+  chosen at n cleanup decides next rs qs ps o = elim o [ None ↦ stays at n (Read cleanup decides next) | Some k ↦ run came at (n + k) (next (take k (drop n (of_request came at)))) rs qs ps ]
 
-abbrev asks_plain : {T : Type 0} → Asked DeskCall Reply → Plain T → Plain T
-asks_plain a s = record s { asked = a ∷ s.asked }
-
-module _ {T : Type 0} (tells : List DeskCall → DeskCall → Reply) (course : Course DeskCall Reply) (who : Who) (turn : ℕ) (came : ℕ → List RawMessage) (is_came : CameBy course turn came) (room : ℕ) where
-  abbrev Goes-so : ℕ → List DeskCall → Option ℕ → ℕ → Dialogue T → List (Result Request Error) → List (Result (Asked DeskCall Reply) Error) → Type 0
-  Goes-so number before at n d rs qs = plain (goes tells course who number before (Here turn at n) (asked d) room) ≡ step_of turn (run came at n d rs qs)
-
-  abbrev chosen : Option ℕ → ℕ → List Cleanup → (List RawMessage → Bool) → (List RawMessage → Dialogue T) → List (Result Request Error) → List (Result (Asked DeskCall Reply) Error) → Option ℕ → Ran T
-  chosen at n cleanup decides next rs qs o = elim o [ None ↦ stays at n (Read cleanup decides next) | Some k ↦ run came at (n + k) (next (take k (drop n (of_request came at)))) rs qs ]
-
-  abbrev said_so : ℕ → List DeskCall → Option ℕ → ℕ → (List RawMessage → Bool) → (List RawMessage → Dialogue T) → Option ℕ → Step DeskCall Reply (Result T Error)
-  said_so number before at n decides next o = elim o [
+  abbrev said_so : ℕ → List DeskCall → Option ℕ → ℕ → (List RawMessage → Bool) → (List RawMessage → Dialogue T) → (room : ℕ) → Option ℕ → Step DeskCall Reply (Result T Error)
+  said_so number before at n decides next room o = elim o [
     | None ↦ stands (Here turn at n) (said.Reads decides (λ ms. asked (next ms)))
     | Some j ↦ if is_delivered course (Here turn at n) turn (Some j)
         then goes tells course who number before (Here turn at (n + j)) (asked (next (take j (unread course (Here turn at n))))) room
@@ -101,12 +80,12 @@ module _ {T : Type 0} (tells : List DeskCall → DeskCall → Reply) (course : C
   ]
 
   -- a reading of a request
-  reads-so : (number : ℕ) (before : List DeskCall) (k n : ℕ) (cleanup : List Cleanup) (decides : List RawMessage → Bool) (next : List RawMessage → Dialogue T) (rs : List (Result Request Error)) (qs : List (Result (Asked DeskCall Reply) Error)) →
+  reads-so : (number : ℕ) (before : List DeskCall) (k n : ℕ) (cleanup : List Cleanup) (decides : List RawMessage → Bool) (next : List RawMessage → Dialogue T) (rs : List (Result Request Error)) (qs : List (Result (Asked DeskCall Reply) Error)) (ps : List (Result Addition Error)) →
       n ≤ length (came k) →
-      ((ms : List RawMessage) (m : ℕ) → m ≤ length (came k) → (run came (Some k) m (next ms) rs qs).asked ≡ granted qs → IsSettled (run came (Some k) m (next ms) rs qs).left → Goes-so number before (Some k) m (next ms) rs qs) →
-      (run came (Some k) n (Read cleanup decides next) rs qs).asked ≡ granted qs → IsSettled (run came (Some k) n (Read cleanup decides next) rs qs).left →
-      Goes-so number before (Some k) n (Read cleanup decides next) rs qs
-  reads-so number before k n cleanup decides next rs qs within ih same settled = by (decided_after decides (drop n (came k))) refl same settled
+      ((ms : List RawMessage) (m : ℕ) → m ≤ length (came k) → (run came (Some k) m (next ms) rs qs ps).asked ≡ granted qs → IsSettled (run came (Some k) m (next ms) rs qs ps).left → Goes-so number before (Some k) m (next ms) rs qs ps) →
+      (run came (Some k) n (Read cleanup decides next) rs qs ps).asked ≡ granted qs → IsSettled (run came (Some k) n (Read cleanup decides next) rs qs ps).left →
+      Goes-so number before (Some k) n (Read cleanup decides next) rs qs ps
+  reads-so number before k n cleanup decides next rs qs ps within ih same settled = by (decided_after decides (drop n (came k))) refl same settled
     where
       m : ℕ
       m = delivered_to course (Some k) turn
@@ -124,8 +103,8 @@ module _ {T : Type 0} (tells : List DeskCall → DeskCall → Reply) (course : C
       f : Fronts decides (drop n xs) (m - n)
       f = fronts decides (drop n xs) (m - n)
 
-      by : (o : Option ℕ) → decided_after decides (drop n (came k)) ≡ o → (chosen (Some k) n cleanup decides next rs qs o).asked ≡ granted qs → IsSettled (chosen (Some k) n cleanup decides next rs qs o).left →
-          plain (said_so number before (Some k) n decides next (decided_after decides (drop n xs))) ≡ step_of turn (chosen (Some k) n cleanup decides next rs qs (decided_after decides (drop n (came k))))
+      by : (o : Option ℕ) → decided_after decides (drop n (came k)) ≡ o → (chosen (Some k) n cleanup decides next rs qs ps o).asked ≡ granted qs → IsSettled (chosen (Some k) n cleanup decides next rs qs ps o).left →
+          (room : ℕ) × (said_so number before (Some k) n decides next room (decided_after decides (drop n xs)) ≡ step_of turn (chosen (Some k) n cleanup decides next rs qs ps (decided_after decides (drop n (came k)))))
       by (Some j) e same settled =
           let h = f.front j (ap (decided_after decides) (sym cut) ∙ e) in
           let j_le : j ≤ m - n = h.0 in
@@ -135,15 +114,18 @@ module _ {T : Type 0} (tells : List DeskCall → DeskCall → Reply) (course : C
           let w : j ≤ length (take (m - n) (drop n xs)) = h.3 in
           let w2 = ap length cut in
           let more : n + j ≤ length (came k) = omega (arith, size, w, w2, within) in
-          ap (λ (o : Option ℕ). plain (said_so number before (Some k) n decides next o)) h.1
-          ∙ ap (λ (b : Bool). plain (if b then goes tells course who number before (Here turn (Some k) (n + j)) (asked (next (take j (drop n xs)))) room else stands (Here turn (Some k) n) (said.Reads decides (λ ms. asked (next ms))))) (le-true (n + j) m all)
-          ∙ ap (λ (ms : List RawMessage). plain (goes tells course who number before (Here turn (Some k) (n + j)) (asked (next ms)) room)) (sym front)
-          ∙ ih (take j (drop n (came k))) (n + j) more same settled
-          ∙ ap (λ (o : Option ℕ). step_of turn (chosen (Some k) n cleanup decides next rs qs o)) (sym e)
-      by None e same settled = ap plain (whole (decided_after decides (drop n xs)) refl) ∙ ap (λ (o : Option ℕ). step_of turn (chosen (Some k) n cleanup decides next rs qs o)) (sym e)
+          let i = ih (take j (drop n (came k))) (n + j) more same settled in (
+            i.0,
+            ap (λ (o : Option ℕ). said_so number before (Some k) n decides next i.0 o) h.1
+                ∙ ap (λ (b : Bool). if b then goes tells course who number before (Here turn (Some k) (n + j)) (asked (next (take j (drop n xs)))) i.0 else stands (Here turn (Some k) n) (said.Reads decides (λ ms. asked (next ms)))) (le-true (n + j) m all)
+                ∙ ap (λ (ms : List RawMessage). goes tells course who number before (Here turn (Some k) (n + j)) (asked (next ms)) i.0) (sym front)
+                ∙ i.1
+                ∙ ap (λ (o : Option ℕ). step_of turn (chosen (Some k) n cleanup decides next rs qs ps o)) (sym e),
+          )
+      by None e same settled = (0, whole (decided_after decides (drop n xs)) refl ∙ ap (λ (o : Option ℕ). step_of turn (chosen (Some k) n cleanup decides next rs qs ps o)) (sym e))
         where
           late : (j : ℕ) (b : Bool) → decided_after decides (drop n xs) ≡ Some j → nat_le (n + j) m ≡ b →
-              (if b then goes tells course who number before (Here turn (Some k) (n + j)) (asked (next (take j (drop n xs)))) room else stands (Here turn (Some k) n) (said.Reads decides (λ ms. asked (next ms))))
+              (if b then goes tells course who number before (Here turn (Some k) (n + j)) (asked (next (take j (drop n xs)))) 0 else stands (Here turn (Some k) n) (said.Reads decides (λ ms. asked (next ms))))
               ≡ stands (Here turn (Some k) n) (said.Reads decides (λ ms. asked (next ms)))
           late j false d t = refl
           late j true d t =
@@ -151,55 +133,82 @@ module _ {T : Type 0} (tells : List DeskCall → DeskCall → Reply) (course : C
               let now : Some j ≡ None = sym (f.back j d (omega (arith, le, up))) ∙ ap (decided_after decides) (sym cut) ∙ e in
               absurd cc
 
-          whole : (o : Option ℕ) → decided_after decides (drop n xs) ≡ o → said_so number before (Some k) n decides next o ≡ stands (Here turn (Some k) n) (said.Reads decides (λ ms. asked (next ms)))
+          whole : (o : Option ℕ) → decided_after decides (drop n xs) ≡ o → said_so number before (Some k) n decides next 0 o ≡ stands (Here turn (Some k) n) (said.Reads decides (λ ms. asked (next ms)))
           whole None d = refl
           whole (Some j) d = late j (nat_le (n + j) m) d refl
 
-  pub goes-so : (number : ℕ) (before : List DeskCall) (at : Option ℕ) (n : ℕ) (d : Dialogue T) (rs : List (Result Request Error)) (qs : List (Result (Asked DeskCall Reply) Error)) → n ≤ length (of_request came at) →
-      AreGranted rs → AreGranted qs → AreNumbered who turn number (granted rs) → AreToldIn tells who turn before (granted qs) → (run came at n d rs qs).asked ≡ granted qs → IsSettled (run came at n d rs qs).left → Goes-so number before at n d rs qs
-  goes-so number before at n (Answer r) rs qs within gr gq numbered told same settled = refl
-  goes-so number before at n (Ask copying part d) [] qs within gr gq numbered told same (inl h) = absurd h
-  goes-so number before at n (Ask copying part d) [] qs within gr gq numbered told same (inr (r, e)) = absurd cc
-  goes-so number before at n (Ask copying part d) (Ok r ∷ rs) qs within gr gq (is, stamp, numbered) told same settled =
-      let h = goes-so (number + 1) before (Some number) 0 d rs qs (omega arith) gr gq numbered told
-      (subst (λ (x : ℕ). (run came (Some x) 0 d rs qs).asked ≡ granted qs) is same) (subst (λ (x : ℕ). IsSettled (run came (Some x) 0 d rs qs).left) is settled) in
-      ap (books_plain number (stamp_of who turn) part) h
-      ∙ ap (λ (x : ℕ). books_plain x (stamp_of who turn) part (step_of turn (run came (Some x) 0 d rs qs))) (sym is)
-      ∙ ap (λ (x : Stamp). books_plain r.number x part (step_of turn (run came (Some r.number) 0 d rs qs))) (sym stamp)
-  goes-so number before at n (Ask copying part d) (Err e ∷ rs) qs within gr gq numbered told same settled = absurd gr
-  goes-so number before at n (Send part refused d) [] qs within gr gq numbered told same (inl h) = absurd h
-  goes-so number before at n (Send part refused d) [] qs within gr gq numbered told same (inr (r, e)) = absurd cc
-  goes-so number before at n (Send part refused d) (Ok r ∷ rs) qs within gr gq (is, stamp, numbered) told same settled =
-      let h = goes-so (number + 1) before at n d rs qs within gr gq numbered told same settled in
-      ap (sends_plain number (stamp_of who turn) part) h
-      ∙ ap (λ (x : ℕ). sends_plain x (stamp_of who turn) part (step_of turn (run came at n d rs qs))) (sym is)
-      ∙ ap (λ (x : Stamp). sends_plain r.number x part (step_of turn (run came at n d rs qs))) (sym stamp)
-  goes-so number before at n (Send part refused d) (Err e ∷ rs) qs within gr gq numbered told same settled = absurd gr
-  goes-so number before at n (Leave id d) rs qs within gr gq numbered told same settled = goes-so number before at n d rs qs within gr gq numbered told same settled
-  goes-so number before None n (Read cleanup decides next) rs qs within gr gq numbered told same settled =
+  pub goes-so : (number : ℕ) (before : List DeskCall) (at : Option ℕ) (n : ℕ) (d : Dialogue T) (rs : List (Result Request Error)) (qs : List (Result (Asked DeskCall Reply) Error)) (ps : List (Result Addition Error)) → n ≤ length (of_request came at) →
+      AreGranted rs → AreGranted qs → AreGranted ps → AreNumbered who turn number (granted rs) → AreToldIn tells who turn before (granted qs) → (run came at n d rs qs ps).asked ≡ granted qs → IsSettled (run came at n d rs qs ps).left → Goes-so number before at n d rs qs ps
+  goes-so number before at n (Answer r) rs qs ps within gr gq gp numbered told same settled = (0, refl)
+  goes-so number before at n (Ask copying part d) [] qs ps within gr gq gp numbered told same (inl (inl h)) = absurd h
+  goes-so number before at n (Ask copying part d) [] qs ps within gr gq gp numbered told same (inl (inr h)) = absurd h
+  goes-so number before at n (Ask copying part d) [] qs ps within gr gq gp numbered told same (inr (r, e)) = absurd cc
+  goes-so number before at n (Ask copying part d) (Ok r ∷ rs) qs ps within gr gq gp (is, stamp, numbered) told same settled =
+      let h = goes-so (number + 1) before (Some number) 0 d rs qs ps (omega arith) gr gq gp numbered told
+      (subst (λ (x : ℕ). (run came (Some x) 0 d rs qs ps).asked ≡ granted qs) is same) (subst (λ (x : ℕ). IsSettled (run came (Some x) 0 d rs qs ps).left) is settled) in (
+        h.0,
+        ap (books number (stamp_of who turn) part) h.1
+            ∙ ap (λ (x : ℕ). books x (stamp_of who turn) part (step_of turn (run came (Some x) 0 d rs qs ps))) (sym is)
+            ∙ ap (λ (x : Stamp). books r.number x part (step_of turn (run came (Some r.number) 0 d rs qs ps))) (sym stamp),
+      )
+  goes-so number before at n (Ask copying part d) (Err e ∷ rs) qs ps within gr gq gp numbered told same settled = absurd gr
+  goes-so number before at n (Send part refused d) [] qs ps within gr gq gp numbered told same (inl (inl h)) = absurd h
+  goes-so number before at n (Send part refused d) [] qs ps within gr gq gp numbered told same (inl (inr h)) = absurd h
+  goes-so number before at n (Send part refused d) [] qs ps within gr gq gp numbered told same (inr (r, e)) = absurd cc
+  goes-so number before at n (Send part refused d) (Ok r ∷ rs) qs ps within gr gq gp (is, stamp, numbered) told same settled =
+      let h = goes-so (number + 1) before at n d rs qs ps within gr gq gp numbered told same settled in (
+        h.0,
+        ap (sends number (stamp_of who turn) part) h.1
+            ∙ ap (λ (x : ℕ). sends x (stamp_of who turn) part (step_of turn (run came at n d rs qs ps))) (sym is)
+            ∙ ap (λ (x : Stamp). sends r.number x part (step_of turn (run came at n d rs qs ps))) (sym stamp),
+      )
+  goes-so number before at n (Send part refused d) (Err e ∷ rs) qs ps within gr gq gp numbered told same settled = absurd gr
+  goes-so number before at n (Leave id d) rs qs ps within gr gq gp numbered told same settled = goes-so number before at n d rs qs ps within gr gq gp numbered told same settled
+  goes-so number before None n (Read cleanup decides next) rs qs ps within gr gq gp numbered told same settled =
       let none : decided_after decides (drop n []) ≡ None = ap (decided_after decides) (drop-nil n) in
-      ap (λ (o : Option ℕ). plain (said_so number before None n decides next o)) none ∙ ap (λ (o : Option ℕ). step_of turn (chosen None n cleanup decides next rs qs o)) (sym none)
-  goes-so number before (Some k) n (Read cleanup decides next) rs qs within gr gq numbered told same settled =
-      reads-so number before k n cleanup decides next rs qs within (λ ms m le same settled. goes-so number before (Some k) m (next ms) rs qs le gr gq numbered told same settled) same settled
-  goes-so number before at n (Put cleanup part d) rs qs within gr gq numbered told same (inl h) = absurd h
-  goes-so number before at n (Put cleanup part d) rs qs within gr gq numbered told same (inr (r, e)) = absurd cc
-  goes-so number before at n (Finish part d) rs qs within gr gq numbered told same (inl h) = absurd h
-  goes-so number before at n (Finish part d) rs qs within gr gq numbered told same (inr (r, e)) = absurd cc
-  goes-so number before at n (Close part d) rs qs within gr gq numbered told same (inl h) = absurd h
-  goes-so number before at n (Close part d) rs qs within gr gq numbered told same (inr (r, e)) = absurd cc
-  goes-so number before at n (HangUp d) rs qs within gr gq numbered told same settled = goes-so number before at n d rs qs within gr gq numbered told same settled
-  goes-so number before at n (Call q refused next) rs [] within gr gq numbered told same (inl h) = absurd h
-  goes-so number before at n (Call q refused next) rs [] within gr gq numbered told same (inr (r, e)) = absurd cc
-  goes-so number before at n (Call q refused next) rs (Ok a ∷ qs) within gr gq numbered (stamp, reply, told) same settled =
+      (0, ap (λ (o : Option ℕ). said_so number before None n decides next 0 o) none ∙ ap (λ (o : Option ℕ). step_of turn (chosen None n cleanup decides next rs qs ps o)) (sym none))
+  goes-so number before (Some k) n (Read cleanup decides next) rs qs ps within gr gq gp numbered told same settled =
+      reads-so number before k n cleanup decides next rs qs ps within (λ ms m le same settled. goes-so number before (Some k) m (next ms) rs qs ps le gr gq gp numbered told same settled) same settled
+  goes-so number before None n (Put cleanup part d) rs qs ps within gr gq gp numbered told same settled = (0, refl)
+  goes-so number before (Some k) n (Put cleanup part d) rs qs [] within gr gq gp numbered told same settled = (0, refl)
+  goes-so number before (Some k) n (Put cleanup part d) rs qs (Ok a ∷ ps) within gr gq gp numbered told same settled =
+      let h = goes-so number before (Some k) n d rs qs ps within gr gq gp numbered told same settled in (suc h.0, ap (puts part) h.1)
+  goes-so number before (Some k) n (Put cleanup part d) rs qs (Err e ∷ ps) within gr gq gp numbered told same settled = absurd gp
+  goes-so number before None n (Finish part d) rs qs ps within gr gq gp numbered told same (inl (inl h)) = absurd h
+  goes-so number before None n (Finish part d) rs qs ps within gr gq gp numbered told same (inl (inr h)) = absurd h
+  goes-so number before None n (Finish part d) rs qs ps within gr gq gp numbered told same (inr (r, e)) = absurd cc
+  goes-so number before (Some k) n (Finish part d) rs qs [] within gr gq gp numbered told same (inl (inl h)) = absurd h
+  goes-so number before (Some k) n (Finish part d) rs qs [] within gr gq gp numbered told same (inl (inr h)) = absurd h
+  goes-so number before (Some k) n (Finish part d) rs qs [] within gr gq gp numbered told same (inr (r, e)) = absurd cc
+  goes-so number before (Some k) n (Finish part d) rs qs (Ok a ∷ ps) within gr gq gp numbered told same settled =
+      let h = goes-so number before (Some k) n d rs qs ps within gr gq gp numbered told same settled in (h.0, ap (puts part) h.1)
+  goes-so number before (Some k) n (Finish part d) rs qs (Err e ∷ ps) within gr gq gp numbered told same settled = absurd gp
+  goes-so number before None n (Close part d) rs qs ps within gr gq gp numbered told same (inl (inl h)) = absurd h
+  goes-so number before None n (Close part d) rs qs ps within gr gq gp numbered told same (inl (inr h)) = absurd h
+  goes-so number before None n (Close part d) rs qs ps within gr gq gp numbered told same (inr (r, e)) = absurd cc
+  goes-so number before (Some k) n (Close part d) rs qs [] within gr gq gp numbered told same (inl (inl h)) = absurd h
+  goes-so number before (Some k) n (Close part d) rs qs [] within gr gq gp numbered told same (inl (inr h)) = absurd h
+  goes-so number before (Some k) n (Close part d) rs qs [] within gr gq gp numbered told same (inr (r, e)) = absurd cc
+  goes-so number before (Some k) n (Close part d) rs qs (Ok a ∷ ps) within gr gq gp numbered told same settled =
+      let h = goes-so number before (Some k) n d rs qs ps within gr gq gp numbered told same settled in (h.0, ap (puts part) h.1)
+  goes-so number before (Some k) n (Close part d) rs qs (Err e ∷ ps) within gr gq gp numbered told same settled = absurd gp
+  goes-so number before at n (HangUp d) rs qs ps within gr gq gp numbered told same settled = goes-so number before at n d rs qs ps within gr gq gp numbered told same settled
+  goes-so number before at n (Call q refused next) rs [] ps within gr gq gp numbered told same (inl (inl h)) = absurd h
+  goes-so number before at n (Call q refused next) rs [] ps within gr gq gp numbered told same (inl (inr h)) = absurd h
+  goes-so number before at n (Call q refused next) rs [] ps within gr gq gp numbered told same (inr (r, e)) = absurd cc
+  goes-so number before at n (Call q refused next) rs (Ok a ∷ qs) ps within gr gq gp numbered (stamp, reply, told) same settled =
       let one : of_question a q ≡ a = cc in
-      let rest : (run came at n (next a.reply) rs qs).asked ≡ granted qs = cc in
+      let rest : (run came at n (next a.reply) rs qs ps).asked ≡ granted qs = cc in
       let is : a.question ≡ q = ap (λ (x : Asked DeskCall Reply). x.question) (sym one) in
       let reply_is : a.reply ≡ tells before q = reply ∙ ap (tells before) is in
-      let h = goes-so number (before ++ a.question ∷ []) at n (next a.reply) rs qs within gr gq numbered told rest settled in
-      ap (λ (x : Reply). asks_plain (record { stamp = stamp_of who turn; question = q; reply = x }) (plain (goes tells course who number (before ++ q ∷ []) (Here turn at n) (asked (next x)) room))) (sym reply_is)
-      ∙ ap (λ (x : DeskCall). asks_plain (record { stamp = stamp_of who turn; question = q; reply = a.reply }) (plain (goes tells course who number (before ++ x ∷ []) (Here turn at n) (asked (next a.reply)) room))) (sym is)
-      ∙ ap (asks_plain (record { stamp = stamp_of who turn; question = q; reply = a.reply })) h
-      ∙ ap (λ (x : Stamp). asks_plain (record { stamp = x; question = q; reply = a.reply }) (step_of turn (run came at n (next a.reply) rs qs))) (sym stamp)
-  goes-so number before at n (Call q refused next) rs (Err e ∷ qs) within gr gq numbered told same settled = absurd gq
-  goes-so number before at n (Hear next) rs qs within gr gq numbered told same (inl h) = absurd h
-  goes-so number before at n (Hear next) rs qs within gr gq numbered told same (inr (r, e)) = absurd cc
+      let h = goes-so number (before ++ a.question ∷ []) at n (next a.reply) rs qs ps within gr gq gp numbered told rest settled in (
+        h.0,
+        ap (λ (x : Reply). asks (record { stamp = stamp_of who turn; question = q; reply = x }) (goes tells course who number (before ++ q ∷ []) (Here turn at n) (asked (next x)) h.0)) (sym reply_is)
+            ∙ ap (λ (x : DeskCall). asks (record { stamp = stamp_of who turn; question = q; reply = a.reply }) (goes tells course who number (before ++ x ∷ []) (Here turn at n) (asked (next a.reply)) h.0)) (sym is)
+            ∙ ap (asks (record { stamp = stamp_of who turn; question = q; reply = a.reply })) h.1
+            ∙ ap (λ (x : Stamp). asks (record { stamp = x; question = q; reply = a.reply }) (step_of turn (run came at n (next a.reply) rs qs ps))) (sym stamp),
+      )
+  goes-so number before at n (Call q refused next) rs (Err e ∷ qs) ps within gr gq gp numbered told same settled = absurd gq
+  goes-so number before at n (Hear next) rs qs ps within gr gq gp numbered told same (inl (inl h)) = absurd h
+  goes-so number before at n (Hear next) rs qs ps within gr gq gp numbered told same (inl (inr h)) = absurd h
+  goes-so number before at n (Hear next) rs qs ps within gr gq gp numbered told same (inr (r, e)) = absurd cc

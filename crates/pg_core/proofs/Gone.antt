@@ -1,5 +1,5 @@
 -- A command that hangs up last never asks for a request that is gone.
-use Rattle.std.proofs.Common.{◌≡◌, ◌≢◌, inl, inr, ℕ, suc, ◌+◌, ◌<◌, ◌==◌, ◌||◌, ◌&&◌, not, ◌≤◌, nat_lt, List, [], ◌∷◌, ◌++◌, length, Bool, true, false, if◌then◌else◌, Some, option_map, Result, Ok, Err, refl, sym, ap, subst, ◌∙◌, arith}
+use Rattle.std.proofs.Common.{◌≡◌, ◌≢◌, ◌⊎◌, inl, inr, ℕ, suc, ◌+◌, ◌<◌, ◌==◌, ◌||◌, ◌&&◌, not, ◌≤◌, nat_lt, List, [], ◌∷◌, ◌++◌, length, Bool, true, false, if◌then◌else◌, Some, option_map, Result, Ok, Err, refl, sym, ap, subst, ◌∙◌, arith}
 use Rattle.std.proofs.lemmas.Bool.Decides.{nat_tests}
 use Rattle.std.proofs.lemmas.List.{length-append}
 use Rattle.pg_spec.specs.RawMessages.{RawMessage}
@@ -11,7 +11,7 @@ use Rattle.pg_desk.specs.declared.event.Out.TheVariants as out
 use Rattle.pg_desk.specs.declared.event.Deliver.TheVariants as delivering
 use Rattle.pg_desk.specs.declared.event.Event.{Event}
 use Rattle.pg_desk.specs.declared.event.Event.TheVariants.{Book, Put as PutEvent, EndCopy, Take as TakeEvent, HangUp, NextStatement, NextPortal, Catalog as CatalogEvent, NextOut, Deliver as DeliverEvent, CloseRequests, Fail}
-use Rattle.pg_desk.specs.History.{State, Change, Booked, Added, Ended, LetGo, change_of, changed, start, has_ended, is_in, is_hung_up, may_let_go, waiting, after, after_all, take_answer, take_of_waiting, Allows, IsLegal}
+use Rattle.pg_desk.specs.History.{State, Change, Booked, Added, Ended, LetGo, change_of, changed, start, extended, has_ended, is_in, is_hung_up, may_let_go, is_copying, is_running, waiting, after, after_all, take_answer, take_of_waiting, Allows, IsLegal}
 use Rattle.pg_desk.specs.Asking.{IsAsking}
 use Rattle.pg_desk.proofs.Parts.{extended-length}
 use Rattle.pg_faults.specs.declared.error.Error.{Error}
@@ -24,18 +24,20 @@ use Rattle.pg_query.specs.declared.desk_call.Reply.{Reply}
 use Rattle.pg_query.proofs.LeavingLaws.{told-fits}
 use Rattle.pg_query.proofs.Questions.{told-asks}
 use Rattle.pg_course.specs.Dialogues.{decided_after}
-use Rattle.pg_core.specs.Lists.{events_of, AddNoParts, IsReached}
+use Rattle.pg_core.specs.Lists.{events_of, IsReached}
 use Rattle.pg_core.specs.Runs.{ReadsNothing}
-use Rattle.pg_core.proofs.NoParts.{no-part}
-use Rattle.pg_core.specs.Times.{ReadsNo, IsSane, IsThere, Fits, IsNoHangUp, HangsUpNone}
+use Rattle.pg_core.proofs.Flags.{AreFlagged, flagged, flagged-one, copying-new, copying-more, copying-other}
+use Rattle.pg_core.specs.Times.{ReadsNo, IsOpen, IsSane, IsThere, IsKept, IsKeptBeside, Fits, IsNoHangUp, HangsUpNone}
 
 -- only requests that are booked are hung up
 abbrev pub NoneHungAhead : State → Type 0
 NoneHungAhead s = (k : ℕ) → length s.book ≤ k → is_hung_up s k ≡ false
 
--- no event tells that a request is gone
+-- no event tells that a request, or a copy, is gone
 abbrev pub IsNotGone : Event → Type 0
 IsNotGone (TakeEvent id (Ok taking.Gone)) = ⊥
+IsNotGone (PutEvent id part (putting.Gone back)) = ⊥
+IsNotGone (EndCopy id part (putting.Gone back)) = ⊥
 IsNotGone _ = Unit {0}
 
 -- none of them does
@@ -65,9 +67,9 @@ reads-no-one m (code.Ask c p d) h = tt
 reads-no-one m (code.Send p refused d) h = (λ e. reads-no-one m (refused e) (h.0 e), reads-no-one m d h.1)
 reads-no-one m (code.Leave k d) h = reads-no-one m d h
 reads-no-one m (code.Read cleanup decides next) h = absurd h
-reads-no-one m (code.Put cleanup p d) h = absurd h
-reads-no-one m (code.Finish p d) h = absurd h
-reads-no-one m (code.Close p d) h = absurd h
+reads-no-one m (code.Put cleanup p d) h = reads-no-one m d h
+reads-no-one m (code.Finish p d) h = reads-no-one m d h
+reads-no-one m (code.Close p d) h = reads-no-one m d h
 reads-no-one m (code.HangUp d) h = h
 reads-no-one m (code.Call q refused next) h = (λ e. reads-no-one m (refused e) (h.0 e), λ r fit. reads-no-one m (next r) (h.1 r fit))
 reads-no-one m (code.Hear next) h = tt
@@ -79,54 +81,78 @@ behind-one decides m ms e decided =
     ap (λ (b : Bool). if b then Some 1 else option_map (λ n. n + 1) (decided_after (λ l. decides (m ∷ l)) ms)) e
     ∙ ap (option_map (λ n. n + 1)) decided ∙ ap (λ (n : ℕ). Some n) more
 
-sane-one : {T : Type 0} (m : RawMessage) (d : Dialogue T) → IsSane d → IsSane (feed_one m d)
-sane-one m (code.Answer r) h = tt
-sane-one m (code.Ask c p d) h = h
-sane-one m (code.Send p refused d) h = (λ e. sane-one m (refused e) (h.0 e), sane-one m d h.1)
-sane-one m (code.Leave k d) h = absurd h
-sane-one {T} m (code.Read cleanup decides next) h = by (decides (m ∷ [])) refl
+sane-one : {T : Type 0} (m : RawMessage) (opened : Bool) (d : Dialogue T) → IsSane opened d → IsSane opened (feed_one m d)
+sane-one m opened (code.Answer r) h = h
+sane-one m opened (code.Ask c p d) h = h
+sane-one m opened (code.Send p refused d) h = (λ e. sane-one m opened (refused e) (h.0 e), sane-one m opened d h.1)
+sane-one m opened (code.Leave k d) h = absurd h
+sane-one {T} m opened (code.Read cleanup decides next) h = by (decides (m ∷ [])) refl
   where
-    by : (b : Bool) → decides (m ∷ []) ≡ b → IsSane (if b then next (m ∷ []) else code.Read cleanup (λ ms. decides (m ∷ ms)) (λ ms. next (m ∷ ms)))
+    by : (b : Bool) → decides (m ∷ []) ≡ b → IsSane opened (if b then next (m ∷ []) else code.Read cleanup (λ ms. decides (m ∷ ms)) (λ ms. next (m ∷ ms)))
     by true e = h (m ∷ []) (ap (λ (b : Bool). if b then Some 1 else option_map (λ n. n + 1) (decided_after (λ l. decides (m ∷ l)) [])) e)
     by false e = λ ms decided. h (m ∷ ms) (behind-one decides m ms e decided)
-sane-one m (code.Put cleanup p d) h = absurd h
-sane-one m (code.Finish p d) h = absurd h
-sane-one m (code.Close p d) h = absurd h
-sane-one m (code.HangUp d) h = h
-sane-one m (code.Call q refused next) h = (λ e. sane-one m (refused e) (h.0 e), λ r fit. sane-one m (next r) (h.1 r fit))
-sane-one m (code.Hear next) h = tt
+sane-one m opened (code.Put cleanup p d) h = (h.0, sane-one m true d h.1)
+sane-one m opened (code.Finish p d) h = (h.0, sane-one m false d h.1)
+sane-one m opened (code.Close p d) h = (h.0, sane-one m false d h.1)
+sane-one m opened (code.HangUp d) h = h
+sane-one m opened (code.Call q refused next) h = (λ e. sane-one m opened (refused e) (h.0 e), λ r fit. sane-one m opened (next r) (h.1 r fit))
+sane-one m opened (code.Hear next) h = tt
 
-pub sane-fed : {T : Type 0} (ms : List RawMessage) (d : Dialogue T) → IsSane d → IsSane (feed ms d)
-sane-fed [] d h = h
-sane-fed (m ∷ ms) d h = sane-fed ms (feed_one m d) (sane-one m d h)
+pub sane-fed : {T : Type 0} (ms : List RawMessage) (opened : Bool) (d : Dialogue T) → IsSane opened d → IsSane opened (feed ms d)
+sane-fed [] opened d h = h
+sane-fed (m ∷ ms) opened d h = sane-fed ms opened (feed_one m d) (sane-one m opened d h)
 
 -- ---- where it stands
 
-pub fits-there : {T : Type 0} (s : State) (d : Dialogue T) (id : ℕ) → IsSane d → IsThere s id → Fits s d id
-fits-there s (code.Answer r) id sane there = tt
-fits-there s (code.Ask c p d) id sane there = sane
-fits-there s (code.Send p refused d) id sane there = (sane, inr there)
-fits-there s (code.Leave k d) id sane there = absurd sane
-fits-there s (code.Read cleanup decides next) id sane there = (sane, there)
-fits-there s (code.Put cleanup p d) id sane there = absurd sane
-fits-there s (code.Finish p d) id sane there = absurd sane
-fits-there s (code.Close p d) id sane there = absurd sane
-fits-there s (code.HangUp d) id sane there = sane
-fits-there s (code.Call q refused next) id sane there = (sane, inr there)
-fits-there s (code.Hear next) id sane there = tt
+-- what an open copy owes is owed where it is known to be open
+kept-open : {T : Type 0} (s : State) (id : ℕ) (opened : Bool) (x : Dialogue T) → IsOpen opened → IsKept s id opened x → IsThere s id × (is_copying id s.copying ≡ true)
+kept-open s id true x e h = h
+kept-open s id false x e h = absurd e
 
-pub fits-none : {T : Type 0} (s : State) (d : Dialogue T) (id : ℕ) → IsSane d → ReadsNo d → Fits s d id
-fits-none s (code.Answer r) id sane none = tt
-fits-none s (code.Ask c p d) id sane none = sane
-fits-none s (code.Send p refused d) id sane none = (sane, inl none)
-fits-none s (code.Leave k d) id sane none = absurd sane
-fits-none s (code.Read cleanup decides next) id sane none = absurd none
-fits-none s (code.Put cleanup p d) id sane none = absurd sane
-fits-none s (code.Finish p d) id sane none = absurd sane
-fits-none s (code.Close p d) id sane none = absurd sane
-fits-none s (code.HangUp d) id sane none = sane
-fits-none s (code.Call q refused next) id sane none = (sane, inl none)
-fits-none s (code.Hear next) id sane none = tt
+pub fits-so : {T : Type 0} (s : State) (opened : Bool) (d : Dialogue T) (id : ℕ) → IsSane opened d → IsKept s id opened d → Fits s d id
+fits-so s opened (code.Answer r) id sane kept = tt
+fits-so s opened (code.Ask c p d) id sane kept = sane.1
+fits-so s opened (code.Send p refused d) id sane kept = (opened, sane, kept)
+fits-so s opened (code.Leave k d) id sane kept = absurd sane
+fits-so s opened (code.Read cleanup decides next) id sane kept = (opened, sane, kept)
+fits-so s opened (code.Put cleanup p d) id sane kept = (sane.1, kept-open s id opened (code.Put cleanup p d) sane.0 kept)
+fits-so s opened (code.Finish p d) id sane kept = (sane.1, kept-open s id opened (code.Finish p d) sane.0 kept)
+fits-so s opened (code.Close p d) id sane kept = (sane.1, kept-open s id opened (code.Close p d) sane.0 kept)
+fits-so s opened (code.HangUp d) id sane kept = (sane.1, sane.2)
+fits-so s opened (code.Call q refused next) id sane kept = (opened, sane, kept)
+fits-so s opened (code.Hear next) id sane kept = tt
+
+pub fits-there : {T : Type 0} (s : State) (d : Dialogue T) (id : ℕ) → IsSane false d → IsThere s id → Fits s d id
+fits-there s d id sane there = fits-so s false d id sane (inr there)
+
+pub fits-none : {T : Type 0} (s : State) (d : Dialogue T) (id : ℕ) → IsSane false d → ReadsNo d → Fits s d id
+fits-none s d id sane none = fits-so s false d id sane (inl none)
+
+-- where it is there and open still, it is kept
+kept-move : {T : Type 0} (s t : State) (id : ℕ) (opened : Bool) (x y : Dialogue T) → (IsThere s id → IsThere t id) → (is_copying id s.copying ≡ true → is_copying id t.copying ≡ true) → (ReadsNo x → ReadsNo y) →
+    IsKept s id opened x → IsKept t id opened y
+kept-move s t id true x y there copying reads (h, c) = (there h, copying c)
+kept-move s t id false x y there copying reads (inl h) = inl (reads h)
+kept-move s t id false x y there copying reads (inr h) = inr (there h)
+
+kept-beside : {T : Type 0} (s t : State) (id sent : ℕ) (opened : Bool) (x y : Dialogue T) → (IsThere s id → IsThere t id) → (is_copying id s.copying ≡ true → is_copying id t.copying ≡ true) → (ReadsNo x → ReadsNo y) →
+    (IsThere s id → sent ≢ id) → IsKept s id opened x → IsKeptBeside t id sent opened y
+kept-beside s t id sent true x y there copying reads apart (h, c) = (there h, copying c, apart h)
+kept-beside s t id sent false x y there copying reads apart (inl h) = inl (reads h)
+kept-beside s t id sent false x y there copying reads apart (inr h) = inr (there h, apart h)
+
+-- where another was hung up
+kept-left : {T : Type 0} (s t : State) (id sent : ℕ) (opened : Bool) (x : Dialogue T) → (sent ≢ id → IsThere s id → IsThere t id) → (is_copying id s.copying ≡ true → is_copying id t.copying ≡ true) →
+    IsKeptBeside s id sent opened x → IsKept t id opened x
+kept-left s t id sent true x there copying (h, c, apart) = (there apart h, copying c)
+kept-left s t id sent false x there copying (inl h) = inl h
+kept-left s t id sent false x there copying (inr (h, apart)) = inr (there apart h)
+
+-- a request that is read is there
+kept-there : {T : Type 0} (s : State) (id : ℕ) (opened : Bool) (x : Dialogue T) → (ReadsNo x → ⊥) → IsKept s id opened x → IsThere s id
+kept-there s id true x reads (h, c) = h
+kept-there s id false x reads (inl h) = absurd (reads h)
+kept-there s id false x reads (inr h) = h
 
 -- ---- requests that were hung up
 
@@ -175,6 +201,24 @@ there-new s stamp part copying new is none = record {
   kept_up = none new (omega (arith, is));
 }
 
+kept-new : {T : Type 0} (s : State) (stamp : Stamp) (part : List ℕ) (copying opened : Bool) (new : ℕ) (d : Dialogue T) → copying ≡ opened → new ≡ length s.book → NoneHungAhead s → AreFlagged s → IsKept (after s (Book stamp part copying (Ok new))) new opened d
+kept-new s stamp part copying true new d same is none flags = (there-new s stamp part copying new is none, copying-new new s.copying copying (is ∙ sym flags) ∙ same)
+kept-new s stamp part copying false new d same is none flags = inr (there-new s stamp part copying new is none)
+
+-- a part more
+there-extended : (s t : State) (which id : ℕ) (part : List ℕ) → t.book ≡ extended which part s.book → t.hung_up ≡ s.hung_up → IsThere s id → IsThere t id
+there-extended s t which id part book hung h = record {
+  booked = (let lt = h.booked in let e = ap length book ∙ extended-length which part s.book in omega (arith, lt, e));
+  kept_up = ap (is_in id) hung ∙ h.kept_up;
+}
+
+-- a copy that is there and open takes parts
+runs : (s : State) (id which : ℕ) → which ≡ id → s.failed ≡ false → IsThere s id → is_copying id s.copying ≡ true → (s.failed ≡ true) ⊎ (is_running s which ≡ false) → ⊥
+runs s id which same whole there copying (inl failed) = let e : true ≡ false = sym failed ∙ whole in absurd cc
+runs s id which same whole there copying (inr off) =
+    let on : is_running s id ≡ true = ap (λ (b : Bool). b && not (is_hung_up s id)) copying ∙ ap (λ (b : Bool). true && not b) there.kept_up in
+    let e : true ≡ false = sym on ∙ ap (is_running s) (sym same) ∙ off in absurd cc
+
 there-hung : (s : State) (which id : ℕ) → which ≢ id → IsThere s id → IsThere (after s (HangUp which (Ok tt))) id
 there-hung s which id apart h = record { booked = h.booked; kept_up = in-other-if (may_let_go s which) id which s.hung_up (λ e same. apart (sym same)) ∙ h.kept_up }
 
@@ -213,82 +257,103 @@ kept-as {T} s e d d' id id' is same fits whole not = record {
 
 -- a question changes nothing of requests
 data Asks (s : State) (e : Event) : Type 0 where
-  Quiet : ((id : ℕ) → IsThere s id → IsThere (after s e) id) → (after s e).failed ≡ s.failed → IsNotGone e → Asks s e
+  Quiet : ((id : ℕ) → IsThere s id → IsThere (after s e) id) → (after s e).copying ≡ s.copying → (after s e).failed ≡ s.failed → IsNotGone e → Asks s e
 
 asks : (s : State) (e : Event) → IsAsking e → Asks s e
-asks s (NextStatement (Ok n)) h = Quiet (λ id there. record { booked = there.booked; kept_up = there.kept_up }) refl tt
-asks s (NextStatement (Err f)) h = Quiet (λ id there. there) refl tt
-asks s (NextPortal (Ok n)) h = Quiet (λ id there. record { booked = there.booked; kept_up = there.kept_up }) refl tt
-asks s (NextPortal (Err f)) h = Quiet (λ id there. there) refl tt
-asks s (CatalogEvent call) h = Quiet (λ id there. record { booked = there.booked; kept_up = there.kept_up }) refl tt
+asks s (NextStatement (Ok n)) h = Quiet (λ id there. record { booked = there.booked; kept_up = there.kept_up }) refl refl tt
+asks s (NextStatement (Err f)) h = Quiet (λ id there. there) refl refl tt
+asks s (NextPortal (Ok n)) h = Quiet (λ id there. record { booked = there.booked; kept_up = there.kept_up }) refl refl tt
+asks s (NextPortal (Err f)) h = Quiet (λ id there. there) refl refl tt
+asks s (CatalogEvent call) h = Quiet (λ id there. record { booked = there.booked; kept_up = there.kept_up }) refl refl tt
 asks s e h = absurd h
 
 call-kept : {T : Type 0} (s : State) (q : DeskCall) (refused : Error → Dialogue T) (next : Reply → Dialogue T) (id : ℕ) (e : Event) (r : Result Reply DeskFault) (d' : Dialogue T) (id' : ℕ) → Told q e r → Fits s (code.Call q refused next) id → s.failed ≡ false → Asks s e →
     d' ≡ after_reply r refused next → id' ≡ id → Kept s e d' id'
-call-kept s q refused next id e (Ok r) d' id' told (sane, inl none) whole (Quiet there failed not) is same = kept-as s e (next r) d' id id' is same (fits-none (after s e) (next r) id (sane.1 r (told-fits q e r told)) (none.1 r (told-fits q e r told))) (failed ∙ whole) not
-call-kept s q refused next id e (Ok r) d' id' told (sane, inr here) whole (Quiet there failed not) is same = kept-as s e (next r) d' id id' is same (fits-there (after s e) (next r) id (sane.1 r (told-fits q e r told)) (there id here)) (failed ∙ whole) not
-call-kept s q refused next id e (Err f) d' id' told (sane, inl none) whole (Quiet there failed not) is same =
-    kept-as s e (refused (of_fault f)) d' id id' is same (fits-none (after s e) (refused (of_fault f)) id (sane.0 (of_fault f)) (none.0 (of_fault f))) (failed ∙ whole) not
-call-kept s q refused next id e (Err f) d' id' told (sane, inr here) whole (Quiet there failed not) is same =
-    kept-as s e (refused (of_fault f)) d' id id' is same (fits-there (after s e) (refused (of_fault f)) id (sane.0 (of_fault f)) (there id here)) (failed ∙ whole) not
+call-kept s q refused next id e (Ok r) d' id' told (opened, sane, keeps) whole (Quiet there flags failed not) is same =
+    let fit = told-fits q e r told in
+    kept-as s e (next r) d' id id' is same
+    (fits-so (after s e) opened (next r) id (sane.1 r fit) (kept-move s (after s e) id opened (code.Call q refused next) (next r) (there id) (λ c. ap (is_copying id) flags ∙ c) (λ h. h.1 r fit) keeps)) (failed ∙ whole) not
+call-kept s q refused next id e (Err f) d' id' told (opened, sane, keeps) whole (Quiet there flags failed not) is same =
+    kept-as s e (refused (of_fault f)) d' id id' is same
+    (fits-so (after s e) opened (refused (of_fault f)) id (sane.0 (of_fault f)) (kept-move s (after s e) id opened (code.Call q refused next) (refused (of_fault f)) (there id) (λ c. ap (is_copying id) flags ∙ c) (λ h. h.0 (of_fault f)) keeps)) (failed ∙ whole) not
 
-kept : {T : Type 0} (s : State) (stamp : Stamp) (d : Dialogue T) (id : ℕ) (e : Event) (d' : Dialogue T) (id' : ℕ) → Fits s d id → NoneHungAhead s → s.failed ≡ false → Allows s e → Steps stamp d id e d' id' → Kept s e d' id'
-kept s stamp (code.Answer r) id e d' id' fits hung whole a st = absurd st
-kept s stamp (code.Ask c p d) id (Book given part copying (Ok new)) d' id' fits hung whole a st =
-    kept-as s (Book given part copying (Ok new)) d d' new id' st.3 st.4 (fits-there _ d new fits (there-new s given part copying new a.1 hung)) whole tt
-kept s stamp (code.Ask c p d) id (Book given part copying (Err f)) d' id' fits hung whole a st = kept-as s (Book given part copying (Err f)) (Answer _) d' id id' st.3 st.4 tt whole tt
-kept s stamp (code.Ask c p d) id e d' id' fits hung whole a st = absurd st
-kept s stamp (code.Send p refused d) id (Book given part copying (Ok new)) d' id' (sane, inl none) hung whole a st =
-    kept-as s (Book given part copying (Ok new)) (code.Leave new d) d' id id' st.3 st.4 (sane.1, inl none.1) whole tt
-kept s stamp (code.Send p refused d) id (Book given part copying (Ok new)) d' id' (sane, inr there) hung whole a st =
-    kept-as s (Book given part copying (Ok new)) (code.Leave new d) d' id id' st.3 st.4
-    (sane.1, inr (there-booked s given part copying new id there, λ same. (let is : new ≡ id = same in let number : new ≡ length s.book = a.1 in let lt = there.booked in omega (arith, is, number, lt)))) whole tt
-kept s stamp (code.Send p refused d) id (Book given part copying (Err f)) d' id' (sane, inl none) hung whole a st =
-    kept-as s (Book given part copying (Err f)) (refused (of_fault f)) d' id id' st.3 st.4 (fits-none _ (refused (of_fault f)) id (sane.0 (of_fault f)) (none.0 (of_fault f))) whole tt
-kept s stamp (code.Send p refused d) id (Book given part copying (Err f)) d' id' (sane, inr there) hung whole a st =
-    kept-as s (Book given part copying (Err f)) (refused (of_fault f)) d' id id' st.3 st.4 (fits-there _ (refused (of_fault f)) id (sane.0 (of_fault f)) there) whole tt
-kept s stamp (code.Send p refused d) id e d' id' fits hung whole a st = absurd st
-kept s stamp (code.Leave sent d) id (HangUp which (Ok x)) d' id' (sane, inl none) hung whole a st = kept-as s (HangUp which (Ok x)) d d' id id' st.1 st.2 (fits-none _ d id sane none) whole tt
-kept s stamp (code.Leave sent d) id (HangUp which (Ok x)) d' id' (sane, inr (there, apart)) hung whole a st =
-    kept-as s (HangUp which (Ok x)) d d' id id' st.1 st.2 (fits-there _ d id sane (there-hung s which id (λ same. apart (sym st.0 ∙ same)) there)) whole tt
-kept s stamp (code.Leave sent d) id (HangUp which (Err f)) d' id' fits hung whole a st = kept-as s (HangUp which (Err f)) (Answer _) d' id id' st.1 st.2 tt whole tt
-kept s stamp (code.Leave sent d) id e d' id' fits hung whole a st = absurd st
-kept s stamp (code.Read cleanup decides next) id (TakeEvent which (Ok (taking.Batch ms))) d' id' (sane, there) hung whole a st =
+kept : {T : Type 0} (s : State) (stamp : Stamp) (d : Dialogue T) (id : ℕ) (e : Event) (d' : Dialogue T) (id' : ℕ) → Fits s d id → NoneHungAhead s → AreFlagged s → s.failed ≡ false → Allows s e → Steps stamp d id e d' id' → Kept s e d' id'
+kept s stamp (code.Answer r) id e d' id' fits hung flags whole a st = absurd st
+kept s stamp (code.Ask c p d) id (Book given part copying (Ok new)) d' id' fits hung flags whole a st =
+    kept-as s (Book given part copying (Ok new)) d d' new id' st.3 st.4 (fits-so _ c d new fits (kept-new s given part copying c new d st.2 a.1 hung flags)) whole tt
+kept s stamp (code.Ask c p d) id (Book given part copying (Err f)) d' id' fits hung flags whole a st = kept-as s (Book given part copying (Err f)) (Answer _) d' id id' st.3 st.4 tt whole tt
+kept s stamp (code.Ask c p d) id e d' id' fits hung flags whole a st = absurd st
+kept s stamp (code.Send p refused d) id (Book given part copying (Ok new)) d' id' (opened, sane, keeps) hung flags whole a st =
+    kept-as s (Book given part copying (Ok new)) (code.Leave new d) d' id id' st.3 st.4 (
+      opened,
+      sane.1,
+      kept-beside s (after s (Book given part copying (Ok new))) id new opened (code.Send p refused d) d (there-booked s given part copying new id) (copying-more id s.copying copying) (λ h. h.1)
+          (λ there same. (let is : new ≡ id = same in let number : new ≡ length s.book = a.1 in let lt = there.booked in omega (arith, is, number, lt))) keeps,
+    ) whole tt
+kept s stamp (code.Send p refused d) id (Book given part copying (Err f)) d' id' (opened, sane, keeps) hung flags whole a st =
+    kept-as s (Book given part copying (Err f)) (refused (of_fault f)) d' id id' st.3 st.4
+    (fits-so _ opened (refused (of_fault f)) id (sane.0 (of_fault f)) (kept-move s s id opened (code.Send p refused d) (refused (of_fault f)) (λ h. h) (λ c. c) (λ h. h.0 (of_fault f)) keeps)) whole tt
+kept s stamp (code.Send p refused d) id e d' id' fits hung flags whole a st = absurd st
+kept s stamp (code.Leave sent d) id (HangUp which (Ok x)) d' id' (opened, sane, keeps) hung flags whole a st =
+    kept-as s (HangUp which (Ok x)) d d' id id' st.1 st.2
+    (fits-so _ opened d id sane (kept-left s (after s (HangUp which (Ok x))) id sent opened d (λ apart there. there-hung s which id (λ same. apart (sym st.0 ∙ same)) there) (λ c. c) keeps)) whole tt
+kept s stamp (code.Leave sent d) id (HangUp which (Err f)) d' id' fits hung flags whole a st = kept-as s (HangUp which (Err f)) (Answer _) d' id id' st.1 st.2 tt whole tt
+kept s stamp (code.Leave sent d) id e d' id' fits hung flags whole a st = absurd st
+kept s stamp (code.Read cleanup decides next) id (TakeEvent which (Ok (taking.Batch ms))) d' id' (opened, sane, keeps) hung flags whole a st =
     kept-as s (TakeEvent which (Ok (taking.Batch ms))) (feed ms (code.Read cleanup decides next)) d' id id' st.1 st.2
-    (fits-there _ (feed ms (code.Read cleanup decides next)) id (sane-fed ms (code.Read cleanup decides next) sane) (record { booked = there.booked; kept_up = there.kept_up })) whole tt
-kept s stamp (code.Read cleanup decides next) id (TakeEvent which (Ok taking.Empty)) d' id' fits hung whole a st = kept-as s (TakeEvent which (Ok taking.Empty)) (code.Read cleanup decides next) d' id id' st.1 st.2 fits whole tt
-kept s stamp (code.Read cleanup decides next) id (TakeEvent which (Ok taking.Over)) d' id' fits hung whole a st = kept-as s (TakeEvent which (Ok taking.Over)) (Answer _) d' id id' st.1 st.2 tt whole tt
-kept s stamp (code.Read cleanup decides next) id (TakeEvent which (Ok taking.Gone)) d' id' (sane, there) hung whole a st = absurd (never-gone s id (a ∙ ap (take_answer s) st.0) there whole)
-kept s stamp (code.Read cleanup decides next) id (TakeEvent which (Err f)) d' id' fits hung whole a st = kept-as s (TakeEvent which (Err f)) (Answer _) d' id id' st.1 st.2 tt whole tt
-kept s stamp (code.Read cleanup decides next) id e d' id' fits hung whole a st = absurd st
-kept s stamp (code.Put cleanup p d) id e d' id' fits hung whole a st = absurd fits
-kept s stamp (code.Finish p d) id e d' id' fits hung whole a st = absurd fits
-kept s stamp (code.Close p d) id e d' id' fits hung whole a st = absurd fits
-kept s stamp (code.HangUp d) id (HangUp which (Ok x)) d' id' (none, sane) hung whole a st = kept-as s (HangUp which (Ok x)) d d' id id' st.1 st.2 (fits-none _ d id sane none) whole tt
-kept s stamp (code.HangUp d) id (HangUp which (Err f)) d' id' fits hung whole a st = kept-as s (HangUp which (Err f)) (Answer _) d' id id' st.1 st.2 tt whole tt
-kept s stamp (code.HangUp d) id e d' id' fits hung whole a st = absurd st
-kept s stamp (code.Call q refused next) id e d' id' fits hung whole a (r, told, is, same) = call-kept s q refused next id e r d' id' told fits whole (asks s e (told-asks q e r told)) is same
-kept s stamp (code.Hear next) id e d' id' fits hung whole a st = absurd st
+    (fits-so _ opened (feed ms (code.Read cleanup decides next)) id (sane-fed ms opened (code.Read cleanup decides next) sane)
+    (kept-move s (after s (TakeEvent which (Ok (taking.Batch ms)))) id opened (code.Read cleanup decides next) (feed ms (code.Read cleanup decides next)) (λ there. record { booked = there.booked; kept_up = there.kept_up }) (λ c. c) (λ h. absurd h) keeps)) whole tt
+kept s stamp (code.Read cleanup decides next) id (TakeEvent which (Ok taking.Empty)) d' id' fits hung flags whole a st = kept-as s (TakeEvent which (Ok taking.Empty)) (code.Read cleanup decides next) d' id id' st.1 st.2 fits whole tt
+kept s stamp (code.Read cleanup decides next) id (TakeEvent which (Ok taking.Over)) d' id' fits hung flags whole a st = kept-as s (TakeEvent which (Ok taking.Over)) (Answer _) d' id id' st.1 st.2 tt whole tt
+kept s stamp (code.Read cleanup decides next) id (TakeEvent which (Ok taking.Gone)) d' id' (opened, sane, keeps) hung flags whole a st =
+    absurd (never-gone s id (a ∙ ap (take_answer s) st.0) (kept-there s id opened (code.Read cleanup decides next) (λ h. h) keeps) whole)
+kept s stamp (code.Read cleanup decides next) id (TakeEvent which (Err f)) d' id' fits hung flags whole a st = kept-as s (TakeEvent which (Err f)) (Answer _) d' id id' st.1 st.2 tt whole tt
+kept s stamp (code.Read cleanup decides next) id e d' id' fits hung flags whole a st = absurd st
+kept s stamp (code.Put cleanup p d) id (PutEvent which part putting.Took) d' id' (sane, keeps) hung flags whole a st =
+    kept-as s (PutEvent which part putting.Took) d d' id id' st.2 st.3
+    (fits-so _ true d id sane (there-extended s (after s (PutEvent which part putting.Took)) which id part refl refl keeps.0, keeps.1)) whole tt
+kept s stamp (code.Put cleanup p d) id (PutEvent which part (putting.Full back)) d' id' fits hung flags whole a st = kept-as s (PutEvent which part (putting.Full back)) (code.Put cleanup p d) d' id id' st.2 st.3 fits whole tt
+kept s stamp (code.Put cleanup p d) id (PutEvent which part (putting.Gone back)) d' id' (sane, keeps) hung flags whole a st = absurd (runs s id which st.0 whole keeps.0 keeps.1 a.1)
+kept s stamp (code.Put cleanup p d) id (PutEvent which part (putting.OutOfMemory back)) d' id' fits hung flags whole a st = kept-as s (PutEvent which part (putting.OutOfMemory back)) (Answer _) d' id id' st.2 st.3 tt whole tt
+kept s stamp (code.Put cleanup p d) id e d' id' fits hung flags whole a st = absurd st
+kept s stamp (code.Finish p d) id (EndCopy which part putting.Took) d' id' (sane, keeps) hung flags whole a st =
+    kept-as s (EndCopy which part putting.Took) d d' id id' st.2 st.3
+    (fits-so _ false d id sane (inr (there-extended s (after s (EndCopy which part putting.Took)) which id part refl refl keeps.0))) whole tt
+kept s stamp (code.Finish p d) id (EndCopy which part (putting.Gone back)) d' id' (sane, keeps) hung flags whole a st = absurd (runs s id which st.0 whole keeps.0 keeps.1 a.1)
+kept s stamp (code.Finish p d) id (EndCopy which part (putting.OutOfMemory back)) d' id' fits hung flags whole a st = kept-as s (EndCopy which part (putting.OutOfMemory back)) (Answer _) d' id id' st.2 st.3 tt whole tt
+kept s stamp (code.Finish p d) id e d' id' fits hung flags whole a st = absurd st
+kept s stamp (code.Close p d) id (EndCopy which part putting.Took) d' id' (sane, keeps) hung flags whole a st =
+    kept-as s (EndCopy which part putting.Took) d d' id id' st.2 st.3
+    (fits-so _ false d id sane (inr (there-extended s (after s (EndCopy which part putting.Took)) which id part refl refl keeps.0))) whole tt
+kept s stamp (code.Close p d) id (EndCopy which part (putting.Gone back)) d' id' (sane, keeps) hung flags whole a st = absurd (runs s id which st.0 whole keeps.0 keeps.1 a.1)
+kept s stamp (code.Close p d) id (EndCopy which part (putting.OutOfMemory back)) d' id' fits hung flags whole a st = kept-as s (EndCopy which part (putting.OutOfMemory back)) (Answer _) d' id id' st.2 st.3 tt whole tt
+kept s stamp (code.Close p d) id e d' id' fits hung flags whole a st = absurd st
+kept s stamp (code.HangUp d) id (HangUp which (Ok x)) d' id' (none, sane) hung flags whole a st = kept-as s (HangUp which (Ok x)) d d' id id' st.1 st.2 (fits-none _ d id sane none) whole tt
+kept s stamp (code.HangUp d) id (HangUp which (Err f)) d' id' fits hung flags whole a st = kept-as s (HangUp which (Err f)) (Answer _) d' id id' st.1 st.2 tt whole tt
+kept s stamp (code.HangUp d) id e d' id' fits hung flags whole a st = absurd st
+kept s stamp (code.Call q refused next) id e d' id' fits hung flags whole a (r, told, is, same) = call-kept s q refused next id e r d' id' told fits whole (asks s e (told-asks q e r told)) is same
+kept s stamp (code.Hear next) id e d' id' fits hung flags whole a st = absurd st
 
 -- ---- a walk
 
 pub record Stays {T : Type 0} (s : State) (ds : List Deed) (q : Dialogue T) (end : ℕ) : Type 0 where
   pub none_gone : NoneGone ds
-  pub no_parts : AddNoParts ds
   pub fits : Fits (after_all s (events_of ds)) q end
   pub hung : NoneHungAhead (after_all s (events_of ds))
 
-pub none-gone : {T : Type 0} (s : State) (d : Dialogue T) (id : ℕ) (ds : List Deed) (q : Dialogue T) (end : ℕ) → Fits s d id → NoneHungAhead s → s.failed ≡ false → IsLegal s (events_of ds) → Leads d id ds q end → Stays s ds q end
-none-gone {T} s d id [] q end fits hung whole legal l = record {
+stays : {T : Type 0} (s : State) (d : Dialogue T) (id : ℕ) (ds : List Deed) (q : Dialogue T) (end : ℕ) → Fits s d id → NoneHungAhead s → AreFlagged s → s.failed ≡ false → IsLegal s (events_of ds) → Leads d id ds q end → Stays s ds q end
+stays {T} s d id [] q end fits hung flags whole legal l = record {
   none_gone = tt;
-  no_parts = tt;
   fits = subst (λ (x : Dialogue T). Fits s x end) (sym l.0) (subst (λ (k : ℕ). Fits s d k) (sym l.1) fits);
   hung = hung;
 }
-none-gone s d id (a ∷ ds) q end fits hung whole legal (mid, n, st, l) =
-    let k = kept s a.stamp d id a.event mid n fits hung whole legal.0 st in
-    let h = none-gone (after s a.event) mid n ds q end k.fits (hung-one s a.event hung) k.failed legal.1 l in
-    record { none_gone = (k.not_gone, h.none_gone); no_parts = (no-part s a.stamp d id a.event mid n fits st, h.no_parts); fits = h.fits; hung = h.hung }
+stays s d id (a ∷ ds) q end fits hung flags whole legal (mid, n, st, l) =
+    let k = kept s a.stamp d id a.event mid n fits hung flags whole legal.0 st in
+    let h = stays (after s a.event) mid n ds q end k.fits (hung-one s a.event hung) (flagged-one s a.event flags) k.failed legal.1 l in
+    record { none_gone = (k.not_gone, h.none_gone); fits = h.fits; hung = h.hung }
+
+pub none-gone : {T : Type 0} (s : State) (d : Dialogue T) (id : ℕ) (ds : List Deed) (q : Dialogue T) (end : ℕ) → IsReached s → Fits s d id → s.failed ≡ false → IsLegal s (events_of ds) → Leads d id ds q end → Stays s ds q end
+none-gone s d id ds q end reached fits whole legal l = stays s d id ds q end fits (none-hung s reached) (flagged s reached) whole legal l
 
 -- ---- turns of others
 
@@ -311,18 +376,42 @@ pub there-on : (s : State) (k : ℕ) (L : List Deed) → HangsUpNone k L → IsT
 there-on s k [] none h = h
 there-on s k (a ∷ L) none h = there-on (after s a.event) k L none.1 (there-one s k a.event none.0 h)
 
+copying-one : (s : State) (k : ℕ) (e : Event) → IsNoHangUp k e → is_copying k s.copying ≡ true → is_copying k (after s e).copying ≡ true
+copying-one s k (Book given part copying (Ok id)) none h = copying-more k s.copying copying h
+copying-one s k (PutEvent id part putting.Took) none h = h
+copying-one s k (EndCopy id part putting.Took) none h = copying-other k id s.copying none h
+copying-one s k (TakeEvent id (Ok (taking.Batch ms))) none h = h
+copying-one s k (HangUp id (Ok x)) none h = h
+copying-one s k (NextStatement (Ok n)) none h = h
+copying-one s k (NextPortal (Ok n)) none h = h
+copying-one s k (CatalogEvent call) none h = h
+copying-one s k (NextOut (Ok (out.Part part))) none h = h
+copying-one s k (DeliverEvent batch complete delivering.Taken) none h = h
+copying-one s k (CloseRequests (Ok x)) none h = h
+copying-one s k (Fail (Ok x)) none h = h
+copying-one s k e none h = h
+
+copying-on : (s : State) (k : ℕ) (L : List Deed) → HangsUpNone k L → is_copying k s.copying ≡ true → is_copying k (after_all s (events_of L)).copying ≡ true
+copying-on s k [] none h = h
+copying-on s k (a ∷ L) none h = copying-on (after s a.event) k L none.1 (copying-one s k a.event none.0 h)
+
+kept-on : {T : Type 0} (s : State) (id : ℕ) (L : List Deed) (opened : Bool) (x : Dialogue T) → HangsUpNone id L → IsKept s id opened x → IsKept (after_all s (events_of L)) id opened x
+kept-on s id L opened x none h = kept-move s (after_all s (events_of L)) id opened x x (there-on s id L none) (copying-on s id L none) (λ h. h) h
+
+kept-beside-on : {T : Type 0} (s : State) (id sent : ℕ) (L : List Deed) (opened : Bool) (x : Dialogue T) → HangsUpNone id L → IsKeptBeside s id sent opened x → IsKeptBeside (after_all s (events_of L)) id sent opened x
+kept-beside-on s id sent L true x none (h, c, apart) = (there-on s id L none h, copying-on s id L none c, apart)
+kept-beside-on s id sent L false x none (inl h) = inl h
+kept-beside-on s id sent L false x none (inr (h, apart)) = inr (there-on s id L none h, apart)
+
 pub fits-on : {T : Type 0} (s : State) (d : Dialogue T) (id : ℕ) (L : List Deed) → HangsUpNone id L → Fits s d id → Fits (after_all s (events_of L)) d id
-fits-on s (code.Leave sent d) id L none (sane, inl h) = (sane, inl h)
-fits-on s (code.Leave sent d) id L none (sane, inr (there, apart)) = (sane, inr (there-on s id L none there, apart))
+fits-on s (code.Leave sent d) id L none (opened, sane, h) = (opened, sane, kept-beside-on s id sent L opened d none h)
 fits-on s (code.Answer r) id L none h = tt
 fits-on s (code.Ask c p d) id L none h = h
-fits-on s (code.Send p refused d) id L none (sane, inl h) = (sane, inl h)
-fits-on s (code.Send p refused d) id L none (sane, inr there) = (sane, inr (there-on s id L none there))
-fits-on s (code.Read cleanup decides next) id L none (sane, there) = (sane, there-on s id L none there)
-fits-on s (code.Put cleanup p d) id L none h = absurd h
-fits-on s (code.Finish p d) id L none h = absurd h
-fits-on s (code.Close p d) id L none h = absurd h
+fits-on s (code.Send p refused d) id L none (opened, sane, h) = (opened, sane, kept-on s id L opened (code.Send p refused d) none h)
+fits-on s (code.Read cleanup decides next) id L none (opened, sane, h) = (opened, sane, kept-on s id L opened (code.Read cleanup decides next) none h)
+fits-on s (code.Put cleanup p d) id L none (sane, h) = (sane, kept-on s id L true d none h)
+fits-on s (code.Finish p d) id L none (sane, h) = (sane, kept-on s id L true d none h)
+fits-on s (code.Close p d) id L none (sane, h) = (sane, kept-on s id L true d none h)
 fits-on s (code.HangUp d) id L none h = h
-fits-on s (code.Call q refused next) id L none (sane, inl h) = (sane, inl h)
-fits-on s (code.Call q refused next) id L none (sane, inr there) = (sane, inr (there-on s id L none there))
+fits-on s (code.Call q refused next) id L none (opened, sane, h) = (opened, sane, kept-on s id L opened (code.Call q refused next) none h)
 fits-on s (code.Hear next) id L none h = tt

@@ -7,6 +7,7 @@ pub mod Fitting
 pub mod Unread
 pub mod Core
 pub mod Itself
+pub mod Later
 pub mod Outcome
 pub mod Goes
 pub mod Trail
@@ -17,12 +18,14 @@ pub mod Booked
 pub mod Counted
 pub mod Timely
 pub mod Refused
-pub mod NoParts
+pub mod Flags
 pub mod Gone
 pub mod Upright
 pub mod Requests
+pub mod Copying
 pub mod Glued
 pub mod Owned
+pub mod Extended
 pub mod Polls
 pub mod Behind
 pub mod Off

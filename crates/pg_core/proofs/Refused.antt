@@ -1,5 +1,5 @@
 -- Where a legal list refuses a command that decides in time, memory lacked, or its request is gone.
-use Rattle.std.proofs.Common.{◌≡◌, ◌⊎◌, inl, inr, ℕ, ◌≤◌, nat_lt, List, [], ◌∷◌, ◌++◌, length, take, Bool, true, false, if◌then◌else◌, Option, Some, None, Result, Ok, Err, refl, sym, ap, subst, ◌∙◌, arith}
+use Rattle.std.proofs.Common.{◌≡◌, ◌⊎◌, inl, inr, ℕ, ◌≤◌, nat_lt, List, [], ◌∷◌, ◌++◌, length, take, drop, Bool, true, false, if◌then◌else◌, Option, Some, None, Result, Ok, Err, refl, sym, ap, subst, ◌∙◌, arith}
 use Rattle.std.proofs.lemmas.Bool.Decides.{nat_tests}
 use Rattle.std.proofs.lemmas.List.{map-append, take-append-le}
 use Rattle.std.specs.List.{list_any}
@@ -23,12 +23,13 @@ use Rattle.pg_query.specs.Meaning.{Place}
 use Rattle.pg_query.specs.Requests.{IsBehind, Refuses, IsRefused}
 use Rattle.pg_query.specs.Scripts.{IsRead}
 use Rattle.pg_query.proofs.Questions.{told-asks}
-use Rattle.pg_core.specs.Deeds.{Serves, EndsRefused, answers_in, bookings_in, got_after}
+use Rattle.pg_core.specs.Deeds.{Serves, EndsRefused, additions_in, answers_in, bookings_in, got_after}
 use Rattle.pg_core.specs.Lists.{events_of, came_of, got_of, state_behind, IsReached}
-use Rattle.pg_core.specs.Runs.{Ran, of_request, At, Waits, ReadsNothing}
+use Rattle.pg_core.specs.Runs.{Ran, of_request, At, Waits, ReadsNothing, IsPut}
 use Rattle.pg_core.specs.Times.{IsTimely}
 use Rattle.pg_core.specs.Trails.{Moment, ran_by, goes_on, IsRunning, moment_of, LedTo, Waiting, Answering, Refusing, PollsOn}
 use Rattle.pg_core.proofs.Steps.{all-taken, firm, poll-served, reached-on, taken-within}
+use Rattle.pg_core.proofs.Fed.{feed-put}
 use Rattle.pg_core.proofs.Fitting.{told-fitting}
 use Rattle.pg_core.proofs.Timely.{IsUndecided, in-time, undecided, group-ends, never-over}
 use Rattle.pg_core.proofs.Trail.{polled}
@@ -117,6 +118,20 @@ reads-not (code.HangUp d) nothing reads = reads
 reads-not (code.Call q refused next) nothing reads = reads
 reads-not (code.Hear next) nothing reads = reads
 
+-- messages don't make a part that is put a reading
+put-not-read : {T : Type 0} (ms : List RawMessage) (d : Dialogue T) → IsPut d → IsRead (feed ms d) → ⊥
+put-not-read ms (code.Put cleanup part d) puts reads = subst IsRead (feed-put ms cleanup part d) reads
+put-not-read ms (code.Answer r) puts reads = puts
+put-not-read ms (code.Ask copying part d) puts reads = puts
+put-not-read ms (code.Send part refused d) puts reads = puts
+put-not-read ms (code.Leave id d) puts reads = puts
+put-not-read ms (code.Read cleanup decides next) puts reads = puts
+put-not-read ms (code.Finish part d) puts reads = puts
+put-not-read ms (code.Close part d) puts reads = puts
+put-not-read ms (code.HangUp d) puts reads = puts
+put-not-read ms (code.Call q refused next) puts reads = puts
+put-not-read ms (code.Hear next) puts reads = puts
+
 -- so much of what was taken is so much of what came
 pub timely-as : {T : Type 0} (got came : ℕ → List RawMessage) (at : Option ℕ) (n : ℕ) (d : Dialogue T) → IsFrontOf (of_request got at) (of_request came at) → n ≤ length (of_request got at) → IsTimely got at n d → IsTimely came at n d
 timely-as got came at n d front le (t, inl h) = (t, inl h)
@@ -187,13 +202,14 @@ module _ {T : Type 0} (d : Dialogue T) (trail : List Moment) (s : State) (p : Pl
       by-at None e nothing there = reads-not r.left nothing there
       by-at (Some k) e same there =
           stands-over (came_of t) r.at r.read r.left there
-          (in-time (came_of t) (ran_by d trail).at (ran_by d trail).read (ran_by d trail).left (bookings_in before) (answers_in before) (told-fitting before) c.met.1
+          (in-time (came_of t) (ran_by d trail).at (ran_by d trail).read (ran_by d trail).left (bookings_in before) (answers_in before) (additions_in before) (told-fitting before) c.met.1
           (timely-as (got_of s) (came_of t) (ran_by d trail).at (ran_by d trail).read (ran_by d trail).left (taken-within s (kept (events_of before)) (ran_by d trail).at reached) runs.within timely))
-          (undecided (came_of t) (ran_by d trail).at (ran_by d trail).read (ran_by d trail).left _ _)
+          (undecided (came_of t) (ran_by d trail).at (ran_by d trail).read (ran_by d trail).left _ _ _)
           (ap (λ (x : Option ℕ). ends_in is_ready (of_request (came_of t) x)) e ∙ ap (λ (x : ℕ). ends_in is_ready (came_of t x)) same ∙ ends)
 
       by : LedTo d (moment_of 0 (came_of t) before ∷ trail) (got_of s) before q → ⊥
-      by (Waiting h there) = by-at r.at refl h.at there
+      by (Waiting h (inl there)) = by-at r.at refl h.at there
+      by (Waiting h (inr puts)) = absurd (put-not-read (drop r.read (of_request (got_after (got_of s) before) r.at)) r.left puts (subst IsRead h.place reads))
       by (Answering x e gave) = subst IsRead e reads
       by (Refusing x) = subst IsRead x.is reads
 

@@ -17,8 +17,9 @@ use Rattle.pg_query.specs.Meaning.{Place}
 use Rattle.pg_core.specs.Deeds.{Serves, got_after}
 use Rattle.pg_core.specs.Lists.{events_of, came_of, got_of, Owns, IsApart, state_behind, EndsEmpty, IsReached, SparesAll}
 use Rattle.pg_core.specs.Outcomes.{LivesSo}
+use Rattle.pg_core.specs.Runs as walks
 use Rattle.pg_core.specs.Runs.{of_request, At, IsTidy, ReadsNothing, Answered, Waits}
-use Rattle.pg_core.specs.Trails.{Moment, ran_by, IsRunning, moment_of, LedTo, Waiting, Answering, Refusing, PollsOn, Turned, RunsOn, HasAnswered, WasRefused, PollEnds, Gave, Pauses, OwnTurn}
+use Rattle.pg_core.specs.Trails.{Moment, ran_by, IsRunning, moment_of, LedTo, Waiting, Answering, Refusing, PollsOn, Turned, RunsOn, HasAnswered, WasRefused, PollEnds, Gave, Pauses, HoldsBack, OwnTurn}
 use Rattle.pg_core.proofs.Lists.{IsFirm, NoneAhead, list-serves, grows, ahead-one}
 use Rattle.pg_core.proofs.Outcome.{life}
 use Rattle.pg_core.proofs.Trail.{polled, others}
@@ -166,6 +167,7 @@ own-turn {T} d place trail s p ds q reached runs l legal ends = record { met = c
     by : PollEnds ds q → Turned d (moment_of place (came_of t) ds ∷ trail) t ds q
     by (Gave r e) = led (c.leads (Answered r e))
     by (Pauses reads empty) = led (c.leads (Waits reads (served.1 q.reads ∙ emptied s ds q.reads reached legal empty)))
+    by (HoldsBack puts full) = led (c.leads (walks.HoldsBack puts))
 
 -- ---- turns of others
 

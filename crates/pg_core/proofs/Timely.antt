@@ -13,8 +13,9 @@ use Rattle.pg_query.specs.declared.desk_call.DeskCall.{DeskCall}
 use Rattle.pg_query.specs.declared.desk_call.Reply.{Reply}
 use Rattle.pg_course.specs.Courses.{Asked, Request}
 use Rattle.pg_course.specs.Dialogues.{decided_after}
-use Rattle.pg_core.specs.Deeds.{granted}
-use Rattle.pg_core.specs.Runs.{Ran, of_request, stays, run}
+use Rattle.pg_faults.specs.declared.error.Error.TheVariants.{Closed}
+use Rattle.pg_core.specs.Deeds.{Addition, granted}
+use Rattle.pg_core.specs.Runs.{Ran, of_request, stays, if_gone, run}
 use Rattle.pg_core.specs.Times.{ReadsNo, IsTimely}
 use Rattle.pg_core.proofs.Fed.{still-decides, front-decides}
 use Rattle.pg_core.proofs.Fitting.{AreFitting, first-asked}
@@ -38,29 +39,40 @@ take-more (suc n) zero [] = ap (λ (m : ℕ). take {A = RawMessage} m []) (let e
 take-more (suc n) (suc k) [] = ap (λ (m : ℕ). take {A = RawMessage} m []) (let e : suc n + suc k ≡ suc (n + suc k) = omega arith in e)
 take-more (suc n) k (x ∷ xs) = ap (λ (m : ℕ). take m (x ∷ xs)) (let e : suc n + k ≡ suc (n + k) = omega arith in e) ∙ ap (λ (l : List RawMessage). x ∷ l) (take-more n k xs)
 
+-- where an end was refused
+time-if : {T : Type 0} (came : ℕ → List RawMessage) (qs : List (Result (Asked DeskCall Reply) Error)) (f : Error) (s t : Ran T) → (s.asked ≡ granted qs → IsTimely came s.at s.read s.left) → IsTimely came t.at t.read t.left →
+    (if_gone f s t).asked ≡ granted qs → IsTimely came (if_gone f s t).at (if_gone f s t).read (if_gone f s t).left
+time-if came qs Closed s t h g e = h e
+time-if came qs f s t h g e = g
+
+undecided-if : {T : Type 0} (came : ℕ → List RawMessage) (f : Error) (s t : Ran T) → IsUndecided came s.at s.read s.left → IsUndecided came t.at t.read t.left →
+    IsUndecided came (if_gone f s t).at (if_gone f s t).read (if_gone f s t).left
+undecided-if came Closed s t h g = h
+undecided-if came f s t h g = g
+
 -- the function keeps to time, where it asked what it was told and that fits
-pub in-time : {T : Type 0} (came : ℕ → List RawMessage) (at : Option ℕ) (n : ℕ) (d : Dialogue T) (rs : List (Result Request Error)) (qs : List (Result (Asked DeskCall Reply) Error)) →
-    AreFitting (granted qs) → (run came at n d rs qs).asked ≡ granted qs → IsTimely came at n d →
-    IsTimely came (run came at n d rs qs).at (run came at n d rs qs).read (run came at n d rs qs).left
-in-time came at n (Answer r) rs qs fit e h = h
-in-time came at n (Ask copying part d) [] qs fit e h = h
-in-time came at n (Ask copying part d) (Ok r ∷ rs) qs fit e h = in-time came (Some r.number) 0 d rs qs fit e (h.0, inr refl)
-in-time came at n (Ask copying part d) (Err f ∷ rs) qs fit e h = (tt, inl tt)
-in-time came at n (Send part refused d) [] qs fit e h = h
-in-time came at n (Send part refused d) (Ok r ∷ rs) qs fit e (timely, inl reads_no) = in-time came at n d rs qs fit e (timely.1, inl reads_no.1)
-in-time came at n (Send part refused d) (Ok r ∷ rs) qs fit e (timely, inr none) = in-time came at n d rs qs fit e (timely.1, inr none)
-in-time came at n (Send part refused d) (Err f ∷ rs) qs fit e (timely, inl reads_no) = in-time came at n (refused f) rs qs fit e (timely.0 f, inl (reads_no.0 f))
-in-time came at n (Send part refused d) (Err f ∷ rs) qs fit e (timely, inr none) = in-time came at n (refused f) rs qs fit e (timely.0 f, inr none)
-in-time came at n (Leave id d) rs qs fit e h = in-time came at n d rs qs fit e h
-in-time came at n (Read cleanup decides next) rs qs fit e (timely, inl no_read) = absurd no_read
-in-time {T} came at n (Read cleanup decides next) rs qs fit asks (timely, inr none) =
-    by (decided_after decides (drop n (of_request came at))) refl (λ k e h. in-time came at (n + k) (next (take k (drop n (of_request came at)))) rs qs fit e h) asks
+pub in-time : {T : Type 0} (came : ℕ → List RawMessage) (at : Option ℕ) (n : ℕ) (d : Dialogue T) (rs : List (Result Request Error)) (qs : List (Result (Asked DeskCall Reply) Error)) (ps : List (Result Addition Error)) →
+    AreFitting (granted qs) → (run came at n d rs qs ps).asked ≡ granted qs → IsTimely came at n d →
+    IsTimely came (run came at n d rs qs ps).at (run came at n d rs qs ps).read (run came at n d rs qs ps).left
+in-time came at n (Answer r) rs qs ps fit e h = h
+in-time came at n (Ask copying part d) [] qs ps fit e h = h
+in-time came at n (Ask copying part d) (Ok r ∷ rs) qs ps fit e h = in-time came (Some r.number) 0 d rs qs ps fit e (h.0, inr refl)
+in-time came at n (Ask copying part d) (Err f ∷ rs) qs ps fit e h = (tt, inl tt)
+in-time came at n (Send part refused d) [] qs ps fit e h = h
+in-time came at n (Send part refused d) (Ok r ∷ rs) qs ps fit e (timely, inl reads_no) = in-time came at n d rs qs ps fit e (timely.1, inl reads_no.1)
+in-time came at n (Send part refused d) (Ok r ∷ rs) qs ps fit e (timely, inr none) = in-time came at n d rs qs ps fit e (timely.1, inr none)
+in-time came at n (Send part refused d) (Err f ∷ rs) qs ps fit e (timely, inl reads_no) = in-time came at n (refused f) rs qs ps fit e (timely.0 f, inl (reads_no.0 f))
+in-time came at n (Send part refused d) (Err f ∷ rs) qs ps fit e (timely, inr none) = in-time came at n (refused f) rs qs ps fit e (timely.0 f, inr none)
+in-time came at n (Leave id d) rs qs ps fit e h = in-time came at n d rs qs ps fit e h
+in-time came at n (Read cleanup decides next) rs qs ps fit e (timely, inl no_read) = absurd no_read
+in-time {T} came at n (Read cleanup decides next) rs qs ps fit asks (timely, inr none) =
+    by (decided_after decides (drop n (of_request came at))) refl (λ k e h. in-time came at (n + k) (next (take k (drop n (of_request came at)))) rs qs ps fit e h) asks
   where
     xs : List RawMessage
     xs = drop n (of_request came at)
 
     chosen : Option ℕ → Ran T
-    chosen o = elim o [ None ↦ stays at n (Read cleanup decides next) | Some k ↦ run came at (n + k) (next (take k (drop n (of_request came at)))) rs qs ]
+    chosen o = elim o [ None ↦ stays at n (Read cleanup decides next) | Some k ↦ run came at (n + k) (next (take k (drop n (of_request came at)))) rs qs ps ]
 
     after_k : (k : ℕ) → decided_after decides xs ≡ Some k → IsTimely came at (n + k) (next (take k xs))
     after_k k e =
@@ -73,56 +85,75 @@ in-time {T} came at n (Read cleanup decides next) rs qs fit asks (timely, inr no
         choose false e f = inr (ap (list_any is_ready) (take-more n k (of_request came at)) ∙ any-append (take n (of_request came at)) (take k xs) none e)
 
     by : (o : Option ℕ) → decided_after decides xs ≡ o →
-        ((k : ℕ) → (run came at (n + k) (next (take k xs)) rs qs).asked ≡ granted qs → IsTimely came at (n + k) (next (take k xs)) →
-        IsTimely came (run came at (n + k) (next (take k xs)) rs qs).at (run came at (n + k) (next (take k xs)) rs qs).read (run came at (n + k) (next (take k xs)) rs qs).left) →
+        ((k : ℕ) → (run came at (n + k) (next (take k xs)) rs qs ps).asked ≡ granted qs → IsTimely came at (n + k) (next (take k xs)) →
+        IsTimely came (run came at (n + k) (next (take k xs)) rs qs ps).at (run came at (n + k) (next (take k xs)) rs qs ps).read (run came at (n + k) (next (take k xs)) rs qs ps).left) →
         (chosen o).asked ≡ granted qs → IsTimely came (chosen o).at (chosen o).read (chosen o).left
     by None e h asks = (timely, inr none)
     by (Some k) e h asks = h k asks (after_k k e)
-in-time came at n (Put cleanup part d) rs qs fit e h = absurd h.0
-in-time came at n (Finish part d) rs qs fit e h = absurd h.0
-in-time came at n (Close part d) rs qs fit e h = absurd h.0
-in-time came at n (HangUp d) rs qs fit e h = in-time came at n d rs qs fit e h
-in-time came at n (Call q refused next) rs [] fit e h = h
-in-time came at n (Call q refused next) rs (Ok a ∷ qs) fit e (timely, inl reads_no) =
-    let k = first-asked q a (run came at n (next a.reply) rs qs).asked (granted qs) e fit.0 in
-    in-time came at n (next a.reply) rs qs fit.1 k.1 (timely.1 a.reply k.0, inl (reads_no.1 a.reply k.0))
-in-time came at n (Call q refused next) rs (Ok a ∷ qs) fit e (timely, inr none) =
-    let k = first-asked q a (run came at n (next a.reply) rs qs).asked (granted qs) e fit.0 in
-    in-time came at n (next a.reply) rs qs fit.1 k.1 (timely.1 a.reply k.0, inr none)
-in-time came at n (Call q refused next) rs (Err f ∷ qs) fit e (timely, inl reads_no) = in-time came at n (refused f) rs qs fit e (timely.0 f, inl (reads_no.0 f))
-in-time came at n (Call q refused next) rs (Err f ∷ qs) fit e (timely, inr none) = in-time came at n (refused f) rs qs fit e (timely.0 f, inr none)
-in-time came at n (Hear next) rs qs fit e h = h
+in-time came None n (Put cleanup part d) rs qs ps fit e h = h
+in-time came (Some k) n (Put cleanup part d) rs qs [] fit e h = h
+in-time came (Some k) n (Put cleanup part d) rs qs (Ok a ∷ ps) fit e h = in-time came (Some k) n d rs qs ps fit e h
+in-time came (Some k) n (Put cleanup part d) rs qs (Err f ∷ ps) fit e h = (tt, inl tt)
+in-time came None n (Finish part d) rs qs ps fit e h = h
+in-time came (Some k) n (Finish part d) rs qs [] fit e h = h
+in-time came (Some k) n (Finish part d) rs qs (Ok a ∷ ps) fit e h = in-time came (Some k) n d rs qs ps fit e h
+in-time came (Some k) n (Finish part d) rs qs (Err f ∷ ps) fit e h = (tt, inl tt)
+in-time came None n (Close part d) rs qs ps fit e h = h
+in-time came (Some k) n (Close part d) rs qs [] fit e h = h
+in-time came (Some k) n (Close part d) rs qs (Ok a ∷ ps) fit e h = in-time came (Some k) n d rs qs ps fit e h
+in-time came (Some k) n (Close part d) rs qs (Err f ∷ ps) fit e h =
+    time-if came qs f (run came (Some k) n d rs qs ps) (stays (Some k) n (Answer (Err f))) (λ e. in-time came (Some k) n d rs qs ps fit e h) (tt, inl tt) e
+in-time came at n (HangUp d) rs qs ps fit e h = in-time came at n d rs qs ps fit e h
+in-time came at n (Call q refused next) rs [] ps fit e h = h
+in-time came at n (Call q refused next) rs (Ok a ∷ qs) ps fit e (timely, inl reads_no) =
+    let k = first-asked q a (run came at n (next a.reply) rs qs ps).asked (granted qs) e fit.0 in
+    in-time came at n (next a.reply) rs qs ps fit.1 k.1 (timely.1 a.reply k.0, inl (reads_no.1 a.reply k.0))
+in-time came at n (Call q refused next) rs (Ok a ∷ qs) ps fit e (timely, inr none) =
+    let k = first-asked q a (run came at n (next a.reply) rs qs ps).asked (granted qs) e fit.0 in
+    in-time came at n (next a.reply) rs qs ps fit.1 k.1 (timely.1 a.reply k.0, inr none)
+in-time came at n (Call q refused next) rs (Err f ∷ qs) ps fit e (timely, inl reads_no) = in-time came at n (refused f) rs qs ps fit e (timely.0 f, inl (reads_no.0 f))
+in-time came at n (Call q refused next) rs (Err f ∷ qs) ps fit e (timely, inr none) = in-time came at n (refused f) rs qs ps fit e (timely.0 f, inr none)
+in-time came at n (Hear next) rs qs ps fit e h = h
 
 -- where it reads, what came decides nothing
-pub undecided : {T : Type 0} (came : ℕ → List RawMessage) (at : Option ℕ) (n : ℕ) (d : Dialogue T) (rs : List (Result Request Error)) (qs : List (Result (Asked DeskCall Reply) Error)) →
-    IsUndecided came (run came at n d rs qs).at (run came at n d rs qs).read (run came at n d rs qs).left
-undecided came at n (Answer r) rs qs = tt
-undecided came at n (Ask copying part d) [] qs = tt
-undecided came at n (Ask copying part d) (Ok r ∷ rs) qs = undecided came (Some r.number) 0 d rs qs
-undecided came at n (Ask copying part d) (Err e ∷ rs) qs = tt
-undecided came at n (Send part refused d) [] qs = tt
-undecided came at n (Send part refused d) (Ok r ∷ rs) qs = undecided came at n d rs qs
-undecided came at n (Send part refused d) (Err e ∷ rs) qs = undecided came at n (refused e) rs qs
-undecided came at n (Leave id d) rs qs = undecided came at n d rs qs
-undecided {T} came at n (Read cleanup decides next) rs qs =
-    by (decided_after decides (drop n (of_request came at))) refl (λ k. undecided came at (n + k) (next (take k (drop n (of_request came at)))) rs qs)
+pub undecided : {T : Type 0} (came : ℕ → List RawMessage) (at : Option ℕ) (n : ℕ) (d : Dialogue T) (rs : List (Result Request Error)) (qs : List (Result (Asked DeskCall Reply) Error)) (ps : List (Result Addition Error)) →
+    IsUndecided came (run came at n d rs qs ps).at (run came at n d rs qs ps).read (run came at n d rs qs ps).left
+undecided came at n (Answer r) rs qs ps = tt
+undecided came at n (Ask copying part d) [] qs ps = tt
+undecided came at n (Ask copying part d) (Ok r ∷ rs) qs ps = undecided came (Some r.number) 0 d rs qs ps
+undecided came at n (Ask copying part d) (Err e ∷ rs) qs ps = tt
+undecided came at n (Send part refused d) [] qs ps = tt
+undecided came at n (Send part refused d) (Ok r ∷ rs) qs ps = undecided came at n d rs qs ps
+undecided came at n (Send part refused d) (Err e ∷ rs) qs ps = undecided came at n (refused e) rs qs ps
+undecided came at n (Leave id d) rs qs ps = undecided came at n d rs qs ps
+undecided {T} came at n (Read cleanup decides next) rs qs ps =
+    by (decided_after decides (drop n (of_request came at))) refl (λ k. undecided came at (n + k) (next (take k (drop n (of_request came at)))) rs qs ps)
   where
     chosen : Option ℕ → Ran T
-    chosen o = elim o [ None ↦ stays at n (Read cleanup decides next) | Some k ↦ run came at (n + k) (next (take k (drop n (of_request came at)))) rs qs ]
+    chosen o = elim o [ None ↦ stays at n (Read cleanup decides next) | Some k ↦ run came at (n + k) (next (take k (drop n (of_request came at)))) rs qs ps ]
 
     by : (o : Option ℕ) → decided_after decides (drop n (of_request came at)) ≡ o →
-        ((k : ℕ) → IsUndecided came (run came at (n + k) (next (take k (drop n (of_request came at)))) rs qs).at (run came at (n + k) (next (take k (drop n (of_request came at)))) rs qs).read (run came at (n + k) (next (take k (drop n (of_request came at)))) rs qs).left) →
+        ((k : ℕ) → IsUndecided came (run came at (n + k) (next (take k (drop n (of_request came at)))) rs qs ps).at (run came at (n + k) (next (take k (drop n (of_request came at)))) rs qs ps).read (run came at (n + k) (next (take k (drop n (of_request came at)))) rs qs ps).left) →
         IsUndecided came (chosen o).at (chosen o).read (chosen o).left
     by None e h = e
     by (Some k) e h = h k
-undecided came at n (Put cleanup part d) rs qs = tt
-undecided came at n (Finish part d) rs qs = tt
-undecided came at n (Close part d) rs qs = tt
-undecided came at n (HangUp d) rs qs = undecided came at n d rs qs
-undecided came at n (Call q refused next) rs [] = tt
-undecided came at n (Call q refused next) rs (Ok a ∷ qs) = undecided came at n (next a.reply) rs qs
-undecided came at n (Call q refused next) rs (Err e ∷ qs) = undecided came at n (refused e) rs qs
-undecided came at n (Hear next) rs qs = tt
+undecided came None n (Put cleanup part d) rs qs ps = tt
+undecided came (Some k) n (Put cleanup part d) rs qs [] = tt
+undecided came (Some k) n (Put cleanup part d) rs qs (Ok a ∷ ps) = undecided came (Some k) n d rs qs ps
+undecided came (Some k) n (Put cleanup part d) rs qs (Err f ∷ ps) = tt
+undecided came None n (Finish part d) rs qs ps = tt
+undecided came (Some k) n (Finish part d) rs qs [] = tt
+undecided came (Some k) n (Finish part d) rs qs (Ok a ∷ ps) = undecided came (Some k) n d rs qs ps
+undecided came (Some k) n (Finish part d) rs qs (Err f ∷ ps) = tt
+undecided came None n (Close part d) rs qs ps = tt
+undecided came (Some k) n (Close part d) rs qs [] = tt
+undecided came (Some k) n (Close part d) rs qs (Ok a ∷ ps) = undecided came (Some k) n d rs qs ps
+undecided came (Some k) n (Close part d) rs qs (Err f ∷ ps) = undecided-if came f (run came (Some k) n d rs qs ps) (stays (Some k) n (Answer (Err f))) (undecided came (Some k) n d rs qs ps) tt
+undecided came at n (HangUp d) rs qs ps = undecided came at n d rs qs ps
+undecided came at n (Call q refused next) rs [] ps = tt
+undecided came at n (Call q refused next) rs (Ok a ∷ qs) ps = undecided came at n (next a.reply) rs qs ps
+undecided came at n (Call q refused next) rs (Err e ∷ qs) ps = undecided came at n (refused e) rs qs ps
+undecided came at n (Hear next) rs qs ps = tt
 
 -- ---- a group that ended
 

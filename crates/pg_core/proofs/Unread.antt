@@ -52,16 +52,19 @@ one-step ms stamp (Hear next) id e mid n h s = absurd h
 settled : {T : Type 0} (ms : List RawMessage) (d : Dialogue T) → ReadsNothing d → IsSettled d → d ≡ feed ms d
 settled ms (Answer r) h s = sym (feed-answer ms r)
 settled ms (Ask copying part d) h s = sym (feed-ask ms copying part d)
-settled ms (Send part refused d) h (inl reads) = absurd reads
+settled ms (Send part refused d) h (inl (inl reads)) = absurd reads
+settled ms (Send part refused d) h (inl (inr puts)) = absurd puts
 settled ms (Send part refused d) h (inr (r, is)) = absurd cc
-settled ms (Leave id d) h (inl reads) = absurd reads
+settled ms (Leave id d) h (inl (inl reads)) = absurd reads
+settled ms (Leave id d) h (inl (inr puts)) = absurd puts
 settled ms (Leave id d) h (inr (r, is)) = absurd cc
 settled ms (Read cleanup decides next) h s = absurd h
 settled ms (Put cleanup part d) h s = absurd h
 settled ms (Finish part d) h s = absurd h
 settled ms (Close part d) h s = absurd h
 settled ms (HangUp d) h s = absurd h
-settled ms (Call q refused next) h (inl reads) = absurd reads
+settled ms (Call q refused next) h (inl (inl reads)) = absurd reads
+settled ms (Call q refused next) h (inl (inr puts)) = absurd puts
 settled ms (Call q refused next) h (inr (r, is)) = absurd cc
 settled ms (Hear next) h s = absurd h
 

@@ -9,14 +9,13 @@ use Rattle.pg_faults.specs.declared.error.Error.TheVariants.{OutOfMemory}
 use Rattle.pg_query.specs.Dialogue.{Dialogue, Answer}
 use Rattle.pg_query.specs.Lives.{Deed, Leads}
 use Rattle.pg_query.specs.Meaning.{Place}
-use Rattle.pg_query.specs.Scripts.{IsRead}
-use Rattle.pg_core.specs.Deeds.{bookings_in, answers_in, AreGranted}
+use Rattle.pg_core.specs.Deeds.{additions_in, answers_in, bookings_in}
 use Rattle.pg_core.specs.Lists.{events_of, came_of, got_of, state_behind, IsReached, SparesAll}
-use Rattle.pg_core.specs.Runs.{of_request, At}
+use Rattle.pg_core.specs.Runs.{of_request, At, MayWait}
 use Rattle.pg_core.specs.Times.{Fits, IsTimely, HangsUpNone, IsCommand, IsFaithful, IsUpright, TurnedWell, StaysUpright, AnsweredWell, LackedMemory}
 use Rattle.pg_core.specs.Trails.{Moment, ran_by, IsRunning, moment_of, Turned, RunsOn, HasAnswered, WasRefused, PollEnds, OwnTurn}
-use Rattle.pg_core.proofs.Faithful.{granted-or-lacks, was-whole}
-use Rattle.pg_core.proofs.Gone.{IsNotGone, NoneGone, Stays, no-reads, none-gone, none-hung, fits-on, fits-none}
+use Rattle.pg_core.proofs.Faithful.{AllGranted, granted-or-lacks, was-whole}
+use Rattle.pg_core.proofs.Gone.{IsNotGone, NoneGone, Stays, no-reads, none-gone, fits-on, fits-none}
 use Rattle.pg_core.proofs.Refused.{HasGone, refused-why, timely-as, timely-back}
 use Rattle.pg_core.proofs.Steps.{own-turn, others-turn, reached-on, taken-within, spared}
 use Rattle.pg_core.proofs.Fitting.{told-fitting}
@@ -57,23 +56,23 @@ upright-turn {T} d place trail s p ds q h l legal open_ ends = (turn, by turn.tu
     trail' = moment_of place (came_of t) ds ∷ trail
 
     walked : Stays s ds q.dialogue q.reads
-    walked = none-gone s p.dialogue p.reads ds q.dialogue q.reads h.fits (none-hung s h.reached) (was-whole s (events_of ds) open_) legal l
+    walked = none-gone s p.dialogue p.reads ds q.dialogue q.reads h.reached h.fits (was-whole s (events_of ds) open_) legal l
 
-    stays : IsRunning d trail' (got_of t) q → IsRead (ran_by d trail').left → (AreGranted (bookings_in ds) × (AreGranted (answers_in ds) × IsFaithful q.dialogue)) ⊎ (q.dialogue ≡ Answer (Err OutOfMemory)) → TurnedWell d trail' t q
+    stays : IsRunning d trail' (got_of t) q → MayWait (ran_by d trail').left → (AllGranted ds × IsFaithful q.dialogue) ⊎ (q.dialogue ≡ Answer (Err OutOfMemory)) → TurnedWell d trail' t q
     stays runs reads (inr e) = LackedMemory e
     stays runs reads (inl g) = StaysUpright (record {
       reached = reached-on s (kept (events_of ds)) h.reached stored;
       runs = runs;
       timely = timely-back (got_of t) (came_of t) (ran_by d trail').at (ran_by d trail').read (ran_by d trail').left
           (taken-within t [] (ran_by d trail').at (reached-on s (kept (events_of ds)) h.reached stored)) runs.within
-          (in-time (came_of t) (ran_by d trail).at (ran_by d trail).read (ran_by d trail).left (bookings_in ds) (answers_in ds) (told-fitting ds) turn.met.1
+          (in-time (came_of t) (ran_by d trail).at (ran_by d trail).read (ran_by d trail).left (bookings_in ds) (answers_in ds) (additions_in ds) (told-fitting ds) turn.met.1
           (timely-as (got_of s) (came_of t) (ran_by d trail).at (ran_by d trail).read (ran_by d trail).left (taken-within s (kept (events_of ds)) (ran_by d trail).at h.reached) h.runs.within h.timely));
       fits = subst (λ (x : State). Fits x q.dialogue q.reads) (sym part) walked.fits;
-      faithful = g.1.1;
+      faithful = g.1;
     }) reads
 
     by : Turned d trail' t ds q → TurnedWell d trail' t q
-    by (RunsOn runs reads) = stays runs reads (granted-or-lacks s p ds q h.faithful l legal open_ ends)
+    by (RunsOn runs reads) = stays runs reads (granted-or-lacks s p ds q h.faithful walked.none_gone l legal open_ ends)
     by (HasAnswered r e is) = AnsweredWell r e is
     by (WasRefused r) = why (refused-why d trail s p h.reached h.runs h.timely ds q l legal r)
       where

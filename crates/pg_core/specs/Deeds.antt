@@ -1,15 +1,17 @@
--- What a command's own events say: what it booked, what it was told, and what it took of each request.
-use Rattle.std.specs.Prelude.{◌≡◌, ℕ, ◌==◌, List, [], ◌∷◌, ◌++◌, if◌then◌else◌, Result, Ok, Err}
+-- What a command's own events say: what it booked, which parts it added, what it was told, and what it took of each request.
+use Rattle.std.specs.Prelude.{◌≡◌, ℕ, ◌==◌, List, [], ◌∷◌, ◌++◌, Bool, if◌then◌else◌, Result, Ok, Err}
 use Rattle.pg_query.specs.Requests.{IsRefused}
 use Rattle.pg_spec.specs.RawMessages.{RawMessage}
 use Rattle.pg_desk.specs.History.{IsFrontOf}
 use Rattle.pg_spec.specs.declared.stamps.Stamp.{Stamp}
 use Rattle.pg_desk.specs.declared.event.DeskFault.{DeskFault}
 use Rattle.pg_desk.specs.declared.event.DeskFault.TheVariants as fault
+use Rattle.pg_desk.specs.declared.event.Put.TheVariants as putting
 use Rattle.pg_desk.specs.declared.event.Take.TheVariants as taking
 use Rattle.pg_desk.specs.declared.event.Event.{Event}
 use Rattle.pg_desk.specs.declared.event.Event.TheVariants as call
 use Rattle.pg_faults.specs.declared.error.Error.{Error}
+use Rattle.pg_faults.specs.declared.error.Error.TheVariants.{Closed, OutOfMemory}
 use Rattle.pg_query.specs.Faults.{of_fault}
 use Rattle.pg_query.specs.Dialogue.{Dialogue, Answer, question_of, reply_of}
 use Rattle.pg_query.specs.Lives.{Deed}
@@ -29,6 +31,26 @@ booked_by _ = []
 abbrev pub bookings_in : List Deed → List (Result Request Error)
 bookings_in [] = []
 bookings_in (a ∷ ds) = booked_by a.event ++ bookings_in ds
+
+-- a part that was added to a copy
+pub record Addition : Type 0 where
+  pub request : ℕ
+  pub part : List ℕ
+
+-- What became of a part that an event tells of: it was added, or why it wasn't. One for which there is no room yet is put again.
+abbrev pub added_by : Event → List (Result Addition Error)
+added_by (call.Put id part putting.Took) = Ok (record { request = id; part = part }) ∷ []
+added_by (call.Put id part (putting.Gone back)) = Err Closed ∷ []
+added_by (call.Put id part (putting.OutOfMemory back)) = Err OutOfMemory ∷ []
+added_by (call.EndCopy id part putting.Took) = Ok (record { request = id; part = part }) ∷ []
+added_by (call.EndCopy id part (putting.Gone back)) = Err Closed ∷ []
+added_by (call.EndCopy id part (putting.OutOfMemory back)) = Err OutOfMemory ∷ []
+added_by _ = []
+
+-- all of them, in order
+abbrev pub additions_in : List Deed → List (Result Addition Error)
+additions_in [] = []
+additions_in (a ∷ ds) = added_by a.event ++ additions_in ds
 
 -- a question that was told this, or why it wasn't
 abbrev pub told_as : Stamp → DeskCall → Result Reply DeskFault → List (Result (Asked DeskCall Reply) Error)
@@ -63,9 +85,45 @@ AreGranted [] = Unit {0}
 AreGranted (Ok x ∷ xs) = AreGranted xs
 AreGranted (Err e ∷ xs) = ⊥
 
--- the requests that they booked, in order
+-- the requests that they booked, in order, each by its first part
 abbrev pub requests_in : List Deed → List Request
 requests_in ds = granted (bookings_in ds)
+
+-- the parts that they added, in order
+abbrev pub added_in : List Deed → List Addition
+added_in ds = granted (additions_in ds)
+
+-- what an event adds in front of the parts that are added behind it, up to the next copy that is opened
+abbrev pub parts_with : Event → List (List ℕ) → List (List ℕ)
+parts_with (call.Book stamp part copying (Ok new)) parts = if copying then [] else parts
+parts_with (call.Put id part putting.Took) parts = part ∷ parts
+parts_with (call.EndCopy id part putting.Took) parts = part ∷ parts
+parts_with _ parts = parts
+
+-- the parts that they added before they opened the next copy
+abbrev pub parts_of : List Deed → List (List ℕ)
+parts_of [] = []
+parts_of (a ∷ ds) = parts_with a.event (parts_of ds)
+
+-- what an event books, where these parts are added behind it
+abbrev pub whole_with : Event → List (List ℕ) → List Request → List Request
+whole_with (call.Book stamp part copying (Ok new)) parts rs = record { number = new; booking = record { stamp = stamp; parts = part ∷ (if copying then parts else []) } } ∷ rs
+whole_with _ parts rs = rs
+
+-- The requests that they booked, in order, with all their parts: a part goes to the copy that was opened last.
+abbrev pub whole_in : List Deed → List Request
+whole_in [] = []
+whole_in (a ∷ ds) = whole_with a.event (parts_of ds) (whole_in ds)
+
+-- whether a request that an event books is a copy
+abbrev pub copied_by : Event → List Bool
+copied_by (call.Book stamp part copying (Ok new)) = copying ∷ []
+copied_by _ = []
+
+-- of each of the requests that they booked, in order
+abbrev pub copies_in : List Deed → List Bool
+copies_in [] = []
+copies_in (a ∷ ds) = copied_by a.event ++ copies_in ds
 
 -- what they asked and were told, in order
 abbrev pub asked_in : List Deed → List (Asked DeskCall Reply)

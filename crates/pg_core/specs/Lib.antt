@@ -6,3 +6,4 @@ pub mod Trails
 pub mod Counters
 pub mod Times
 pub mod Behind
+pub mod Copying

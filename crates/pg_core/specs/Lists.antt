@@ -45,6 +45,12 @@ pub record EndsEmpty (ds : List Deed) (id : ℕ) : Type 0 where
   pub before : List Event
   pub last : events_of ds ≡ before ++ call.Take id (Ok taking.Empty) ∷ []
 
+-- there was no room for the last part that these deeds put
+pub record EndsFull (ds : List Deed) (id : ℕ) : Type 0 where
+  pub before : List Event
+  pub part : List ℕ
+  pub last : events_of ds ≡ before ++ call.Put id part (putting.Full part) ∷ []
+
 -- A state that a legal list from the start led to.
 pub record IsReached (s : State) : Type 0 where
   pub statements : ℕ
@@ -52,17 +58,6 @@ pub record IsReached (s : State) : Type 0 where
   pub before : List Event
   pub legal : IsLegal (start statements portals) before
   pub is : s ≡ after_all (start statements portals) before
-
--- an event adds no part to a copy
-abbrev pub AddsNoPart : Event → Type 0
-AddsNoPart (call.Put id part putting.Took) = ⊥
-AddsNoPart (call.EndCopy id part putting.Took) = ⊥
-AddsNoPart _ = Unit {0}
-
--- none of these deeds does
-abbrev pub AddNoParts : List Deed → Type 0
-AddNoParts [] = Unit {0}
-AddNoParts (a ∷ L) = AddsNoPart a.event × AddNoParts L
 
 -- these deeds take nothing of a request
 abbrev pub SparesAll : (request : ℕ) → List Deed → Type 0

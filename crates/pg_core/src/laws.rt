@@ -1,20 +1,22 @@
 //! What the polls of a command come to: its outcome over any desk, and how it unfolds turn by turn over one
 //! legal list of what all did.
 
-ghost use Rattle.std.specs.Prelude.{◌≡◌, ◌<◌, ◌≤◌, ◌⊎◌, ◌==◌, ◌&&◌, [], ◌∷◌, ◌++◌, map, Bool, false, true, List, ℕ, Option, Result, Err, is_some, filter, length};
+ghost use Rattle.std.specs.Prelude.{◌≡◌, ◌<◌, ◌≤◌, ◌⊎◌, ◌==◌, ◌&&◌, [], ◌∷◌, ◌++◌, map, Bool, false, true, List, ℕ, Option, Result, Err, is_some, filter, length, Ok, Some};
+ghost use Rattle.std.specs.List.{list_any};
+ghost use Rattle.pg_core.specs.Copying.{copies};
 ghost use Rattle.pg_core.specs.Counters.{Counts, ToldSo, tells};
-ghost use Rattle.pg_core.specs.Deeds.{Serves, IsNew, got_after, bookings_in, answers_in};
-ghost use Rattle.pg_core.specs.Lists.{AddNoParts, IsApart, IsReached, SparesAll, came_of, events_of, got_of, state_behind};
+ghost use Rattle.pg_core.specs.Deeds.{Serves, IsNew, got_after, additions_in, bookings_in, answers_in};
+ghost use Rattle.pg_core.specs.Lists.{IsApart, IsReached, SparesAll, came_of, events_of, got_of, state_behind};
 ghost use Rattle.pg_core.specs.Outcomes.{LivesSo, asked};
 ghost use Rattle.pg_core.specs.Runs.{At, Holds, IsTidy, ReadsNothing, Comes, of_request, run};
 ghost use Rattle.pg_core.specs.Times.{HangsUpNone, IsCommand, IsOff, IsUpright, LacksMemory, TurnedWell};
-ghost use Rattle.pg_core.specs.Trails.{AllUnder, AreMet, AreNumbered, AreToldIn, AreTurnsOf, BooksSo, CameBy, IsNext, IsRunning, IsTurnOf, Moment, OwnTurn, PollEnds, PollsOn, begun_at, moment_of, point_of, ran_by};
+ghost use Rattle.pg_core.specs.Trails.{AllUnder, AreMet, AreNumbered, AreToldIn, AreTurnsOf, BooksSo, CameBy, HoldsRequests, IsNext, IsRunning, IsTurnOf, Moment, OwnTurn, PollEnds, PollsOn, begun_at, goes_on, moment_of, point_of, ran_by, with_all};
 ghost use Rattle.pg_course.specs.Courses.{Asked, Course, Request, Unfolds, begun_in, nowhere, questions_of, requests_of, Who, stamp_of};
 ghost use Rattle.pg_desk.specs.History.{IsFrontOf, IsLegal, IsSound, State, after_all, ended, kept, received, reply, start};
 ghost use Rattle.pg_faults.specs.declared.error.Error.{Error};
 ghost use Rattle.pg_faults.specs.declared.error.Error.TheVariants.{OutOfMemory};
 ghost use Rattle.pg_core.specs.Behind.{behind};
-ghost use Rattle.pg_query.specs.Dialogue.{Dialogue, Answer, feed};
+ghost use Rattle.pg_query.specs.Dialogue.{Dialogue, Answer, Ask, Finish, HangUp, Put, feed};
 ghost use Rattle.pg_query.specs.Lives.{Deed, Turn, Leads, Lives, deeds};
 ghost use Rattle.pg_query.specs.Meaning.{Place};
 ghost use Rattle.pg_query.specs.Requests.{asks};
@@ -29,7 +31,7 @@ ghost use Rattle.pg_spec.specs.Turns.{IsOwnTurn, delivered_before};
 pub fn one_walk<T>()
     ensures { (came got : ℕ → List RawMessage) (at : Option ℕ) (n : ℕ) (left : List RawMessage) (d : Dialogue T) (id : ℕ) (ds : List Deed) (q : Dialogue T) (end : ℕ) →
         IsTidy d → At at id d → Holds came got at n left → Leads (feed left d) id ds q end → Serves came got ds →
-        Comes came got (run came at n d (bookings_in ds) (answers_in ds)) ds q end }
+        Comes came got (run came at n d (bookings_in ds) (answers_in ds) (additions_in ds)) ds q end }
 {}
 
 /// Any desk gives what its takes gave, where each request that is booked is new.
@@ -66,7 +68,7 @@ pub fn a_poll_is_a_turn<T>()
 pub fn a_trail_unfolds<T>()
     ensures { (tells : List DeskCall → DeskCall → Reply) (course : Course DeskCall Reply) (who : Who) (d : Dialogue T) (m : Moment) (before : List Moment) (a : Result T Error) →
         AreTurnsOf tells course who d (m ∷ before) → AreMet d (m ∷ before) → (ran_by d (m ∷ before)).left ≡ Answer a →
-        Unfolds course who.handle (begun_in nowhere (begun_at m before)) (asked d) (ran_by d (m ∷ before)).requests (ran_by d (m ∷ before)).asked
+        Unfolds course who.handle (begun_in nowhere (begun_at m before)) (asked d) ((ran_by d (m ∷ before)).whole []) (ran_by d (m ∷ before)).asked
         (record { at = point_of m.place (ran_by d (m ∷ before)); answer = a }) }
 {}
 
@@ -101,11 +103,11 @@ pub fn what_came_is_counted()
         delivered_before course.trace place ≡ length (received s.deliveries) → CameBy course place (came_of s) }
 {}
 
-/// The requests of a turn, in a legal list, have the next numbers and bear its stamp. Where it adds no part to a copy, the book grows
-/// by them.
+/// The requests of a turn, in a legal list, have the next numbers and bear its stamp, and the book grows by them and by the parts that
+/// the turn added to copies.
 pub fn requests_of_a_turn<T>()
-    ensures { (who : Who) (turn : ℕ) (d : Dialogue T) (id : ℕ) (ds : List Deed) (q : Dialogue T) (end : ℕ) (s : State) → AllUnder (stamp_of who turn) ds →
-        Leads d id ds q end → AddNoParts ds → IsLegal s (kept (events_of ds)) → BooksSo who turn s ds }
+    ensures { (who : Who) (turn : ℕ) (d : Dialogue T) (id : ℕ) (ds : List Deed) (q : Dialogue T) (end : ℕ) (s : State) → IsReached s → AllUnder (stamp_of who turn) ds →
+        Leads d id ds q end → IsLegal s (kept (events_of ds)) → BooksSo who turn s ds }
 {}
 
 /// What is asked in a turn, in a legal list, is told by what was asked before.
@@ -118,6 +120,21 @@ pub fn questions_of_a_turn()
 pub fn a_request_is_a_command<T>()
     ensures { (stops : Bool) (frame : List ℕ) (reading : List RawMessage → Option (Result T Error)) → ((ms : List RawMessage) → ends_in is_ready ms ≡ true → is_some (reading ms) ≡ true) →
         IsCommand (asks stops frame reading) }
+{}
+
+/// A copy is one that the core takes, whatever its parts are, where its opening and its answer are decided at their ReadyForQuery, and
+/// the server doesn't open it behind one.
+pub fn a_copy_is_a_command<T>()
+    ensures { (opening failing ending : List ℕ) (parts : List (List ℕ)) (opened : List RawMessage → Option (Result (Unit {0}) Error)) (reading : List RawMessage → Option (Result T Error)) →
+        ((ms : List RawMessage) → ends_in is_ready ms ≡ true → is_some (opened ms) ≡ true) → ((ms : List RawMessage) (x : Unit {0}) → list_any is_ready ms ≡ true → opened ms ≡ Some (Ok x) → ⊥) →
+        ((ms : List RawMessage) → ends_in is_ready ms ≡ true → is_some (reading ms) ≡ true) → IsCommand (copies opening failing ending parts opened reading) }
+{}
+
+/// What is no command: a copy that is hung up or answers before it is ended, and one that gets a part behind its end.
+pub fn what_no_copy_does<T>()
+    ensures hung_up { (part : List ℕ) (d : Dialogue T) → IsCommand (Ask true part (HangUp d)) → ⊥ }
+    ensures answered { (part : List ℕ) (r : Result T Error) → IsCommand (Ask true part (Answer r)) → ⊥ }
+    ensures behind_its_end { (part ending more : List ℕ) (left : List Cleanup) (d : Dialogue T) → IsCommand (Ask true part (Finish ending (Put left more d))) → ⊥ }
 {}
 
 /// A command begins upright.
@@ -151,6 +168,14 @@ pub fn a_poll_is_a_turn_of_the_course<T>()
 pub fn own_requests_grow()
     ensures { (who : Who) (turn : ℕ) (book : List Booking) (rs : List Request) → AreNumbered who turn (length book) rs →
         requests_of (book ++ map (λ r. r.booking) rs) who.handle who.command ≡ requests_of book who.handle who.command ++ rs }
+{}
+
+/// A command's requests, in a book that grew by those of its turn and by the parts that it added, are those that its turns name,
+/// with all their parts, whatever parts come later.
+pub fn own_requests_have_their_parts<T>()
+    ensures { (who : Who) (d : Dialogue T) (m : Moment) (before : List Moment) (book : List Booking) → AreNumbered who m.place (length book) (goes_on (ran_by d before) m).requests →
+        HoldsRequests who book (ran_by d before) →
+        HoldsRequests who (with_all (goes_on (ran_by d before) m).added (book ++ map (λ r. r.booking) (goes_on (ran_by d before) m).requests)) (ran_by d (m ∷ before)) }
 {}
 
 /// Bookings of another command leave a command's requests as they are.

@@ -1,0 +1,63 @@
+-- A copy is a command that the core takes.
+use Rattle.std.proofs.Common.{◌≡◌, ℕ, List, [], ◌∷◌, true, Option, Some, None, is_some, Result, Ok, Err, refl}
+use Rattle.std.specs.List.{list_any}
+use Rattle.pg_spec.specs.RawMessages.{RawMessage, is_ready, ends_in}
+use Rattle.pg_faults.specs.declared.error.Error.{Error}
+use Rattle.pg_query.specs.Dialogue.{Finish}
+use Rattle.pg_query.specs.Reading.{reads}
+use Rattle.pg_core.specs.Copying.{copies, once_opened, puts}
+use Rattle.pg_core.specs.Runs.{IsTidy}
+use Rattle.pg_core.specs.Times.{IsCommand, IsFaithful, IsInTime, IsSane, ReadsNo}
+use Rattle.pg_core.proofs.Requests.{in-time-by, reads-so}
+
+module _ {T : Type 0} (failing ending : List ℕ) (parts : List (List ℕ)) (reading : List RawMessage → Option (Result T Error)) (decides : (ms : List RawMessage) → ends_in is_ready ms ≡ true → is_some (reading ms) ≡ true) where
+  tidy-puts : (ps : List (List ℕ)) → IsTidy (puts failing ps (Finish ending (reads true reading)))
+  tidy-puts [] = (reads-so true reading decides).tidy
+  tidy-puts (p ∷ ps) = tidy-puts ps
+
+  sane-puts : (ps : List (List ℕ)) → IsSane true (puts failing ps (Finish ending (reads true reading)))
+  sane-puts [] = (tt, (reads-so true reading decides).sane)
+  sane-puts (p ∷ ps) = (tt, sane-puts ps)
+
+  time-puts : (ps : List (List ℕ)) → IsInTime (puts failing ps (Finish ending (reads true reading)))
+  time-puts [] = (reads-so true reading decides).in_time
+  time-puts (p ∷ ps) = time-puts ps
+
+  faithful-puts : (ps : List (List ℕ)) → IsFaithful (puts failing ps (Finish ending (reads true reading)))
+  faithful-puts [] = (reads-so true reading decides).faithful
+  faithful-puts (p ∷ ps) = faithful-puts ps
+
+  tidy-opened : (o : Option (Result (Unit {0}) Error)) → IsTidy (once_opened failing ending parts reading o)
+  tidy-opened (Some (Ok x)) = tidy-puts parts
+  tidy-opened (Some (Err e)) = (tt, tt)
+  tidy-opened None = (tt, tt)
+
+  sane-opened : (o : Option (Result (Unit {0}) Error)) → IsSane true (once_opened failing ending parts reading o)
+  sane-opened (Some (Ok x)) = sane-puts parts
+  sane-opened (Some (Err e)) = (tt, (tt, tt, tt))
+  sane-opened None = (tt, (tt, tt, tt))
+
+  time-opened : (o : Option (Result (Unit {0}) Error)) → IsInTime (once_opened failing ending parts reading o)
+  time-opened (Some (Ok x)) = time-puts parts
+  time-opened (Some (Err e)) = tt
+  time-opened None = tt
+
+  faithful-opened : (o : Option (Result (Unit {0}) Error)) → IsFaithful (once_opened failing ending parts reading o)
+  faithful-opened (Some (Ok x)) = faithful-puts parts
+  faithful-opened (Some (Err e)) = tt
+  faithful-opened None = tt
+
+  refused-reads : (o : Option (Result (Unit {0}) Error)) → ((x : Unit {0}) → o ≡ Some (Ok x) → ⊥) → ReadsNo (once_opened failing ending parts reading o)
+  refused-reads (Some (Ok x)) not = absurd (not x refl)
+  refused-reads (Some (Err e)) not = tt
+  refused-reads None not = tt
+
+  pub copy-so : (opening : List ℕ) (opened : List RawMessage → Option (Result (Unit {0}) Error)) → ((ms : List RawMessage) → ends_in is_ready ms ≡ true → is_some (opened ms) ≡ true) →
+      ((ms : List RawMessage) (x : Unit {0}) → list_any is_ready ms ≡ true → opened ms ≡ Some (Ok x) → ⊥) → IsCommand (copies opening failing ending parts opened reading)
+  copy-so opening opened opens closed = record {
+    tidy = (tt, λ ms e. tidy-opened (opened ms));
+    nothing = tt;
+    sane = (tt, λ ms e. sane-opened (opened ms));
+    in_time = (in-time-by (λ ms. is_some (opened ms)) opens, λ ms e. (λ any. refused-reads (opened ms) (λ x is. closed ms x any is), time-opened (opened ms)));
+    faithful = λ ms. faithful-opened (opened ms);
+  }
