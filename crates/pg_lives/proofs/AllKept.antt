@@ -4,7 +4,7 @@ use Rattle.std.specs.Prelude.{IsSome, is_some}
 use Rattle.std.specs.Option.{option_and_then}
 use Rattle.std.proofs.lemmas.Bool.{cases_eq, cases_lt}
 use Rattle.std.proofs.lemmas.Bool.Decides.{nat_tests}
-use Rattle.std.proofs.lemmas.List.{length-map, length-set, map-append}
+use Rattle.std.proofs.lemmas.List.{length-append, length-map, length-set, map-append}
 use Rattle.std.proofs.lemmas.Option.{same_Some}
 use Rattle.pg_spec.specs.Book as said
 use Rattle.pg_spec.specs.RawMessages.{RawMessage}
@@ -17,13 +17,14 @@ use Rattle.pg_query.specs.declared.desk_call.Reply.{Reply}
 use Rattle.pg_course.specs.Courses.{Asked, Course, requests_of}
 use Rattle.pg_course.specs.Meanings.{booked_in}
 use Rattle.pg_core.specs.Counters.{Counts, tells}
-use Rattle.pg_core.specs.Deeds.{asked_in, requests_in}
+use Rattle.pg_core.specs.Deeds.{added_in, asked_in, requests_in}
 use Rattle.pg_core.specs.Lists.{SparesAll, events_of}
 use Rattle.pg_core.specs.Times.{HangsUpNone}
 use Rattle.pg_core.specs.Trails.{said_booking}
 use Rattle.pg_core.proofs.Counted.{counts-same}
 use Rattle.pg_core.proofs.Counts.{came-by}
-use Rattle.pg_core.proofs.Owned.{others-questions, others-requests-apart}
+use Rattle.pg_core.proofs.Extended.{all-length}
+use Rattle.pg_core.proofs.Owned.{others-questions}
 use Rattle.pg_core.proofs.Steps.{firm, reached-on}
 use Rattle.pg_turns.proofs.Lists.{set-here, set-there}
 use Rattle.pg_turns.specs.Speeches.{Speech}
@@ -32,7 +33,7 @@ use Rattle.pg_lives.specs.Kept.{AllKept, AreKnown, Does, HandleKept, NoneFrom, N
 use Rattle.pg_lives.proofs.Alone.{is-booked}
 use Rattle.pg_lives.proofs.AskedFirst.{asked-first}
 use Rattle.pg_lives.proofs.HandleTurn.{IsTurnAt, TurnSo}
-use Rattle.pg_lives.proofs.Known.{AreNew, booked-before, booked-now, known-grows, known-later, new-bookings, new-questions, told-more}
+use Rattle.pg_lives.proofs.Known.{AreNew, booked-before, booked-now, booked-parts, known-grows, known-later, known-parts, new-bookings, new-questions, told-more}
 use Rattle.pg_lives.proofs.Numbers.{IsBookedBy, one-owner, reads-booked}
 use Rattle.pg_lives.proofs.Others.{LeavesAlone, others-keep}
 use Rattle.pg_lives.proofs.OwnTurn.{behind_turn}
@@ -57,8 +58,8 @@ reads-apart : {C T A E : Type 0} (speech : Speech C T A E) (course : Course Desk
 reads-apart {C} {T} {A} {E} speech course script other i j g h past more now p q apart k runs l runs' same =
     let x : Runs speech course script i g.own past now p = subst (λ (o : Option (Place T)). Does speech course script i g.own past now o) runs k.does in
     let y : Runs speech course other j h.own more now q = subst (λ (o : Option (Place T)). Does speech course other j h.own more now o) runs' l.does in
-    let a = reads-booked course (record { handle = i; command = length past }) (speech.says g.own x.command) (x.under_way.last ∷ x.under_way.before) now p x.under_way.ready x.under_way.reads in
-    let b = reads-booked course (record { handle = j; command = length more }) (speech.says h.own y.command) (y.under_way.last ∷ y.under_way.before) now q y.under_way.ready y.under_way.reads in
+    let a = reads-booked course (record { handle = i; command = length past }) (speech.says g.own x.command) (x.under_way.last ∷ x.under_way.before) now p x.under_way.ready x.under_way.stands in
+    let b = reads-booked course (record { handle = j; command = length more }) (speech.says h.own y.command) (y.under_way.last ∷ y.under_way.before) now q y.under_way.ready y.under_way.stands in
     apart (one-owner i (length past) j (length more) q.reads (book_of now) (subst (λ (n : ℕ). IsBookedBy i (length past) 0 (book_of now) n) same a) b)
 
 reads-there : {C T A E : Type 0} (speech : Speech C T A E) (course : Course DeskCall Reply) (script : List C) (i : ℕ) (g : HandleState T A E) (past : List (Past A E)) (now : Now) (p : Place T) →
@@ -76,9 +77,10 @@ module _ {C T A E : Type 0} (speech : Speech C T A E) (scripts : List (List C)) 
     none = λ place ge lt own. other (sym own ∙ ap (turn_of course.trace) (let e : place ≡ now.turns = omega (arith, ge, lt) in e) ∙ at.here.own);
     legal = t.legal;
     state = refl;
-    requests = λ p.
-        ap (λ (bs : List said.Booking). requests_of bs j p) t.grows.book
-        ∙ others-requests-apart (record { handle = j; command = p }) (record { handle = i; command = t.place }) now.turns (book_of now) (requests_in ds) (other-handle i j (t.place == p) (λ e. other (sym e))) t.grows.numbered;
+    longer = (let e = ap (λ (bs : List said.Booking). length bs) t.grows.book in
+        let f = all-length (added_in ds) (book_of now ++ map (λ r. r.booking) (requests_in ds)) in
+        let g = length-append (book_of now) (map (λ r. r.booking) (requests_in ds)) in omega (arith, e, f, g));
+    requests = λ p. t.grows.others j p (other-handle i j (t.place == p) (λ e. other (sym e)));
     questions = λ p.
         others-questions tells (record { handle = j; command = p }) (record { handle = i; command = t.place }) now.turns (map (λ a. a.question) now.asked) now.asked (asked_in ds) (other-handle i j (t.place == p) (λ e. other (sym e))) t.grows.told;
   }
@@ -125,14 +127,15 @@ module _ {C T A E : Type 0} (speech : Speech C T A E) (scripts : List (List C)) 
       delivered_before course.trace (booked_in (book_of (behind_turn now ds)) n) ≤ sum_by length (take n course.replies)
   first-asked ahead t n lt =
       subst (λ (bs : List said.Booking). delivered_before course.trace (booked_in bs n) ≤ sum_by length (take n course.replies)) (sym t.grows.book)
-      (by (cases_lt n (length (book_of now))))
+      (subst (λ (turn : ℕ). delivered_before course.trace turn ≤ sum_by length (take n course.replies)) (sym (booked-parts (added_in ds) (book_of now ++ map (λ r. r.booking) (requests_in ds)) n))
+      (by (cases_lt n (length (book_of now)))))
     where
       by : (n < length (book_of now)) ⊎ (length (book_of now) ≤ n) → delivered_before course.trace (booked_in (book_of now ++ map (λ r. r.booking) (requests_in ds)) n) ≤ sum_by length (take n course.replies)
       by (inl before) =
           subst (λ (turn : ℕ). delivered_before course.trace turn ≤ sum_by length (take n course.replies)) (sym (booked-before (book_of now) (map (λ r. r.booking) (requests_in ds)) n before))
           (k.asked_first n before)
       by (inr behind) =
-          let lt' : n < length (book_of now ++ map (λ r. r.booking) (requests_in ds)) = (let e = ap (λ (bs : List said.Booking). length bs) t.grows.book in omega (arith, e, lt)) in
+          let lt' : n < length (book_of now ++ map (λ r. r.booking) (requests_in ds)) = (let e = ap (λ (bs : List said.Booking). length bs) t.grows.book in let f = all-length (added_in ds) (book_of now ++ map (λ r. r.booking) (requests_in ds)) in omega (arith, e, f, lt)) in
           subst (λ (turn : ℕ). delivered_before course.trace turn ≤ sum_by length (take n course.replies))
           (sym (booked-now (record { handle = i; command = t.place }) now.turns (length (book_of now)) (book_of now) (requests_in ds) n t.grows.numbered behind lt'))
           (asked-first course now.turns n now.state later (came-by course now.turns now.state later (firm now.state at.reached [] tt) at.front at.replies at.counted) at.front at.replies at.counted
@@ -147,7 +150,8 @@ module _ {C T A E : Type 0} (speech : Speech C T A E) (scripts : List (List C)) 
     as_many = length-set k.pasts i t.past ∙ k.as_many;
     each = λ j other h past e f g. each-kept old-past past_at t j other h past e f g (cases_eq j i);
     book = subst (λ (bs : List said.Booking). AreKnown scripts (λ b. b.stamp.owner) (λ b. b.stamp.command) (λ b. b.stamp.turn) (suc now.turns) bs) (sym t.grows.book)
-        (known-grows scripts (λ (b : said.Booking). b.stamp.owner) (λ b. b.stamp.command) (λ b. b.stamp.turn) now.turns (book_of now) (map (λ r. r.booking) (requests_in ds)) (new-book t) k.book);
+        (known-parts scripts (suc now.turns) (added_in ds) (book_of now ++ map (λ r. r.booking) (requests_in ds))
+        (known-grows scripts (λ (b : said.Booking). b.stamp.owner) (λ b. b.stamp.command) (λ b. b.stamp.turn) now.turns (book_of now) (map (λ r. r.booking) (requests_in ds)) (new-book t) k.book));
     questions = known-grows scripts (λ (a : Asked DeskCall Reply). a.stamp.owner) (λ a. a.stamp.command) (λ a. a.stamp.turn) now.turns now.asked (asked_in ds) (new-asked t) k.questions;
     told = told-more tells (record { handle = i; command = t.place }) now.turns [] now.asked (asked_in ds) k.told t.grows.told;
     asked_first = first-asked ahead t;
@@ -182,6 +186,7 @@ nobodys-keep {C} {T} {A} {E} speech scripts course now handles L turns a k =
             none = a.none i (get-within scripts i script e);
             legal = a.legal;
             state = refl;
+            longer = (let e = ap (λ (bs : List said.Booking). length bs) same in omega (arith, e));
             requests = λ p. ap (λ (bs : List said.Booking). requests_of bs i p) same;
             questions = λ p. refl;
           })

@@ -14,6 +14,7 @@ use Rattle.pg_query.specs.Dialogue.{Dialogue, Answer}
 use Rattle.pg_query.specs.Lives.{Deed, Leads}
 use Rattle.pg_query.specs.Meaning.{Place}
 use Rattle.pg_query.specs.Scripts.{IsRead}
+use Rattle.pg_core.specs.Runs.{MayWait}
 use Rattle.pg_query.specs.declared.desk_call.DeskCall.{DeskCall}
 use Rattle.pg_query.specs.declared.desk_call.Reply.{Reply}
 use Rattle.pg_query.proofs.RequestLaws.{stays-answered}
@@ -64,6 +65,7 @@ module _ {C T A E : Type 0} (speech : Speech C T A E) (course : Course DeskCall 
   nothing-grows = record {
     numbered = tt;
     book = sym (append-nil (book_of now));
+    others = λ owner command apart. refl;
     told = tt;
     counts = subst (λ (qs : List DeskCall). Counts qs now.state) (sym (append-nil (map (λ a. a.question) now.asked))) at.counts;
   }
@@ -92,7 +94,7 @@ module _ {C T A E : Type 0} (speech : Speech C T A E) (course : Course DeskCall 
 
   waits-kept : (from : Place T) (stamp : Stamp) (ds : List Deed) (q : Place T) (st : Started speech course script handle now old past from) →
       IsPolled course (record { handle = handle; command = length past }) (speech.says old.own st.command) st.trail (free_of past (length past)) now from stamp ds q →
-      IsRead q.dialogue → Grows (record { handle = handle; command = length past }) now ds →
+      MayWait q.dialogue → Grows (record { handle = handle; command = length past }) now ds →
       HandleKept speech course script handle (record { running = Some q; answers = old.answers; own = old.own }) past (behind_turn now ds)
   waits-kept from stamp ds q st p reads g = record {
     answers = k.answers;
@@ -142,7 +144,7 @@ module _ {C T A E : Type 0} (speech : Speech C T A E) (course : Course DeskCall 
             known = inr (st.command, st.stands);
             spares = λ n lt other. st.spares (under_stamp stamp h.pauses.goes.events) h.to.dialogue h.to.reads n legal poll.leads lt other;
             past = past;
-            kept = waits-kept h.from stamp (under_stamp stamp h.pauses.goes.events) h.to st p h.pauses.reads g;
+            kept = waits-kept h.from stamp (under_stamp stamp h.pauses.goes.events) h.to st p (inl h.pauses.reads) g;
             grew = omega arith;
             room = (let w = within in omega (arith, w, many));
           })

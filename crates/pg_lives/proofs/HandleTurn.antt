@@ -3,7 +3,6 @@ use Rattle.std.proofs.Common.{◌≡◌, ◌≢◌, ◌⊎◌, inl, inr, ℕ, �
 use Rattle.std.specs.Prelude.{⊤}
 use Rattle.std.proofs.lemmas.Bool.Decides.{nat_tests}
 use Rattle.std.proofs.lemmas.List.{length-map}
-use Rattle.pg_spec.specs.Book as said
 use Rattle.pg_spec.specs.RawMessages.{RawMessage, groups, sync_of}
 use Rattle.pg_spec.specs.Turns.{IsFirstTurn, IsOwnTurn, delivered_before}
 use Rattle.pg_spec.specs.declared.stamps.Stamp.{Stamp}
@@ -18,12 +17,13 @@ use Rattle.pg_query.specs.declared.desk_call.DeskCall.{DeskCall}
 use Rattle.pg_query.specs.declared.desk_call.Reply.{Reply}
 use Rattle.pg_course.specs.Courses.{Course, questions_of, requests_of, stamp_of}
 use Rattle.pg_core.specs.Counters.{Counts, tells}
-use Rattle.pg_core.specs.Deeds.{asked_in, requests_in}
+use Rattle.pg_core.specs.Deeds.{asked_in}
 use Rattle.pg_core.specs.Lists.{IsReached, SparesAll, came_of, events_of, state_behind}
 use Rattle.pg_core.specs.Times.{HangsUpNone}
 use Rattle.pg_core.specs.Trails.{AllUnder, CameBy, IsNext, Moment, PollEnds}
 use Rattle.pg_core.proofs.Counts.{came-by}
-use Rattle.pg_core.proofs.Owned.{others-questions, others-requests-apart}
+use Rattle.pg_core.proofs.Extended.{holds-none}
+use Rattle.pg_core.proofs.Owned.{others-questions}
 use Rattle.pg_core.proofs.Steps.{firm}
 use Rattle.pg_core.proofs.Upright.{upright-begins}
 use Rattle.pg_turns.specs.Speeches.{AreCommands, Speech}
@@ -76,9 +76,7 @@ apart : (i j k : ℕ) → j ≢ k → ((i == i) && (k == j)) ≡ false
 apart i j k h = ap (λ (b : Bool). b && (k == j)) (same-number i) ∙ other-number k j (λ e. h (sym e))
 
 pub requests-other : (i j k : ℕ) (now : Now) (ds : List Deed) → j ≢ k → Grows (record { handle = i; command = k }) now ds → requests_of (book_of (behind_turn now ds)) i j ≡ requests_of (book_of now) i j
-requests-other i j k now ds h g =
-    ap (λ (b : List said.Booking). requests_of b i j) g.book
-    ∙ others-requests-apart (record { handle = i; command = j }) (record { handle = i; command = k }) now.turns (book_of now) (requests_in ds) (apart i j k h) g.numbered
+requests-other i j k now ds h g = g.others i j (apart i j k h)
 
 pub questions-other : (i j k : ℕ) (now : Now) (ds : List Deed) → j ≢ k → Grows (record { handle = i; command = k }) now ds → questions_of (behind_turn now ds).asked i j ≡ questions_of now.asked i j
 questions-other i j k now ds h g =
@@ -113,7 +111,7 @@ start-begins {C} {T} {A} {E} speech course script handle now later old past from
       ready = record {
         upright = upright-begins (speech.says old.own b.next) now.state from (commands old.own b.next) is at.reached;
         turns = tt;
-        requests = rests.requests;
+        requests = holds-none (record { handle = handle; command = length past }) (book_of now) (speech.says old.own b.next) rests.requests;
         questions = rests.questions;
       };
       next = tt;
@@ -137,7 +135,7 @@ start-runs {C} {T} {A} {E} speech course script handle now old past from k is =
       stands = runs.stands;
       trail = w.last ∷ w.before;
       ready = w.ready;
-      next = (w.latest, λ place gt lt own. w.none_since place (omega (arith, gt)) lt own, w.reads);
+      next = (w.latest, λ place gt lt own. w.none_since place (omega (arith, gt)) lt own, w.stands);
       begins = w.begins;
       spares = λ ds q end n legal l lt other.
           poll-spares course (record { handle = handle; command = length past }) (speech.says old.own runs.command) (free_of past (length past)) now from ds q end n w legal l lt (other from is);

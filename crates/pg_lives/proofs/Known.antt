@@ -1,6 +1,6 @@
 -- Books and lists of questions, as they grow.
-use Rattle.std.proofs.Common.{◌≡◌, ℕ, zero, suc, ◌+◌, ◌-◌, ◌<◌, ◌≤◌, List, [], ◌∷◌, ◌++◌, length, map, Option, option_map, unwrap_or, sym, ap, subst, arith, append_assoc}
-use Rattle.std.specs.Prelude.{IsSome}
+use Rattle.std.proofs.Common.{◌≡◌, ℕ, zero, suc, ◌+◌, ◌-◌, ◌<◌, ◌≤◌, List, [], ◌∷◌, ◌++◌, length, map, Option, option_map, unwrap_or, refl, sym, ap, subst, ◌∙◌, arith, append_assoc}
+use Rattle.std.specs.Prelude.{IsSome, slice_index_or}
 use Rattle.std.proofs.lemmas.List.{append-nil}
 use Rattle.std.proofs.lemmas.List.Elements.{All-nil, All-push, All-weaker}
 use Rattle.std.proofs.lemmas.List.Sorted.{IsNonDecreasingBy-push, IsNonDecreasingBy-short}
@@ -10,7 +10,10 @@ use Rattle.pg_query.specs.declared.desk_call.DeskCall.{DeskCall}
 use Rattle.pg_query.specs.declared.desk_call.Reply.{Reply}
 use Rattle.pg_course.specs.Courses.{Asked, Request, Who}
 use Rattle.pg_course.specs.Meanings.{AreTold, booked_in}
-use Rattle.pg_core.specs.Trails.{AreNumbered, AreToldIn}
+use Rattle.pg_spec.specs.declared.stamps.Stamp.{Stamp}
+use Rattle.pg_core.specs.Deeds.{Addition}
+use Rattle.pg_core.specs.Trails.{AreNumbered, AreToldIn, with_all, with_part}
+use Rattle.pg_core.proofs.Extended.{all-length}
 use Rattle.pg_turns.proofs.Order.Traces.{in_front}
 use Rattle.pg_lives.specs.Kept.{AreKnown}
 
@@ -82,3 +85,38 @@ booked-now who turn n [] (r ∷ rs) zero h ge lt = ap (λ s. s.turn) h.1
 booked-now who turn n [] (r ∷ rs) (suc k) h ge lt = booked-now who turn (n + 1) [] rs k h.2 (omega arith) (omega (arith, lt))
 booked-now who turn n (x ∷ xs) rs zero h ge lt = absurd (omega (arith, ge))
 booked-now who turn n (x ∷ xs) rs (suc k) h ge lt = booked-now who turn n xs rs k h (omega (arith, ge)) (omega (arith, lt))
+
+-- ---- parts of copies
+
+stamp-part : (j : ℕ) (part : List ℕ) (bs : List Booking) (k : ℕ) (d : Booking) → (slice_index_or (with_part j part bs) k d).stamp ≡ (slice_index_or bs k d).stamp
+stamp-part j part [] k d = refl
+stamp-part zero part (b ∷ bs) zero d = refl
+stamp-part zero part (b ∷ bs) (suc k) d = refl
+stamp-part (suc j) part (b ∷ bs) zero d = refl
+stamp-part (suc j) part (b ∷ bs) (suc k) d = stamp-part j part bs k d
+
+stamp-all : (xs : List Addition) (bs : List Booking) (k : ℕ) (d : Booking) → (slice_index_or (with_all xs bs) k d).stamp ≡ (slice_index_or bs k d).stamp
+stamp-all [] bs k d = refl
+stamp-all (a ∷ xs) bs k d = stamp-all xs (with_part a.request a.part bs) k d ∙ stamp-part a.request a.part bs k d
+
+-- a book is as known with more parts
+pub known-parts : {C : Type 0} (scripts : List (List C)) (n : ℕ) (xs : List Addition) (bs : List Booking) → AreKnown scripts (λ (b : Booking). b.stamp.owner) (λ b. b.stamp.command) (λ b. b.stamp.turn) n bs →
+    AreKnown scripts (λ (b : Booking). b.stamp.owner) (λ b. b.stamp.command) (λ b. b.stamp.turn) n (with_all xs bs)
+known-parts {C} scripts n xs bs h = record {
+  known = λ k d lt. subst (λ (s : Stamp). IsSome (entry_at scripts s.owner s.command)) (sym (stamp-all xs bs k d)) (h.known k d (let e = all-length xs bs in omega (arith, e, lt)));
+  in_order = λ i j d le lt.
+      (let a = ap (λ (s : Stamp). s.turn) (stamp-all xs bs i d) in let b = ap (λ (s : Stamp). s.turn) (stamp-all xs bs j d) in
+      let c = h.in_order i j d le (let e = all-length xs bs in omega (arith, e, lt)) in omega (arith, a, b, c));
+  past = λ k d lt. (let a = ap (λ (s : Stamp). s.turn) (stamp-all xs bs k d) in let c = h.past k d (let e = all-length xs bs in omega (arith, e, lt)) in omega (arith, a, c));
+}
+
+turn-part : (j : ℕ) (part : List ℕ) (bs : List Booking) (k : ℕ) → booked_in (with_part j part bs) k ≡ booked_in bs k
+turn-part j part [] k = refl
+turn-part zero part (b ∷ bs) zero = refl
+turn-part zero part (b ∷ bs) (suc k) = refl
+turn-part (suc j) part (b ∷ bs) zero = refl
+turn-part (suc j) part (b ∷ bs) (suc k) = turn-part j part bs k
+
+pub booked-parts : (xs : List Addition) (bs : List Booking) (k : ℕ) → booked_in (with_all xs bs) k ≡ booked_in bs k
+booked-parts [] bs k = refl
+booked-parts (a ∷ xs) bs k = booked-parts xs (with_part a.request a.part bs) k ∙ turn-part a.request a.part bs k

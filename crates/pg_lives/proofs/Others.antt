@@ -12,6 +12,8 @@ use Rattle.pg_query.specs.declared.desk_call.Reply.{Reply}
 use Rattle.pg_course.specs.Courses.{Asked, Course, Request, Unfolds, Who, begun_in, nowhere, questions_of, requests_of}
 use Rattle.pg_core.specs.Lists.{SparesAll, events_of}
 use Rattle.pg_core.specs.Times.{HangsUpNone, IsUpright}
+use Rattle.pg_core.specs.Trails.{ran_by}
+use Rattle.pg_core.proofs.Extended.{holds-as}
 use Rattle.pg_core.proofs.Upright.{upright-others}
 use Rattle.pg_turns.specs.Speeches.{Speech, meaning_of}
 use Rattle.pg_turns.specs.Handles.{HandleState}
@@ -23,6 +25,7 @@ pub record LeavesAlone (course : Course DeskCall Reply) (handle : ℕ) (now : No
   pub none : NoneFrom course handle now.turns later.turns
   pub legal : IsLegal now.state (events_of L)
   pub state : later.state ≡ after_all now.state (events_of L)
+  pub longer : length (book_of now) ≤ length (book_of later)
   pub requests : (j : ℕ) → requests_of (book_of later) handle j ≡ requests_of (book_of now) handle j
   pub questions : (j : ℕ) → questions_of later.asked handle j ≡ questions_of now.asked handle j
 
@@ -41,11 +44,11 @@ under-way-on course who d free now later L p a spares h = record {
   ready = record {
     upright = subst (λ (s : State). IsUpright d (h.last ∷ h.before) s p) (sym a.state) (upright-others d (h.last ∷ h.before) now.state p L h.ready.upright a.legal spares.0 spares.1);
     turns = h.ready.turns;
-    requests = a.requests who.command ∙ h.ready.requests;
+    requests = holds-as who (book_of now) (book_of later) (ran_by d (h.last ∷ h.before)) a.longer (a.requests who.command) h.ready.requests;
     questions = a.questions who.command ∙ h.ready.questions;
   };
   waits = h.waits;
-  reads = h.reads;
+  stands = h.stands;
   latest = (let le = a.turns in let lt = h.latest in omega (arith, le, lt));
   none_since = none-then course who.handle (h.last.place + 1) now.turns later.turns h.none_since a.none;
   begins = h.begins;

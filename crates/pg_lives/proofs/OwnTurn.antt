@@ -1,5 +1,5 @@
 -- A turn of a command: where it leads, in the course of its session.
-use Rattle.std.proofs.Common.{◌≡◌, ◌≢◌, ◌⊎◌, inl, inr, ℕ, suc, List, [], ◌∷◌, ◌++◌, length, map, false, Result, Err, refl, sym, ap, subst, ◌∙◌, arith}
+use Rattle.std.proofs.Common.{◌≡◌, ◌≢◌, ◌⊎◌, ◌==◌, ◌&&◌, inl, inr, ℕ, suc, List, [], ◌∷◌, ◌++◌, length, map, false, Result, Err, refl, sym, ap, subst, ◌∙◌, arith}
 use Rattle.std.proofs.lemmas.List.{length-map}
 use Rattle.std.specs.Prelude.{⊤}
 use Rattle.pg_spec.specs.Book as said
@@ -17,21 +17,22 @@ use Rattle.pg_query.specs.declared.desk_call.DeskCall.{DeskCall}
 use Rattle.pg_query.specs.declared.desk_call.Reply.{Reply}
 use Rattle.pg_course.specs.Courses.{Asked, Course, Request, Unfolds, Who, begun_in, nowhere, questions_of, requests_of, stamp_of}
 use Rattle.pg_core.specs.Counters.{Counts, tells}
-use Rattle.pg_core.specs.Deeds.{asked_in, requests_in}
-use Rattle.pg_core.specs.Lists.{AddNoParts, came_of, events_of, state_behind}
+use Rattle.pg_core.specs.Deeds.{Addition, added_in, asked_in, requests_in}
+use Rattle.pg_core.specs.Lists.{came_of, events_of, state_behind}
 use Rattle.pg_core.specs.Outcomes.{asked}
 use Rattle.pg_core.specs.Times.{AnsweredWell, IsUpright, LackedMemory, StaysUpright, TurnedWell}
-use Rattle.pg_core.specs.Trails.{AllUnder, AreNumbered, AreToldIn, AreTurnsOf, CameBy, IsNext, IsTurnOf, Moment, OwnTurn, PollEnds, begun_at, moment_of, point_of, ran_by, said_booking}
+use Rattle.pg_core.specs.Runs.{IsPut, MayWait}
+use Rattle.pg_core.specs.Trails.{AllUnder, AreNumbered, AreToldIn, AreTurnsOf, BooksSo, CameBy, HoldsRequests, IsNext, IsTurnOf, Moment, OwnTurn, PollEnds, begun_at, goes_on, moment_of, point_of, ran_by, said_booking, with_all}
 use Rattle.pg_core.proofs.Booked.{books-so}
 use Rattle.pg_core.proofs.Counted.{told-so}
-use Rattle.pg_core.proofs.Faithful.{was-whole}
+use Rattle.pg_core.proofs.Extended.{holds-now, holds-on}
 use Rattle.pg_core.proofs.Glued.{glued}
-use Rattle.pg_core.proofs.Gone.{none-gone, none-hung}
-use Rattle.pg_core.proofs.Owned.{own-questions, own-requests}
+use Rattle.pg_core.proofs.Owned.{own-questions}
 use Rattle.pg_core.proofs.Trail.{trail-unfolds}
 use Rattle.pg_core.proofs.Upright.{upright-turn}
 use Rattle.pg_lives.specs.Kept.{IsReady, IsUnderWay, Now, book_of, first_at}
-use Rattle.pg_lives.proofs.StillReads.{still-reads}
+use Rattle.pg_lives.proofs.Numbers.{others-stay}
+use Rattle.pg_lives.proofs.StillReads.{still-waits}
 
 -- what stands behind a turn in which this was done
 abbrev pub behind_turn : Now → List Deed → Now
@@ -56,47 +57,64 @@ pub record IsPolled {T : Type 0} (course : Course DeskCall Reply) (who : Who) (d
   pub counts : Counts (map (λ a. a.question) now.asked) now.state
   pub came : CameBy course now.turns (came_of (state_behind now.state ds))
 
--- the numbers of its requests, and what it was told
+-- the numbers of its requests, what it added and what it was told
 pub record Grows (who : Who) (now : Now) (ds : List Deed) : Type 0 where
   pub numbered : AreNumbered who now.turns (length (book_of now)) (requests_in ds)
-  pub book : book_of (behind_turn now ds) ≡ book_of now ++ map (λ r. r.booking) (requests_in ds)
+  pub book : book_of (behind_turn now ds) ≡ with_all (added_in ds) (book_of now ++ map (λ r. r.booking) (requests_in ds))
+  -- requests of other commands stay as they are
+  pub others : (owner command : ℕ) → ((who.handle == owner) && (who.command == command)) ≡ false → requests_of (book_of (behind_turn now ds)) owner command ≡ requests_of (book_of now) owner command
   pub told : AreToldIn tells who now.turns (map (λ a. a.question) now.asked) (asked_in ds)
   pub counts : Counts (map (λ a. a.question) now.asked ++ map (λ a. a.question) (asked_in ds)) (after_all now.state (events_of ds))
 
-grows : {T : Type 0} (who : Who) (now : Now) (d : Dialogue T) (id : ℕ) (stamp : Stamp) (ds : List Deed) (q : Dialogue T) (end : ℕ) → stamp ≡ stamp_of who now.turns → AllUnder stamp ds → Leads d id ds q end → AddNoParts ds →
-    IsLegal now.state (events_of ds) → Counts (map (λ a. a.question) now.asked) now.state → Grows who now ds
-grows who now d id stamp ds q end same under l none legal counts =
-    let part = stored-part now.state (events_of ds) in
-    let stored = part.legal legal in
-    let b = books-so who now.turns stamp same d id ds q end now.state under l none stored in
-    let t = told-so who now.turns stamp same ds (map (λ a. a.question) now.asked) now.state under stored counts in
-    record {
-      numbered = subst (λ (n : ℕ). AreNumbered who now.turns n (requests_in ds)) (sym (length-map now.state.book said_booking)) b.numbered;
-      book = ap (λ (s : State). map said_booking s.book) (sym part.state) ∙ b.book;
-      told = t.told;
-      counts = subst (λ (s : State). Counts (map (λ a. a.question) now.asked ++ map (λ a. a.question) (asked_in ds)) s) part.state t.counts;
-    }
-
 module _ {T : Type 0} (course : Course DeskCall Reply) (who : Who) (d : Dialogue T) (trail : List Moment) (free : ℕ) (now : Now) (p : Place T) (stamp : Stamp) (ds : List Deed) (q : Place T)
     (h : IsPolled course who d trail free now p stamp ds q) where
-  no-parts : AddNoParts ds
-  no-parts = (none-gone now.state p.dialogue p.reads ds q.dialogue q.reads h.ready.upright.fits (none-hung now.state h.ready.upright.reached) (was-whole now.state (events_of ds) h.open_) h.legal h.leads).no_parts
-
-  pub grew : Grows who now ds
-  grew = grows who now p.dialogue p.reads stamp ds q.dialogue q.reads h.stamped h.under h.leads no-parts h.legal h.counts
-
   turn : OwnTurn d now.turns trail now.state ds q × TurnedWell d (moment_in now ds ∷ trail) (state_behind now.state ds) q
   turn = upright-turn d now.turns trail now.state p ds q h.ready.upright h.leads h.legal h.open_ h.ends
 
   is-turn : IsTurnOf tells course who d trail (length now.state.book) (map (λ a. a.question) now.asked) (moment_in now ds) ⊎ (q.dialogue ≡ Answer (Err OutOfMemory))
   is-turn = glued course who d now.turns trail now.state p ds q stamp (map (λ a. a.question) now.asked) h.ready.upright h.leads h.legal h.open_ h.ends h.stamped h.under h.counts h.here h.next h.came
 
-  requests : requests_of (book_of (behind_turn now ds)) who.handle who.command ≡ (ran_by d (moment_in now ds ∷ trail)).requests
-  requests =
-      ap (λ (b : List said.Booking). requests_of b who.handle who.command) grew.book
-      ∙ own-requests who now.turns (book_of now) (requests_in ds) grew.numbered
-      ∙ ap (λ (rs : List Request). rs ++ requests_in ds) h.ready.requests
-      ∙ ap (λ (rs : List Request). (ran_by d trail).requests ++ rs) (sym turn.0.met.0)
+  books : BooksSo who now.turns now.state ds
+  books = books-so who now.turns stamp h.stamped p.dialogue p.reads ds q.dialogue q.reads now.state h.ready.upright.reached h.under h.leads ((stored-part now.state (events_of ds)).legal h.legal)
+
+  numbered : AreNumbered who now.turns (length (book_of now)) (requests_in ds)
+  numbered = subst (λ (n : ℕ). AreNumbered who now.turns n (requests_in ds)) (sym (length-map now.state.book said_booking)) books.numbered
+
+  grown : book_of (behind_turn now ds) ≡ with_all (added_in ds) (book_of now ++ map (λ r. r.booking) (requests_in ds))
+  grown = ap (λ (s : State). map said_booking s.book) (sym (stored-part now.state (events_of ds)).state) ∙ books.book
+
+  -- what the function says of them
+  said_numbered : AreNumbered who now.turns (length (book_of now)) (goes_on (ran_by d trail) (moment_in now ds)).requests
+  said_numbered = subst (λ (rs : List Request). AreNumbered who now.turns (length (book_of now)) rs) (sym turn.0.met.0) numbered
+
+  abbrev said_book : List said.Booking
+  said_book = with_all (goes_on (ran_by d trail) (moment_in now ds)).added (book_of now ++ map (λ r. r.booking) (goes_on (ran_by d trail) (moment_in now ds)).requests)
+
+  said_grown : book_of (behind_turn now ds) ≡ said_book
+  said_grown =
+      grown ∙ ap (λ (xs : List Addition). with_all xs (book_of now ++ map (λ r. r.booking) (requests_in ds))) (sym turn.0.met.2)
+      ∙ ap (λ (rs : List Request). with_all (goes_on (ran_by d trail) (moment_in now ds)).added (book_of now ++ map (λ r. r.booking) rs)) (sym turn.0.met.0)
+
+  said_holds : HoldsRequests who said_book (ran_by d (moment_in now ds ∷ trail))
+  said_holds = holds-on who d (moment_in now ds) trail (book_of now) said_numbered h.ready.requests
+
+  holds : HoldsRequests who (book_of (behind_turn now ds)) (ran_by d (moment_in now ds ∷ trail))
+  holds = subst (λ (bs : List said.Booking). HoldsRequests who bs (ran_by d (moment_in now ds ∷ trail))) (sym said_grown) said_holds
+
+  pub grew : Grows who now ds
+  grew =
+      let t = told-so who now.turns stamp h.stamped ds (map (λ a. a.question) now.asked) now.state h.under ((stored-part now.state (events_of ds)).legal h.legal) h.counts in
+      record {
+        numbered = numbered;
+        book = grown;
+        others = λ owner command apart. ap (λ (bs : List said.Booking). requests_of bs owner command) said_grown
+            ∙ others-stay who owner command now.turns d (moment_in now ds) trail (book_of now) apart said_numbered said_holds;
+        told = t.told;
+        counts = subst (λ (s : State). Counts (map (λ a. a.question) now.asked ++ map (λ a. a.question) (asked_in ds)) s) (stored-part now.state (events_of ds)).state t.counts;
+      }
+
+  requests : requests_of (book_of (behind_turn now ds)) who.handle who.command ≡ (ran_by d (moment_in now ds ∷ trail)).whole []
+  requests = holds-now who (book_of (behind_turn now ds)) (ran_by d (moment_in now ds ∷ trail)) holds
 
   questions : questions_of (behind_turn now ds).asked who.handle who.command ≡ (ran_by d (moment_in now ds ∷ trail)).asked
   questions =
@@ -114,11 +132,12 @@ module _ {T : Type 0} (course : Course DeskCall Reply) (who : Who) (d : Dialogue
   turns : IsTurnOf tells course who d trail (length now.state.book) (map (λ a. a.question) now.asked) (moment_in now ds) → AreTurnsOf tells course who d (moment_in now ds ∷ trail)
   turns is = (length now.state.book, map (λ a. a.question) now.asked, is, h.ready.turns)
 
-  no-answer : (r : Result T Error) → q.dialogue ≡ Answer r → IsRead q.dialogue → ⊥
-  no-answer r e reads = subst IsRead e reads
+  no-answer : (r : Result T Error) → q.dialogue ≡ Answer r → MayWait q.dialogue → ⊥
+  no-answer r e (inl reads) = subst IsRead e reads
+  no-answer r e (inr puts) = subst IsPut e puts
 
   -- it waits on
-  pub waits-on : IsRead q.dialogue → IsUnderWay course who d free (behind_turn now ds) q
+  pub waits-on : MayWait q.dialogue → IsUnderWay course who d free (behind_turn now ds) q
   waits-on reads = by turn.1 is-turn
     where
       part : state_behind now.state ds ≡ after_all now.state (events_of ds)
@@ -135,11 +154,11 @@ module _ {T : Type 0} (course : Course DeskCall Reply) (who : Who) (d : Dialogue
         ready = record {
           upright = subst (λ (s : State). IsUpright d (moment_in now ds ∷ trail) s q) part upright;
           turns = turns t;
-          requests = requests;
+          requests = holds;
           questions = questions;
         };
         waits = reads;
-        reads = left;
+        stands = left;
         latest = omega arith;
         none_since = λ place from to own. omega (arith, from, to);
         begins = subst (λ (n : ℕ). IsFirstTurn course.trace who.handle free (λ place. ⊤) n) (sym begun) h.begins;
@@ -159,7 +178,7 @@ module _ {T : Type 0} (course : Course DeskCall Reply) (who : Who) (d : Dialogue
           (record { at = point_of now.turns (ran_by d (moment_in now ds ∷ trail)); answer = r })) begun
           (subst (λ (rs : List Request). Unfolds course who.handle (begun_in nowhere (begun_at (moment_in now ds) trail)) (asked d) rs (questions_of (behind_turn now ds).asked who.handle who.command)
           (record { at = point_of now.turns (ran_by d (moment_in now ds ∷ trail)); answer = r })) (sym requests)
-          (subst (λ (qs : List (Asked DeskCall Reply)). Unfolds course who.handle (begun_in nowhere (begun_at (moment_in now ds) trail)) (asked d) (ran_by d (moment_in now ds ∷ trail)).requests qs
+          (subst (λ (qs : List (Asked DeskCall Reply)). Unfolds course who.handle (begun_in nowhere (begun_at (moment_in now ds) trail)) (asked d) ((ran_by d (moment_in now ds ∷ trail)).whole []) qs
           (record { at = point_of now.turns (ran_by d (moment_in now ds ∷ trail)); answer = r })) (sym questions)
           (trail-unfolds tells course who d (moment_in now ds) trail r (turns t) turn.0.met left)))
 
@@ -173,4 +192,4 @@ module _ {T : Type 0} (course : Course DeskCall Reply) (who : Who) (d : Dialogue
       by (LackedMemory e) (inl t) = absurd (lacks e)
       by (AnsweredWell r' e left) (inl t) = so t (left ∙ sym e ∙ is)
       by (StaysUpright upright left) (inl t) =
-          absurd (no-answer r is (still-reads d now.turns trail (state_behind now.state ds) (moment_in now ds).bookings (moment_in now ds).answers q upright.reached upright.runs left))
+          absurd (no-answer r is (still-waits d now.turns trail (state_behind now.state ds) (moment_in now ds).bookings (moment_in now ds).answers (moment_in now ds).additions q upright.reached upright.runs left))

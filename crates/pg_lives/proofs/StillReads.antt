@@ -1,5 +1,5 @@
--- Where a command reads in the equations, it reads at its place too.
-use Rattle.std.proofs.Common.{◌≡◌, ℕ, ◌≤◌, List, [], ◌∷◌, ◌++◌, length, drop, Bool, Option, Some, None, Result, refl, sym, ap, subst, ◌∙◌}
+-- Where a command waits in the equations, it waits at its place too.
+use Rattle.std.proofs.Common.{◌≡◌, inl, inr, ℕ, ◌≤◌, List, [], ◌∷◌, ◌++◌, length, drop, Bool, Option, Some, None, Result, refl, sym, ap, subst, ◌∙◌}
 use Rattle.std.proofs.lemmas.List.{drop-append-le}
 use Rattle.pg_spec.specs.RawMessages.{RawMessage}
 use Rattle.pg_desk.specs.History.{IsFrontOf}
@@ -14,9 +14,10 @@ use Rattle.pg_query.specs.declared.desk_call.DeskCall.{DeskCall}
 use Rattle.pg_query.specs.declared.desk_call.Reply.{Reply}
 use Rattle.pg_course.specs.Courses.{Asked, Request}
 use Rattle.pg_core.specs.Lists.{IsReached, came_of, got_of}
-use Rattle.pg_core.specs.Runs.{of_request, run}
+use Rattle.pg_core.specs.Deeds.{Addition}
+use Rattle.pg_core.specs.Runs.{IsPut, MayWait, of_request, run}
 use Rattle.pg_core.specs.Trails.{IsRunning, Moment, ran_by}
-use Rattle.pg_core.proofs.Fed.{fed, read_so, still-decides}
+use Rattle.pg_core.proofs.Fed.{fed, feed-put, read_so, still-decides}
 use Rattle.pg_core.proofs.Steps.{taken-within}
 use Rattle.pg_core.proofs.Timely.{IsUndecided, undecided}
 
@@ -61,13 +62,27 @@ undecided-by came at n (HangUp d) h = tt
 undecided-by came at n (Call q refused next) h = tt
 undecided-by came at n (Hear next) h = tt
 
+waits-fed : {T : Type 0} (d : Dialogue T) (got came : List RawMessage) (n : ℕ) → n ≤ length got → IsFrontOf got came → MayWait d → IsUndecidedBy d (drop n came) → MayWait (feed (drop n got) d)
+waits-fed d got came n le front (inl reads) none = inl (reads-fed d got came n le front reads none)
+waits-fed {T} (Put cleanup part d) got came n le front (inr puts) none = inr (subst (λ (x : Dialogue T). IsPut x) (sym (feed-put (drop n got) cleanup part d)) tt)
+waits-fed (Read cleanup decides next) got came n le front (inr puts) none = absurd puts
+waits-fed (Answer r) got came n le front (inr puts) none = absurd puts
+waits-fed (Ask copying part d) got came n le front (inr puts) none = absurd puts
+waits-fed (Send part refused d) got came n le front (inr puts) none = absurd puts
+waits-fed (Leave id d) got came n le front (inr puts) none = absurd puts
+waits-fed (Finish part d) got came n le front (inr puts) none = absurd puts
+waits-fed (Close part d) got came n le front (inr puts) none = absurd puts
+waits-fed (HangUp d) got came n le front (inr puts) none = absurd puts
+waits-fed (Call q refused next) got came n le front (inr puts) none = absurd puts
+waits-fed (Hear next) got came n le front (inr puts) none = absurd puts
+
 -- behind a turn of its own, in the state that this led to
-pub still-reads : {T : Type 0} (d : Dialogue T) (place : ℕ) (trail : List Moment) (t : State) (bs : List (Result Request Error)) (qs : List (Result (Asked DeskCall Reply) Error)) (q : Place T) →
-    IsReached t → IsRunning d (record { place = place; came = came_of t; bookings = bs; answers = qs } ∷ trail) (got_of t) q →
-    IsRead (ran_by d (record { place = place; came = came_of t; bookings = bs; answers = qs } ∷ trail)).left → IsRead q.dialogue
-still-reads {T} d place trail t bs qs q reached runs reads =
+pub still-waits : {T : Type 0} (d : Dialogue T) (place : ℕ) (trail : List Moment) (t : State) (bs : List (Result Request Error)) (qs : List (Result (Asked DeskCall Reply) Error)) (ps : List (Result Addition Error)) (q : Place T) →
+    IsReached t → IsRunning d (record { place = place; came = came_of t; bookings = bs; answers = qs; additions = ps } ∷ trail) (got_of t) q →
+    MayWait (ran_by d (record { place = place; came = came_of t; bookings = bs; answers = qs; additions = ps } ∷ trail)).left → MayWait q.dialogue
+still-waits {T} d place trail t bs qs ps q reached runs waits =
     let s = ran_by d trail in
-    let r = run (came_of t) s.at s.read s.left bs qs in
-    subst IsRead (sym runs.place)
-    (reads-fed r.left (of_request (got_of t) r.at) (of_request (came_of t) r.at) r.read runs.within (taken-within t [] r.at reached) reads
-    (undecided-by (came_of t) r.at r.read r.left (undecided (came_of t) s.at s.read s.left bs qs)))
+    let r = run (came_of t) s.at s.read s.left bs qs ps in
+    subst (λ (x : Dialogue T). MayWait x) (sym runs.place)
+    (waits-fed r.left (of_request (got_of t) r.at) (of_request (came_of t) r.at) r.read runs.within (taken-within t [] r.at reached) waits
+    (undecided-by (came_of t) r.at r.read r.left (undecided (came_of t) s.at s.read s.left bs qs ps)))

@@ -7,7 +7,6 @@ use Rattle.pg_spec.specs.Turns.{Times, delivered_before, entry_at, turn_of, IsFi
 use Rattle.pg_desk.specs.History.{State}
 use Rattle.pg_query.specs.Dialogue.{Dialogue}
 use Rattle.pg_query.specs.Meaning.{Place}
-use Rattle.pg_query.specs.Scripts.{IsRead}
 use Rattle.pg_query.specs.declared.desk_call.DeskCall.{DeskCall}
 use Rattle.pg_query.specs.declared.desk_call.Reply.{Reply}
 use Rattle.pg_course.specs.Courses.{Asked, Course, Point, Who, Unfolds, begun_in, nowhere, requests_of, questions_of}
@@ -15,7 +14,8 @@ use Rattle.pg_course.specs.Meanings.{AreTold, Ending, booked_in}
 use Rattle.pg_core.specs.Counters.{Counts, tells}
 use Rattle.pg_core.specs.Lists.{IsReached}
 use Rattle.pg_core.specs.Times.{IsUpright}
-use Rattle.pg_core.specs.Trails.{Moment, AreTurnsOf, begun_at, ran_by, said_booking}
+use Rattle.pg_core.specs.Runs.{MayWait}
+use Rattle.pg_core.specs.Trails.{HoldsRequests, Moment, AreTurnsOf, begun_at, ran_by, said_booking}
 use Rattle.pg_turns.specs.Speeches.{Speech, meaning_of}
 use Rattle.pg_turns.specs.Handles.{HandleState}
 
@@ -57,7 +57,7 @@ first_at turn (m ∷ before) = begun_at m before
 pub record IsReady {T : Type 0} (course : Course DeskCall Reply) (who : Who) (d : Dialogue T) (trail : List Moment) (now : Now) (p : Place T) : Type 0 where
   pub upright : IsUpright d trail now.state p
   pub turns : AreTurnsOf tells course who d trail
-  pub requests : requests_of (book_of now) who.handle who.command ≡ (ran_by d trail).requests
+  pub requests : HoldsRequests who (book_of now) (ran_by d trail)
   pub questions : questions_of now.asked who.handle who.command ≡ (ran_by d trail).asked
 
 -- A command that runs: it had turns, the last of which is its handle's last.
@@ -65,8 +65,8 @@ pub record IsUnderWay {T : Type 0} (course : Course DeskCall Reply) (who : Who) 
   pub last : Moment
   pub before : List Moment
   pub ready : IsReady course who d (last ∷ before) now p
-  pub waits : IsRead p.dialogue
-  pub reads : IsRead (ran_by d (last ∷ before)).left
+  pub waits : MayWait p.dialogue
+  pub stands : MayWait (ran_by d (last ∷ before)).left
   pub latest : last.place < now.turns
   pub none_since : NoneFrom course who.handle (last.place + 1) now.turns
   pub begins : IsFirstTurn course.trace who.handle free (λ place. ⊤) (begun_at last before)
