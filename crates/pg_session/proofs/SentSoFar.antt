@@ -48,7 +48,7 @@ use Rattle.pg_startup.specs.Startups.{Failed}
 use Rattle.pg_startup.specs.declared.startup.Startup.{Startup}
 use Rattle.pg_turns.specs.Calls.{asked_in_all, calls_in}
 use Rattle.pg_turns.specs.Sessions.{IsNewSession, MakesAll}
-use Rattle.pg_turns.specs.Speeches.{AreCommands, EndsAlone, Speech, meaning_of}
+use Rattle.pg_turns.specs.Speeches.{AreCommands, BookWhole, EndsAlone, Speech, meaning_of}
 use Rattle.pg_turns.specs.States.{SessionState}
 use Rattle.pg_lives.specs.Kept.{Now, book_of}
 use Rattle.pg_lives.specs.SessionKept.{SessionKept}
@@ -188,7 +188,7 @@ module _ {C T A E : Type 0} (speech : Speech C T A E) where
       }
 
   -- what the session did by these turns, of which this came, and more
-  module _ (commands : AreCommands speech) (scripts : List (List C)) (turns : List ℕ) (new : SessionState T A E) (l : LinkView) (s : SessionState T A E) (m : LinkView) (is_new : IsNewSession speech scripts new)
+  module _ (commands : AreCommands speech) (books : BookWhole speech) (scripts : List (List C)) (turns : List ℕ) (new : SessionState T A E) (l : LinkView) (s : SessionState T A E) (m : LinkView) (is_new : IsNewSession speech scripts new)
       (active : new.streams.closing ≡ false) (none : new.streams.delivered ≡ 0) (made : MakesAll speech scripts turns new l s m)
       (first : List RawMessage) (base : LinkView) (came : CameSo first base m s.streams (delivered_by (calls_in speech scripts turns new l s m made))) (counted : s.streams.given < 2 ^ 64) where
     abbrev pub asks : List (Asked DeskCall Reply)
@@ -234,7 +234,7 @@ module _ {C T A E : Type 0} (speech : Speech C T A E) where
         let now : Now = record { turns = length s.trace; asked = asks; state = k.state } in
         let same : book_of now ≡ map said_booking s.hub.book = ap (map said_booking) (sym k.fits.book) in
         subst (λ (bs : List said.Booking). InScriptOrder (meaning_of speech) scripts (record { trace = []; book = bs; replies = groups (came.passed ++ others); asked = asks })) same
-        (in-script-order speech commands scripts course now s.handles k.all k.many
+        (in-script-order speech commands books scripts course now s.handles k.all k.many
         (subst (λ (bs : List said.Booking). sent.AllButLastEnded bs) (sym same) (all-but-last (map said_booking s.hub.book) ended)))
 
     -- what was sent by then

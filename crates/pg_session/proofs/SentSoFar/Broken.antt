@@ -100,7 +100,7 @@ module _ {C T A E : Type 0} (speech : Speech C T A E) (commands : AreCommands sp
     -- what was given and taken by then, or by a step more
     by-then : (l : LinkView) (c : CameOn opened.read call.before l came.passed) (taken : List ℕ) → IsFront taken (opening ++ said.wire (map said_booking s.hub.book) ++ terminate_frame) → SentSo settings c.got taken
     by-then l c taken front =
-        sent-by speech commands call.scripts turns new link s m is_new is_fresh.active is_fresh.delivered made opened.read call.before came counted
+        sent-by speech commands whole call.scripts turns new link s m is_new is_fresh.active is_fresh.delivered made opened.read call.before came counted
         call settings opening c.got taken c.others refl plain done c.are asks front
 
     -- where nothing moved
@@ -220,7 +220,7 @@ module _ {C T A E : Type 0} (speech : Speech C T A E) (commands : AreCommands sp
     kept-paused before after out =
         let turns = out.turns ++ numbers (length call.scripts + 1) in
         let made = all-made speech lets whole (apart call) settings call.scripts e means b limit out in
-        none-kept speech commands call settings b.opening b.opened.read b.new b.link turns b.is_new b.fresh.active b.fresh.delivered out.state out.link out.last out.passed made before after means
+        none-kept speech commands whole call settings b.opening b.opened.read b.new b.link turns b.is_new b.fresh.active b.fresh.delivered out.state out.link out.last out.passed made before after means
         (done-last speech lets whole (apart call) settings call.scripts e means b limit)
         (open-last speech lets whole (apart call) settings call.scripts e means b limit out.turns out.state out.link out.before).keeps
         (stood-last speech lets whole (apart call) settings call.scripts e means b limit turns out.last out.passed made)

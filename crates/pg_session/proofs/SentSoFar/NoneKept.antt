@@ -1,5 +1,5 @@
 -- Where a session stalls, as many requests were sent whole as scripts hold a command.
-use Rattle.std.proofs.Common.{◌≡◌, ◌<◌, ◌≤◌, ◌+◌, ◌^◌, ℕ, zero, suc, List, [], ◌∷◌, ◌++◌, length, Bool, true, false, cond, ◌&&◌, ◌==◌, if◌then◌else◌, nat_lt, Option, Some, Result, Ok, Err, refl, sym, ap, subst, ◌∙◌, arith, slice_get}
+use Rattle.std.proofs.Common.{◌≡◌, inl, inr, ◌<◌, ◌≤◌, ◌+◌, ◌^◌, ℕ, zero, suc, List, [], ◌∷◌, ◌++◌, length, Bool, true, false, cond, ◌&&◌, ◌==◌, if◌then◌else◌, nat_lt, Option, Some, Result, Ok, Err, refl, sym, ap, subst, ◌∙◌, arith, slice_get}
 use Rattle.std.specs.Prelude.{All, count_by, filter}
 use Rattle.std.proofs.lemmas.Bool.Decides.{nat_tests}
 use Rattle.std.proofs.lemmas.List.{length-map}
@@ -25,15 +25,15 @@ use Rattle.pg_desk.specs.History.{State, start, after_all, wire}
 use Rattle.pg_desk.specs.declared.event.Event.{Event}
 use Rattle.pg_query.specs.Dialogue as code
 use Rattle.pg_query.specs.Meaning.{Place}
-use Rattle.pg_query.specs.Scripts.{IsRead}
 use Rattle.pg_query.specs.declared.desk_call.DeskCall.{DeskCall}
 use Rattle.pg_query.specs.declared.desk_call.Reply.{Reply}
 use Rattle.pg_core.specs.Counters.{tells}
 use Rattle.pg_core.specs.Deeds.{AreGranted}
 use Rattle.pg_core.specs.Outcomes.{asked}
-use Rattle.pg_core.specs.Runs.{ReadsNothing, run}
+use Rattle.pg_core.specs.Runs.{MayWait, ReadsNothing, run}
 use Rattle.pg_core.specs.Times.{IsSane}
 use Rattle.pg_core.specs.Trails.{AreTurnsOf, Moment, goes_on, ran_by, said_booking}
+use Rattle.pg_core.proofs.Extended.{holds-now}
 use Rattle.pg_wire.specs.LinkCalls.{Keeps}
 use Rattle.pg_connect.specs.Answers.{fresh, left_open}
 use Rattle.pg_connect.specs.Faults.{error_of}
@@ -47,7 +47,7 @@ use Rattle.pg_startup.specs.declared.startup.Startup.{Startup}
 use Rattle.pg_turns.specs.Calls.{calls_in}
 use Rattle.pg_turns.specs.Handles.{HandleState}
 use Rattle.pg_turns.specs.Sessions.{IsNewSession, MakesAll}
-use Rattle.pg_turns.specs.Speeches.{AreCommands, Speech, meaning_of}
+use Rattle.pg_turns.specs.Speeches.{AreCommands, BookWhole, Speech, meaning_of}
 use Rattle.pg_turns.specs.States.{SessionState}
 use Rattle.pg_lives.specs.Kept.{Does, HandleKept, Now, Past, Runs, book_of}
 use Rattle.pg_lives.proofs.Session.{past-there}
@@ -58,6 +58,7 @@ use Rattle.pg_session.proofs.Caused.Start.{of_grown}
 use Rattle.pg_session.proofs.Crossing.Chain.{StoodIn}
 use Rattle.pg_session.proofs.LivesLink.{CameSo}
 use Rattle.pg_session.proofs.Opening.{IsDone}
+use Rattle.pg_session.proofs.SentSoFar.UnderWay.{one-part-each}
 use Rattle.pg_session.proofs.Quiet.Handles.{IsQuiet, Done as AllDone, Awaits}
 use Rattle.pg_session.proofs.Quiet.Polls.{none-moved}
 use Rattle.pg_session.proofs.Quiet.{QuietRound}
@@ -155,7 +156,7 @@ abbrev IsAsk : {T : Type 0} → code.Dialogue T → Type 0
 IsAsk (code.Ask copying part d) = Unit {0}
 IsAsk other = ⊥
 
-asks-first : {T B : Type 0} (d : code.Dialogue T) (f : Result T Error → B) → IsSane d → ReadsNothing d → BeginsWithRequest (behind (asked d) (λ r. Answers (f r))) → IsAsk d
+asks-first : {T B : Type 0} (d : code.Dialogue T) (f : Result T Error → B) → IsSane false d → ReadsNothing d → BeginsWithRequest (behind (asked d) (λ r. Answers (f r))) → IsAsk d
 asks-first (code.Answer r) f sane nothing begins = absurd begins
 asks-first (code.Ask copying part d) f sane nothing begins = tt
 asks-first (code.Send part refused d) f sane nothing begins = absurd begins
@@ -169,10 +170,10 @@ asks-first (code.Call q refused next) f sane nothing begins = absurd begins
 asks-first (code.Hear next) f sane nothing begins = absurd nothing
 
 -- a turn in which it booked nothing left it where it was
-none-booked : {T : Type 0} (m : Moment) (at : Option ℕ) (n : ℕ) (d : code.Dialogue T) → IsAsk d → AreGranted m.bookings → (run m.came at n d m.bookings m.answers).requests ≡ [] → IsAsk (run m.came at n d m.bookings m.answers).left
+none-booked : {T : Type 0} (m : Moment) (at : Option ℕ) (n : ℕ) (d : code.Dialogue T) → IsAsk d → AreGranted m.bookings → (run m.came at n d m.bookings m.answers m.additions).requests ≡ [] → IsAsk (run m.came at n d m.bookings m.answers m.additions).left
 none-booked {T} m at n (code.Ask copying part d) is granted none = by m.bookings granted none
   where
-    by : (bs : List (Result Request Error)) → AreGranted bs → (run m.came at n (code.Ask copying part d) bs m.answers).requests ≡ [] → IsAsk (run m.came at n (code.Ask copying part d) bs m.answers).left
+    by : (bs : List (Result Request Error)) → AreGranted bs → (run m.came at n (code.Ask copying part d) bs m.answers m.additions).requests ≡ [] → IsAsk (run m.came at n (code.Ask copying part d) bs m.answers m.additions).left
     by [] granted none = tt
     by (Ok r ∷ bs) granted none = absurd (omega (arith, ap length none))
     by (Err e ∷ bs) granted none = absurd granted
@@ -198,18 +199,19 @@ still-asks course who d (m ∷ before) is (number, former, t, ts) none =
     let none-of-both = both-none s.requests (goes_on s m).requests none in
     none-booked m s.at s.read s.left (still-asks course who d before is ts none-of-both.0) t.booked none-of-both.1
 
-never-read : {T : Type 0} (d : code.Dialogue T) → IsAsk d → IsRead d → ⊥
-never-read (code.Ask copying part d) is reads = reads
-never-read (code.Answer r) is reads = is
-never-read (code.Send part refused d) is reads = is
-never-read (code.Leave id d) is reads = is
-never-read (code.Read cleanup decides next) is reads = is
-never-read (code.Put cleanup part d) is reads = is
-never-read (code.Finish part d) is reads = is
-never-read (code.Close part d) is reads = is
-never-read (code.HangUp d) is reads = is
-never-read (code.Call q refused next) is reads = is
-never-read (code.Hear next) is reads = is
+never-waits : {T : Type 0} (d : code.Dialogue T) → IsAsk d → MayWait d → ⊥
+never-waits (code.Ask copying part d) is (inl reads) = reads
+never-waits (code.Ask copying part d) is (inr puts) = puts
+never-waits (code.Answer r) is waits = is
+never-waits (code.Send part refused d) is waits = is
+never-waits (code.Leave id d) is waits = is
+never-waits (code.Read cleanup decides next) is waits = is
+never-waits (code.Put cleanup part d) is waits = is
+never-waits (code.Finish part d) is waits = is
+never-waits (code.Close part d) is waits = is
+never-waits (code.HangUp d) is waits = is
+never-waits (code.Call q refused next) is waits = is
+never-waits (code.Hear next) is waits = is
 
 some-or-none : {X : Type 0} (xs : List X) → (xs ≡ [] → ⊥) → 1 ≤ length xs
 some-or-none [] h = absurd (h refl)
@@ -261,7 +263,7 @@ module _ {C T A E : Type 0} (speech : Speech C T A E) where
 
   -- ---- where the session stalls behind its startup
 
-  module _ (commands : AreCommands speech) where
+  module _ (commands : AreCommands speech) (books : BookWhole speech) where
     -- one that runs booked a request
     runs-asked : (course : Course DeskCall Reply) (script : List C) (i : ℕ) (own_state : E) (past : List (Past A E)) (now : Now) (p : Place T) (c : C) → past ≡ [] → slice_get script 0 ≡ Some c → AsksAtOnce (meaning_of speech) c →
         Runs speech course script i own_state past now p → 1 ≤ length (requests_of (book_of now) i 0)
@@ -274,8 +276,10 @@ module _ {C T A E : Type 0} (speech : Speech C T A E) where
         let k = commands own_state runs.command in
         let first = asks-first d (speech.ends own_state runs.command) k.sane k.nothing (subst (λ (x : C). BeginsWithRequest ((meaning_of speech).asks own_state x)) (sym same) (at_once.begins own_state)) in
         let some : 1 ≤ length (requests_of (book_of now) i (length past)) =
-        some-or-none (requests_of (book_of now) i (length past)) (λ empty. never-read (ran_by d (u.last ∷ u.before)).left
-        (still-asks course who d (u.last ∷ u.before) first u.ready.turns (sym u.ready.requests ∙ empty)) u.reads) in
+        some-or-none (requests_of (book_of now) i (length past)) (λ empty. never-waits (ran_by d (u.last ∷ u.before)).left
+        (still-asks course who d (u.last ∷ u.before) first u.ready.turns
+        (sym (one-part-each course who d (books own_state runs.command) (u.last ∷ u.before) u.ready.turns u.ready.upright.runs.met)
+        ∙ sym (holds-now who (book_of now) (ran_by d (u.last ∷ u.before)) u.ready.requests) ∙ empty)) u.stands) in
         subst (λ (n : ℕ). 1 ≤ length (requests_of (book_of now) i n)) none-yet some
 
     -- so the first command of a script did
@@ -315,8 +319,8 @@ module _ {C T A E : Type 0} (speech : Speech C T A E) where
         let tame = tame-in st t.hub q.reached.fits whole.hub.tame in
         let now = after_all (start 0 0) h.events in
         let out = quiet-out st goes.events tame.ended goes.calls (none-moved q.hub t.hub s.streams t.streams l m _ false q.polled q.unmoved) (goes.became.stands st q.before).0 settled.none_left settled.not_over in
-        let k = kept-by speech commands call.scripts turns new link t m is_new active none made first call.before came low [] in
-        let so : Now = record { turns = length t.trace; asked = asks speech commands call.scripts turns new link t m is_new active none made first call.before came low; state = k.state } in
+        let k = kept-by speech commands books call.scripts turns new link t m is_new active none made first call.before came low [] in
+        let so : Now = record { turns = length t.trace; asked = asks speech commands books call.scripts turns new link t m is_new active none made first call.before came low; state = k.state } in
         let many : count_by is_some_script call.scripts ≤ later 0 (book_of so) =
         one-each 0 call.scripts (book_of so) (λ i script at some.
         let handle = past-there call.scripts t.handles i script k.many at in

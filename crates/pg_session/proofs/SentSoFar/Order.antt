@@ -25,12 +25,13 @@ use Rattle.pg_core.specs.Outcomes.{asked, met_by}
 use Rattle.pg_core.specs.Trails.{AreMet, AreNumbered, AreToldIn, AreTurnsOf, Moment, begun_at, goes_on, ran_by}
 use Rattle.pg_failed.specs.Sent.{AllButLastEnded, AskedInOrder, HasEnded, InScriptOrder, IsUnderWay, is_ended, outcome_in}
 use Rattle.pg_turns.specs.Handles.{HandleState}
-use Rattle.pg_turns.specs.Speeches.{AreCommands, Speech, meaning_of}
+use Rattle.pg_turns.specs.Speeches.{AreCommands, BookWhole, Speech, meaning_of}
 use Rattle.pg_lives.specs.Kept as kept
 use Rattle.pg_lives.specs.Kept.{AllKept, Does, HandleKept, HasDone, Now, Past, book_of, free_of, states_of}
 use Rattle.pg_lives.proofs.Session.{past-there}
 use Rattle.pg_session.proofs.SentSoFar.Outcomes.{asks-nothing, in_words, words-alone}
-use Rattle.pg_session.proofs.SentSoFar.UnderWay.{as-far}
+use Rattle.pg_core.proofs.Extended.{holds-now}
+use Rattle.pg_session.proofs.SentSoFar.UnderWay.{as-far, one-part-each}
 
 -- ---- in which turns a command acts
 
@@ -113,12 +114,12 @@ record ActsSince {T : Type 0} (d : code.Dialogue T) (m : Moment) (before : List 
   told : Since (λ a. a.stamp.turn) (begun_at m before) (ran_by d (m ∷ before)).asked
 
 acts-since : {T : Type 0} (course : Course DeskCall Reply) (who : Who) (d : code.Dialogue T) (m : Moment) (before : List Moment) → AreTurnsOf tells course who d (m ∷ before) → AreMet d (m ∷ before) → ActsSince d m before
-acts-since course who d m [] (number, former, t, ts) (requests, same, met) = record {
+acts-since course who d m [] (number, former, t, ts) (requests, same, added, met) = record {
   rises = omega arith;
   booked = subst (λ (l : List Request). Since (λ r. r.booking.stamp.turn) m.place l) (sym requests) (since-booked who m.place m.place number _ (omega arith) t.numbered);
   told = subst (λ (l : List (Asked DeskCall Reply)). Since (λ a. a.stamp.turn) m.place l) (sym same) (since-told who m.place m.place former _ (omega arith) t.told);
 }
-acts-since course who d m (n ∷ before) (number, former, t, ts) (requests, same, met) =
+acts-since course who d m (n ∷ before) (number, former, t, ts) (requests, same, added, met) =
     let rest = acts-since course who d n before ts met in
     let s = ran_by d (n ∷ before) in
     let r = goes_on s m in
@@ -212,7 +213,7 @@ drop-next {X} (x ∷ xs) (suc i) y ys e =
 
 -- ---- a script
 
-module _ {C T A E : Type 0} (speech : Speech C T A E) (commands : AreCommands speech) (course : Course DeskCall Reply) (now : Now) where
+module _ {C T A E : Type 0} (speech : Speech C T A E) (commands : AreCommands speech) (whole : BookWhole speech) (course : Course DeskCall Reply) (now : Now) where
   -- what the session did so far, without its turns
   abbrev pub so_far : Course DeskCall Reply
   so_far = record { trace = []; book = book_of now; replies = course.replies; asked = now.asked }
@@ -241,20 +242,29 @@ module _ {C T A E : Type 0} (speech : Speech C T A E) (commands : AreCommands sp
           none_before = ap (λ (o : Outcome DeskCall (Ending A E)). o.parts) is;
         }
 
+    -- the requests of one that runs
+    runs-booked : (own : E) (c : C) (p : Place T) (u : kept.IsUnderWay course (record { handle = handle; command = length past }) (speech.says own c) (free_of past (length past)) now p) →
+        requests (length past) ≡ (ran_by (speech.says own c) (u.last ∷ u.before)).requests
+    runs-booked own c p u =
+        let who : Who = record { handle = handle; command = length past } in
+        let d = speech.says own c in
+        holds-now who (book_of now) (ran_by d (u.last ∷ u.before)) u.ready.requests ∙ one-part-each course who d (whole own c) (u.last ∷ u.before) u.ready.turns u.ready.upright.runs.met
+
     -- one that runs
     runs : (own : E) (c : C) (p : Place T) → kept.IsUnderWay course (record { handle = handle; command = length past }) (speech.says own c) (free_of past (length past)) now p →
         IsUnderWay so_far handle (length past) (comes-of (length past) own c)
     runs own c p u =
         let d = speech.says own c in
         let s = ran_by d (u.last ∷ u.before) in
-        let f = as-far course (record { handle = handle; command = length past }) d (commands own c).faithful (u.last ∷ u.before) u.ready.turns u.ready.upright.runs.met in
+        let booked : requests (length past) ≡ s.requests = runs-booked own c p u in
+        let f = as-far course (record { handle = handle; command = length past }) d (whole own c) (u.last ∷ u.before) u.ready.turns u.ready.upright.runs.met in
         let is : comes-of (length past) own c ≡ in_words (speech.ends own c) (outcome (asked d) (met_by (λ n. reply_to course (Some n)) s.requests s.asked) []) =
-        ap (λ (rs : List Request). outcome_of ((meaning_of speech).asks own c) (met_in so_far rs (questions (length past)))) u.ready.requests
+        ap (λ (rs : List Request). outcome_of ((meaning_of speech).asks own c) (met_in so_far rs (questions (length past)))) booked
         ∙ ap (λ (qs : List (Asked DeskCall Reply)). outcome_of ((meaning_of speech).asks own c) (met_in so_far s.requests qs)) u.ready.questions
         ∙ words-alone (asked d) (speech.ends own c) (met_by (λ n. reply_to course (Some n)) s.requests s.asked) [] in
         record {
           more = f.more;
-          requests = ap (λ (rs : List Request). map (λ r. r.booking.parts) rs ++ f.more) u.ready.requests ∙ f.requests ∙ sym (ap (λ (o : Outcome DeskCall (Ending A E)). o.requests) is);
+          requests = ap (λ (rs : List Request). map (λ r. r.booking.parts) rs ++ f.more) booked ∙ f.requests ∙ sym (ap (λ (o : Outcome DeskCall (Ending A E)). o.requests) is);
           asked = ap (λ (qs : List (Asked DeskCall Reply)). map (λ a. a.question) qs) u.ready.questions ∙ f.asks ∙ sym (ap (λ (o : Outcome DeskCall (Ending A E)). o.asked) is);
           none_later = k.none_later;
         }
@@ -374,7 +384,7 @@ module _ {C T A E : Type 0} (speech : Speech C T A E) (commands : AreCommands sp
         let a = acts-since course (record { handle = handle; command = length past }) d u.last u.before u.ready.turns u.ready.upright.runs.met in
         record {
           booked = rows-since (λ r. r.booking.stamp.turn) (begun_at u.last u.before) (requests (length past)) u.begins.no_sooner
-              (subst (λ (l : List Request). Since (λ r. r.booking.stamp.turn) (begun_at u.last u.before) l) (sym u.ready.requests) a.booked);
+              (subst (λ (l : List Request). Since (λ r. r.booking.stamp.turn) (begun_at u.last u.before) l) (sym (runs-booked h.own does.command p u)) a.booked);
           told = rows-since (λ a. a.stamp.turn) (begun_at u.last u.before) (questions (length past)) u.begins.no_sooner
               (subst (λ (l : List (Asked DeskCall Reply)). Since (λ a. a.stamp.turn) (begun_at u.last u.before) l) (sym u.ready.questions) a.told);
         }
@@ -432,7 +442,7 @@ none-there {C} {X} scripts stamp handle (x ∷ xs) none h = by ((stamp x).owner 
         let same : (stamp x).owner ≡ handle = grind (arith, nat_tests, e) in
         absurd (let no : false ≡ true = subst (λ (o : Option (List C)). IsSome (option_and_then (λ row. slice_get row (stamp x).command) o)) (ap (λ (n : ℕ). slice_get scripts n) same ∙ none) h.0 in cc)
 
-module _ {C T A E : Type 0} (speech : Speech C T A E) (commands : AreCommands speech) (scripts : List (List C)) (course : Course DeskCall Reply) (now : Now) (handles : List (HandleState T A E))
+module _ {C T A E : Type 0} (speech : Speech C T A E) (commands : AreCommands speech) (whole : BookWhole speech) (scripts : List (List C)) (course : Course DeskCall Reply) (now : Now) (handles : List (HandleState T A E))
     (k : AllKept speech scripts course now handles) (many : length handles ≡ length scripts) where
   handle-kept : (i : ℕ) (script : List C) → slice_get scripts i ≡ Some script → (h : HandleState T A E) × ((past : List (Past A E)) × HandleKept speech course script i h past now)
   handle-kept i script at =
@@ -450,13 +460,13 @@ module _ {C T A E : Type 0} (speech : Speech C T A E) (commands : AreCommands sp
       by None e = subst (λ (l : List X). IsNonDecreasingBy (λ x. (stamp x).command) l) (sym (none-there scripts stamp i xs e (recursion_from_All (HasScript scripts stamp) xs known)))
           (λ a b d le lt. absurd (omega (arith, lt)))
 
-  pub in-script-order : AllButLastEnded (book_of now) → InScriptOrder (meaning_of speech) scripts (so_far speech commands course now)
+  pub in-script-order : AllButLastEnded (book_of now) → InScriptOrder (meaning_of speech) scripts (so_far speech commands whole course now)
   in-script-order all = record {
     owners = k.book.known;
     askers = k.questions.known;
-    in_order = in-order (λ b. b.stamp) (book_of now) k.book.known (λ i script at. let h = handle-kept i script at in booked-in-order speech commands course now script i h.0 h.1.0 h.1.1 k.book.in_order);
-    asked_in_order = in-order (λ a. a.stamp) now.asked k.questions.known (λ i script at. let h = handle-kept i script at in asked-in-order speech commands course now script i h.0 h.1.0 h.1.1 k.questions.in_order);
-    each = λ i script at. let h = handle-kept i script at in script-order speech commands course now script i h.0 h.1.0 h.1.1 0 speech.begins script refl refl (omega arith);
+    in_order = in-order (λ b. b.stamp) (book_of now) k.book.known (λ i script at. let h = handle-kept i script at in booked-in-order speech commands whole course now script i h.0 h.1.0 h.1.1 k.book.in_order);
+    asked_in_order = in-order (λ a. a.stamp) now.asked k.questions.known (λ i script at. let h = handle-kept i script at in asked-in-order speech commands whole course now script i h.0 h.1.0 h.1.1 k.questions.in_order);
+    each = λ i script at. let h = handle-kept i script at in script-order speech commands whole course now script i h.0 h.1.0 h.1.1 0 speech.begins script refl refl (omega arith);
     told = k.told;
     ended = all;
   }
