@@ -17,7 +17,10 @@ use std::collections::VecDeque;
 pub(crate) fn query_frame(alloc: Global, text: &str) -> Result<Bytes, Error>
     ensures { FramesQuery text.now result }
 {
-    let mut out = BytesMut::new(alloc);
+    // Its tag, its length and the zero byte behind its text.
+    let Ok(mut out) = BytesMut::with_capacity(alloc, text.len() + 6) else {
+        return Err(Error::OutOfMemory);
+    };
     match query(text, &mut out) {
         Ok(()) => match out.freeze() {
             Ok(frame) => Ok(frame),
