@@ -69,6 +69,11 @@ pops-none-steps most s t left e =
     let b = ap (frames_steps most) e in
     omega arith
 
+-- the room that is left counts no step
+pub any-room-steps : (most : ℕ) (s : Stack) (n : ℕ) → stack_steps most (record s { room = n }) ≡ stack_steps most s
+unfolding stack_steps
+any-room-steps most s n = refl
+
 -- the next oid that is left
 pub rests-some-steps : (most : ℕ) (s t : Stack) (oid : ℕ) → s.frames.items ≡ [] → t.frames.items ≡ [] → s.left.items ≡ oid ∷ t.left.items → finding_steps most (more_at t) + stack_steps most t ≤ stack_steps most s
 unfolding stack_steps more_at

@@ -41,6 +41,11 @@ at-keeps s oid row kind ty e =
     ap (λ (t : PgType). Call (SetType oid t) (λ x. Answer (Err x)) (λ r. searching s.left.items s.found (frames_of s.frames.items) (kept_told r))) e
     ∙ sym (searching-asks s.left.items s.found (frames_of s.frames.items) (SetType oid (record { name = row.name; oid = oid; kind = kind; schema = row.schema })) kept_told)
 
+-- the room that is left decides nothing of what is asked and answered
+pub any-room : (s : Stack) (n : ℕ) (d : Dialogue PgType) → searching_at (record s { room = n }) d ≡ searching_at s d
+unfolding searching_at
+any-room s n d = refl
+
 -- an oid, by whether its type is built-in
 pub at-finds : (s : Stack) (oid : ℕ) → find_at s oid ≡ known_or oid (built_in_type oid) (unless_known (may_find s oid) (told_goes s oid))
 unfolding find_at find_over may_find

@@ -25,6 +25,8 @@ pub(crate) struct OpenComposite {
     /// The rows that are left.
     pub(crate) left: VecDeque<Cells>,
     pub(crate) found: List<Field>,
+    /// For how many types there was room before the first field was found.
+    pub(crate) room: u32,
 }
 
 /// What waits for the type of another oid.

@@ -1,6 +1,6 @@
 //! The search for the types of several oids.
 
-ghost use Rattle.std.specs.Prelude.{◌≡◌, ◌≤◌, ◌+◌, ◌-◌, ◌*◌, ℕ, List, [], Option, None, Ok, IfOk};
+ghost use Rattle.std.specs.Prelude.{◌≡◌, ◌≤◌, ◌+◌, ◌-◌, ◌*◌, ℕ, List, [], length, Option, None, Ok, IfOk};
 ghost use Rattle.pg_spec.specs.RawMessages.{RawMessage};
 ghost use Rattle.pg_types.specs.declared.pg_type.PgType.{PgType};
 ghost use Rattle.pg_lookup.specs.Lookups as spec;
@@ -25,7 +25,7 @@ use std::alloc::{AllocError, Global};
 use std::collections::VecDeque;
 use std::mem;
 
-/// A composite has at most so many fields: its type would have more nodes than a type may have.
+/// A composite has fewer fields: with so many its type would be built of more types than a type may be.
 const MOST_FIELDS: usize = 1_048_576;
 
 /// What a search is at.
@@ -88,7 +88,8 @@ impl<A: Asker> Search<A, A::Row, A::Labels, A::Fields> {
         asker: A,
         oids: VecDeque<Oid>,
     ) -> Search<A, A::Row, A::Labels, A::Fields>
-        ensures { search_dialogue A.Row.dialogue A.Labels.dialogue A.Fields.dialogue result ≡ spec.find_all oids.items }
+        ensures dialogue { search_dialogue A.Row.dialogue A.Labels.dialogue A.Fields.dialogue result ≡ spec.find_all oids.items }
+        ensures steps { search_steps A.most A.Row.steps A.Labels.steps A.Fields.steps result ≡ length oids.items * finding_steps A.most 64 }
     {
         Search {
             asker,
@@ -307,8 +308,8 @@ impl<A: Asker> Search<A, A::Row, A::Labels, A::Fields> {
         ensures falls { IfOk result (λ w. Falls w (1 + most_fields * finding_steps A.most (more_over self.old.stack) + stack_steps A.most self.old.stack) (search_steps A.most A.Row.steps A.Labels.steps A.Fields.steps self.new)) }
     {
         let FieldRows { statement, rows } = fields;
-        if rows.len() > MOST_FIELDS {
-            // No type that is built has so many nodes.
+        if rows.len() >= MOST_FIELDS {
+            // No type that is built has so many fields.
             return Err(AllocError);
         }
         let composite = OpenComposite {
@@ -317,6 +318,7 @@ impl<A: Asker> Search<A, A::Row, A::Labels, A::Fields> {
             statement,
             left: rows,
             found: List::empty(alloc),
+            room: self.stack.room,
         };
         let turn = self.stack.field(alloc, &self.asker, composite)?;
         self.turns(alloc, turn)

@@ -9,6 +9,7 @@ ghost use Rattle.pg_search.specs.Steps.{finding_steps, more_at, more_over, next_
 use crate::asker::Asker;
 use crate::frame::{Frame, OpenComposite, typed, wrapped};
 use crate::rows::FieldRow;
+use crate::size::{MOST_TYPES, room_once_held};
 use pg_errors::Error;
 use pg_types::{Field, Kind, List, Oid, Text, Type};
 use std::alloc::{AllocError, Global};
@@ -23,6 +24,9 @@ pub(crate) struct Stack {
     pub(crate) found: List<Type>,
     /// What waits, the last one first.
     pub(crate) frames: VecDeque<Frame>,
+    /// For how many types there is room beside those that are held: those that were found, and those of the
+    /// fields of what waits, with all that they are made of. Together they are at most 1,048,576.
+    pub(crate) room: u32,
 }
 
 /// What a search does next.
@@ -56,6 +60,7 @@ impl Stack {
             left: oids,
             found: List::empty(alloc),
             frames: VecDeque::new(alloc),
+            room: MOST_TYPES,
         }
     }
 
@@ -89,7 +94,8 @@ impl Stack {
         }
     }
 
-    /// The next field of a composite, or its end.
+    /// The next field of a composite, or its end. At the end it isn't held here any more, and what its fields took
+    /// of the room is given back.
     pub(crate) fn field<A: Asker>(
         &mut self,
         alloc: Global,
@@ -108,8 +114,11 @@ impl Stack {
                     statement: _,
                     left: _,
                     found,
+                    room,
                 } = composite;
                 let ty = typed(alloc, oid, row, Kind::Composite(found))?;
+                // It is handed on, with the types of its fields.
+                self.room = room;
                 Ok(Turn::Goes(Next::Keeps(oid, ty)))
             }
             Some(cells) => {
@@ -135,7 +144,8 @@ impl Stack {
         Ok(())
     }
 
-    /// A type was found: what waited for it goes on.
+    /// A type was found: what waited for it goes on. Where the type is held, it takes its room; its error is want
+    /// of memory, which is there too where there is no room for it.
     pub(crate) fn found<A: Asker>(
         &mut self,
         alloc: Global,
@@ -152,10 +162,12 @@ impl Stack {
             }
             Some(Frame::Part(composite, name)) => {
                 let mut composite = composite;
+                self.room = room_once_held(&ty, self.room)?;
                 composite.found.push(Field::new(name, ty))?;
                 self.field(alloc, asker, composite)
             }
             None => {
+                self.room = room_once_held(&ty, self.room)?;
                 self.found.push(ty)?;
                 Ok(self.rest(alloc))
             }

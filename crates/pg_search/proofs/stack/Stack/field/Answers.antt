@@ -2,19 +2,21 @@ use Rattle.std.proofs.Common.{◌∙◌, refl, arith, sym, ap, length, List, Ok}
 use Rattle.pg_statements.specs.declared.column.Column.{Column}
 use Rattle.pg_types.specs.declared.pg_type.Kind.{Composite}
 use Rattle.pg_lookup.specs.Cells.{Cells}
-use Rattle.pg_lookup.specs.Lookups.{field_row}
+use Rattle.pg_lookup.specs.Lookups.{field_row, keeps}
 use Rattle.pg_search.proofs.Popping.{nothing-popped}
-use Rattle.pg_search.proofs.Stacking.{at-keeps, fields-end, fields-some, fields-fail}
-use Rattle.pg_search.proofs.Counting.{fields-some-steps}
+use Rattle.pg_search.proofs.Stacking.{any-room, at-keeps, fields-end, fields-some, fields-fail}
+use Rattle.pg_search.proofs.Counting.{any-room-steps, fields-some-steps}
 use Rattle.pg_search.proofs.stack.Stack.field.Goals as goal
 
 pub returns-in_ok-ty-in-None-clause-goes : goal.returns-in_ok-ty-in-None-clause-goes
 returns-in_ok-ty-in-None-clause-goes g c =
-    at-keeps c.args.self.now c.args.composite.oid c.args.composite.row (Composite c.args.composite.found) _ c.in_ok-ty-in-None.ensures
+    let part = c.args.composite in
+    at-keeps (record c.args.self.now { room = part.room }) part.oid part.row (Composite part.found) _ c.in_ok-ty-in-None.ensures
+    ∙ any-room c.args.self.now part.room (keeps part.oid part.row (Composite part.found))
     ∙ fields-end c.args.self.now c.args.composite (nothing-popped _ _ c.in-None.ensures.items c.in-None.ensures.rest)
 
 pub returns-in_ok-ty-in-None-clause-steps : goal.returns-in_ok-ty-in-None-clause-steps
-returns-in_ok-ty-in-None-clause-steps g c = λ most. omega arith
+returns-in_ok-ty-in-None-clause-steps g c = λ most. omega (arith, any-room-steps most c.args.self.now c.args.composite.room)
 
 pub returns-in_ok-push-in-Ok-clause-goes : goal.returns-in_ok-push-in-Ok-clause-goes
 returns-in_ok-push-in-Ok-clause-goes g c =

@@ -32,7 +32,7 @@ returns-in_ok-ty-in-Some-Wrapped-clause-steps g c =
 
 pub returns-in_ok-push-in-Some-Part-clause-goes : goal.returns-in_ok-push-in-Some-Part-clause-goes
 returns-in_ok-push-in-Some-Part-clause-goes g c =
-    let t : Stack = record c.args.self.now { frames = c.pop_front.new.self } in
+    let t : Stack = record c.args.self.now { frames = c.pop_front.new.self; room = c.in_ok-self-in-Some-Part.field-0 } in
     let w = c.in-Some-Part in
     subst (λ (x : Dialogue (List PgType)). IfOk c.field.result (λ turn. turn_dialogue c.field.new.self turn ≡ x))
     (pops-part c.args.self.now t w.composite w.name c.args.ty (record w.composite { found = c.push.new.self }) (record { left = refl; found = refl }) (w.ensures.items ∙ ap (λ (f : Frame). f ∷ t.frames.items) w.field-0-is)
@@ -41,7 +41,7 @@ returns-in_ok-push-in-Some-Part-clause-goes g c =
 
 pub returns-in_ok-push-in-Some-Part-clause-steps : goal.returns-in_ok-push-in-Some-Part-clause-steps
 returns-in_ok-push-in-Some-Part-clause-steps g c most =
-    let t : Stack = record c.args.self.now { frames = c.pop_front.new.self } in
+    let t : Stack = record c.args.self.now { frames = c.pop_front.new.self; room = c.in_ok-self-in-Some-Part.field-0 } in
     let w = c.in-Some-Part in
     ok-less c.field.result (turn_steps most c.field.new.self) _ _
     (pops-part-steps most c.args.self.now t w.composite w.name refl (w.ensures.items ∙ ap (λ (f : Frame). f ∷ t.frames.items) w.field-0-is))
@@ -49,11 +49,11 @@ returns-in_ok-push-in-Some-Part-clause-steps g c most =
 
 pub returns-in_ok-push-in-None-clause-goes : goal.returns-in_ok-push-in-None-clause-goes
 returns-in_ok-push-in-None-clause-goes g c =
-    c.rest.ensures.goes ∙ pops-none c.args.self.now (record c.args.self.now { frames = c.pop_front.new.self; found = c.push-in-None.new.self }) c.args.ty refl c.in_ok-push-in-None.ensures (nothing-popped _ _ c.in-None.ensures.items c.in-None.ensures.rest)
+    c.rest.ensures.goes ∙ pops-none c.args.self.now (record c.args.self.now { frames = c.pop_front.new.self; found = c.push-in-None.new.self; room = c.in_ok-self-in-None.field-0 }) c.args.ty refl c.in_ok-push-in-None.ensures (nothing-popped _ _ c.in-None.ensures.items c.in-None.ensures.rest)
 
 pub returns-in_ok-push-in-None-clause-steps : goal.returns-in_ok-push-in-None-clause-steps
 returns-in_ok-push-in-None-clause-steps g c most =
-    let t : Stack = record c.args.self.now { frames = c.pop_front.new.self; found = c.push-in-None.new.self } in
+    let t : Stack = record c.args.self.now { frames = c.pop_front.new.self; found = c.push-in-None.new.self; room = c.in_ok-self-in-None.field-0 } in
     let a = c.rest.ensures.steps most in
     let b = pops-none-steps most c.args.self.now t refl c.in-None.ensures.items in
     omega (arith, a, b)
