@@ -1,0 +1,13 @@
+pub mod Closings
+pub mod CountReadings
+pub mod Counts
+pub mod Examples
+pub mod Executes
+pub mod Faulting
+pub mod GivenValues
+pub mod Parameters
+pub mod Rows
+pub mod RowsReadings
+pub mod Saying
+pub mod Typed
+pub mod Values

@@ -1,0 +1,39 @@
+-- The values of a statement's parameters, and the request that executes it with them (PostgreSQL documentation, "Extended Query").
+use Rattle.std.specs.Prelude.{ℕ, List, [], ◌∷◌, ◌++◌, length, ◌==◌, map, Option, Result, Ok, Err, if◌then◌else◌, pos}
+use Rattle.pg_spec.specs.Faults.{◌>>=◌, FrameFault, Parameters, ToSql, Value as OfValue}
+use Rattle.pg_spec.specs.Frames.{bind_frame, execute_frame, sync_frame}
+use Rattle.pg_types.specs.declared.pg_type.PgType.{PgType}
+use Rattle.pg_types.specs.declared.value.Value.{Value}
+use Rattle.pg_types.specs.AnyValues.{is_accepted, value_gives, wrong_given}
+use Rattle.pg_types.specs.Values.{Given}
+use Rattle.pg_faults.specs.declared.error.Error.{Error}
+use Rattle.pg_statements.specs.declared.statement.Described.{Described as Statement}
+use Rattle.pg_lookup.specs.Composing.{or_encode}
+
+-- what a value gives under the type of its parameter, which it may not stand under
+abbrev pub given_under : PgType → Value → Given
+given_under ty v = if is_accepted v ty.oid then value_gives v ty.oid else wrong_given ty.oid
+
+-- the bytes or null, or the error of the parameter at this place
+abbrev pub or_to_sql : (place : ℕ) → Given → Result (Option (List ℕ)) Error
+or_to_sql place (Ok given) = Ok given
+or_to_sql place (Err f) = Err (ToSql place (OfValue f))
+
+-- The values under the types of their parameters, behind those that were found. The first that is refused decides.
+abbrev pub given_behind : (found : List (Option (List ℕ))) → List PgType → List Value → Result (List (Option (List ℕ))) Error
+given_behind found (ty ∷ types) (v ∷ vs) = or_to_sql (length found) (given_under ty v) >>= λ given. given_behind (found ++ given ∷ []) types vs
+given_behind found types vs = Ok found
+
+-- Bind with these values, each in binary form as all columns of the rows are, Execute of all rows, Sync
+abbrev pub execute_frames : (name : List ℕ) → List (Option (List ℕ)) → Result (List ℕ) FrameFault
+execute_frames name given =
+    bind_frame [] name (map (λ v. pos 1) given) given (pos 1) >>= λ bind.
+    execute_frame [] (pos 0) >>= λ execute.
+    Ok (bind ++ execute ++ sync_frame)
+
+-- The request that executes a statement with these values. Their number is looked at first, then each value, and then the frames.
+abbrev pub execute_request : Statement → List Value → Result (List ℕ) Error
+execute_request s vs =
+    if length vs == length s.params
+    then (given_behind [] s.params vs >>= λ given. or_encode (execute_frames s.name given))
+    else Err (Parameters (length vs) (length s.params))

@@ -1,0 +1,60 @@
+//! What an execution answers of its reply.
+
+ghost use Rattle.std.specs.Prelude.{◌≡◌, List, Option, Result};
+ghost use Rattle.pg_faults.specs.declared.error.Error.{Error};
+ghost use Rattle.pg_spec.specs.RawMessages.{RawMessage};
+ghost use Rattle.pg_statements.specs.declared.statement.Described.{Described};
+
+use crate::count_reading::CountReading;
+use crate::how_many::HowMany;
+use crate::make::Make;
+use crate::rows_reading::RowsReading;
+use pg_query::Reading;
+use pg_statements::Statement;
+use std::alloc::Global;
+
+/// What an execution answers of its reply.
+pub trait Form: Drop {
+    type Reading: Reading;
+
+    ghost reads: { Self → Described → List RawMessage → Option (Result Self.Reading.Output Error) };
+
+    /// The reading of the reply of this statement. It takes no memory.
+    fn reading(self, alloc: Global, statement: Statement) -> Self::Reading
+        ensures { Self.Reading.reading result ≡ reads self statement };
+}
+
+/// Rows, of which there may be so many, and of which something is made.
+#[derive(Clone, Copy, Drop)]
+pub struct Query<M> {
+    pub how_many: HowMany,
+    pub make: M,
+}
+
+impl<M: Make> Form for Query<M> {
+    ghost use Rattle.pg_execute.specs.Executes.{queried};
+
+    type Reading = RowsReading<M>;
+
+    ghost reads = { λ q. queried q.how_many (M.makes q.make) };
+
+    fn reading(self, alloc: Global, statement: Statement) -> RowsReading<M> {
+        RowsReading::new(alloc, statement, self.how_many, self.make)
+    }
+}
+
+/// How many rows were affected.
+#[derive(Clone, Copy, Drop)]
+pub struct Count;
+
+impl Form for Count {
+    ghost use Rattle.pg_execute.specs.Counts.{count_read, nothing_counted};
+
+    type Reading = CountReading;
+
+    ghost reads = { λ _ s. count_read nothing_counted };
+
+    fn reading(self, alloc: Global, statement: Statement) -> CountReading {
+        CountReading::new()
+    }
+}

@@ -1,0 +1,37 @@
+//! How a statement is executed with values for its parameters, and what its reply makes: rows, values, or how many
+//! rows it affected.
+#![tactic(auto)]
+
+mod closing;
+mod count_reading;
+mod executes;
+mod form;
+mod given_values;
+mod got;
+mod how_many;
+mod laws;
+mod make;
+mod on_statement;
+mod on_text;
+mod request;
+mod result_set;
+mod rows_reading;
+mod said;
+mod values;
+
+pub use closing::{Posts, PostsBefore};
+pub use count_reading::CountReading;
+pub use executes::Executes;
+pub use form::{Count, Form, Query};
+pub use got::Got;
+pub use how_many::HowMany;
+pub use laws::{
+    executes_are_counted, refused_values_ask_nothing, rows_are_counted,
+    statements_of_texts_are_closed, typed_executes_are_counted, typed_queries_look_up_later,
+    values_of_one_column,
+};
+pub use make::{Make, Scalars, WholeRows};
+pub use on_statement::OnStatement;
+pub use on_text::{Closes, OnText};
+pub use result_set::ResultSet;
+pub use rows_reading::RowsReading;
