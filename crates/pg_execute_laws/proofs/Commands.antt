@@ -1,0 +1,87 @@
+-- Executions are commands that a session takes.
+use Rattle.std.proofs.Common.{◌≡◌, ℕ, List, [], ◌∷◌, length, Bool, true, false, Option, Some, None, Result, Ok, Err, refl, sym, subst}
+use Rattle.std.specs.Prelude.{is_some}
+use Rattle.pg_spec.specs.RawMessages.{RawMessage, is_ready, ends_in}
+use Rattle.pg_spec.specs.Readings.{Next}
+use Rattle.pg_types.specs.declared.value.Value.{Value}
+use Rattle.pg_faults.specs.declared.error.Error.{Error}
+use Rattle.pg_faults.specs.declared.error.Error.TheVariants.{OutOfMemory}
+use Rattle.pg_statements.specs.declared.statement.Described.{Described as Statement}
+use Rattle.pg_query.specs.Dialogue.{Dialogue, Answer}
+use Rattle.pg_query.specs.Leaving.{LetsGo, Request}
+use Rattle.pg_query.specs.Reading.{ends, reads}
+use Rattle.pg_core.specs.Times.{LacksMemory}
+use Rattle.pg_core.proofs.Requests.{request-so}
+use Rattle.pg_turns.specs.Speeches.{BooksWhole, IsWholeRequest}
+use Rattle.pg_lookup.specs.Composing.{asks_for}
+use Rattle.pg_lookup.specs.Lookups.{prepare}
+use Rattle.pg_lookup.specs.QueryReplies.{told_by}
+use Rattle.pg_lookup_laws.proofs.Commands as lookup
+use Rattle.pg_lookup_laws.proofs.Commands.{answers, behinds, preparing-text, thens}
+use Rattle.pg_execute.specs.Counts.{count_next, nothing_counted}
+use Rattle.pg_execute.specs.Executes.{close_part, closed_by, execute, on_text, posts, posts_before, query, query_scalar, scalars, whole_rows}
+use Rattle.pg_execute.specs.Parameters.{execute_request}
+use Rattle.pg_execute.specs.Rows.{nothing_got}
+use Rattle.pg_execute.specs.declared.got.Got.{Got}
+use Rattle.pg_execute.specs.declared.how_many.HowMany.{HowMany}
+use Rattle.pg_execute_laws.specs.Taken.{IsTaken}
+use Rattle.pg_execute_laws.proofs.Readings.{count-decides, count-free, rows_next, rows-decides, rows-free}
+use Rattle.pg_execute_laws.proofs.Requests.{whole-close, whole-execution}
+
+-- as the laws of lookups say it
+pub as-taken : {T : Type 0} (d : Dialogue T) → lookup.IsTaken d → IsTaken d
+as-taken d h = record { command = h.command; lets_go = h.lets_go; whole = h.whole }
+
+-- ---- one request
+
+ends-whole : {T : Type 0} (o : Option (Result T Error)) → BooksWhole (ends false o)
+ends-whole (Some (Ok x)) = tt
+ends-whole (Some (Err e)) = tt
+ends-whole None = tt
+
+request : {S T : Type 0} (next : S → RawMessage → Next S (Result T Error)) (state : S) (part : Result (List ℕ) Error) → ((x : List ℕ) → part ≡ Ok x → IsWholeRequest x) →
+    ((ms : List RawMessage) → ends_in is_ready ms ≡ true → is_some (told_by next state ms) ≡ true) → LetsGo Request (reads false (told_by next state)) → lookup.IsTaken (asks_for part (reads false (told_by next state)))
+request next state (Err e) whole decides free = answers (Err e)
+request next state (Ok part) whole decides free = record {
+  command = request-so false part (told_by next state) decides;
+  lets_go = (tt, free);
+  whole = (whole part refl, refl, λ ms. ends-whole (told_by next state ms));
+}
+
+-- ---- a statement
+
+-- a query, of whose rows something is made
+querying : {A : Type 0} (how : HowMany) (makes : Got → Result A Error) (s : Statement) (vs : List Value) →
+    lookup.IsTaken (asks_for (execute_request s vs) (reads false (told_by (rows_next how (length s.columns) makes) nothing_got)))
+querying how makes s vs =
+    request (rows_next how (length s.columns) makes) nothing_got (execute_request s vs) (whole-execution s vs) (rows-decides how (length s.columns) makes nothing_got) (rows-free how (length s.columns) makes nothing_got)
+
+pub queries-taken : (how : HowMany) (s : Statement) (vs : List Value) → lookup.IsTaken (query how s vs)
+queries-taken how s vs = querying how (whole_rows s) s vs
+
+pub scalars-taken : (how : HowMany) (s : Statement) (vs : List Value) → lookup.IsTaken (query_scalar how s vs)
+scalars-taken how s vs = querying how (scalars s) s vs
+
+pub executes-taken : (s : Statement) (vs : List Value) → lookup.IsTaken (execute s vs)
+executes-taken s vs = request count_next nothing_counted (execute_request s vs) (whole-execution s vs) (count-decides nothing_counted) (count-free nothing_counted)
+
+-- ---- a text
+
+-- what is sent before an answer
+posting : {T : Type 0} (part : Option (List ℕ)) (r : Result T Error) → ((x : List ℕ) → part ≡ Some x → IsWholeRequest x) → lookup.IsTaken (posts_before part r)
+posting None r whole = answers r
+posting (Some part) r whole = record {
+  command = record { tidy = (λ e. tt, tt); nothing = (λ e. tt, tt); sane = (λ e. tt, tt); in_time = (λ e. tt, tt); faithful = (refl, tt) };
+  lets_go = (λ e. tt, tt);
+  whole = (whole part refl, λ e. tt, tt);
+}
+
+posting-lacks : {T : Type 0} (part : Option (List ℕ)) (r : Result T Error) → r ≡ Err OutOfMemory → LacksMemory (posts_before part r)
+posting-lacks None r is = is
+posting-lacks (Some part) r is = (refl, is)
+
+closing : {T : Type 0} (name : List ℕ) (d : Dialogue T) → lookup.IsTaken d → lookup.IsTaken (closed_by (close_part name) d)
+closing name d h = behinds (posts (close_part name)) d (posts_before (close_part name)) h (λ r. posting (close_part name) r (whole-close name)) (posting-lacks (close_part name))
+
+pub on-text : {T : Type 0} (text : List ℕ) (body : Statement → Dialogue T) → ((s : Statement) → lookup.IsTaken (body s)) → lookup.IsTaken (on_text (prepare text []) body)
+on-text text body h = thens (prepare text []) (λ s. closed_by (close_part s.name) (body s)) (preparing-text text []) (λ s. closing s.name (body s) (h s))

@@ -1,0 +1,3 @@
+mod Commands
+mod Readings
+mod Requests
