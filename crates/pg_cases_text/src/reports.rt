@@ -4,8 +4,9 @@
 use crate::list::push;
 use pg_desk::{Booking, Stamp};
 use pg_errors::Error;
-use pg_text::{Answer, Cells, Pair, Report, SimpleMessage, TurnMark, report_text};
-use pg_types::{Blob, List, OutOfMemory, Text};
+use pg_statements::Column;
+use pg_text::{Answer, Cells, Pair, Report, SimpleMessage, Statement, TurnMark, report_text};
+use pg_types::{Blob, Kind, List, Oid, OutOfMemory, Text, Type};
 use std::alloc::{AllocError, Global};
 use std::str;
 
@@ -104,6 +105,62 @@ fn put_answers(alloc: Global, report: &mut Report) -> Result<(), OutOfMemory> {
     put_one(alloc, Answer::Done, report)
 }
 
+/// A type with this oid.
+fn of_oid(alloc: Global, oid: Oid) -> Result<Type, OutOfMemory> {
+    let name = Text::from_str(alloc, "t")?;
+    let schema = Text::from_str(alloc, "s")?;
+    Type::new(alloc, name, oid, Kind::Simple, schema)
+}
+
+fn put_column(
+    alloc: Global,
+    name: &str,
+    oid: Oid,
+    columns: &mut List<Column>,
+) -> Result<(), OutOfMemory> {
+    let name = Text::from_str(alloc, name)?;
+    let type_ = of_oid(alloc, oid)?;
+    push(columns, Column::new(name, 1, 2, 3, type_))
+}
+
+/// The answer that is a statement of these parameters and columns.
+fn put_described(
+    alloc: Global,
+    name: &str,
+    params: List<Type>,
+    columns: List<Column>,
+    answers: &mut List<Answer>,
+) -> Result<(), OutOfMemory> {
+    let name = Text::from_str(alloc, name)?;
+    let statement = Statement::new(alloc, name, params, columns)?;
+    push(answers, Answer::Statement(statement))
+}
+
+/// The answer that is a statement with two parameters and two columns.
+fn put_statement(alloc: Global, answers: &mut List<Answer>) -> Result<(), OutOfMemory> {
+    let mut params = List::empty(alloc);
+    push(&mut params, of_oid(alloc, 23)?)?;
+    push(&mut params, of_oid(alloc, u32::MAX)?)?;
+    let mut columns = List::empty(alloc);
+    put_column(alloc, "?column?", 25, &mut columns)?;
+    put_column(alloc, "\u{e9}\"", 0, &mut columns)?;
+    put_described(alloc, "s1", params, columns, answers)
+}
+
+fn put_statements(alloc: Global, report: &mut Report) -> Result<(), OutOfMemory> {
+    let mut answers = List::empty(alloc);
+    put_described(
+        alloc,
+        "",
+        List::empty(alloc),
+        List::empty(alloc),
+        &mut answers,
+    )?;
+    put_statement(alloc, &mut answers)?;
+    push(&mut answers, Answer::Done)?;
+    push(&mut report.answers, answers)
+}
+
 fn put_parts(alloc: Global, bytes: &[&[u8]], parts: &mut List<Blob>) -> Result<(), OutOfMemory> {
     for part in bytes {
         push(parts, Blob::from_slice(alloc, part)?)?;
@@ -164,6 +221,7 @@ fn put(alloc: Global, name: &str, report: &mut Report) -> Result<(), OutOfMemory
     match name {
         "settings" => put_settings(alloc, report),
         "answers" => put_answers(alloc, report),
+        "statements" => put_statements(alloc, report),
         "work" => put_work(alloc, report),
         _ => Ok(()),
     }

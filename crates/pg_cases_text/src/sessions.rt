@@ -2,7 +2,7 @@
 
 use pg_cases::written;
 use pg_text::{Command, Session, TextFault, session_text};
-use pg_types::List;
+use pg_types::{List, Oid};
 use pg_wire::{Link, LinkRead, LinkWrite, MemoryLink};
 use std::alloc::{AllocError, Global};
 
@@ -21,11 +21,19 @@ fn tell_simple(text: &str, take: Option<u64>, out: &mut String) -> Result<(), Al
     tell_take(take, out)
 }
 
+fn tell_prepare(slot: u64, text: &str, types: &[Oid], out: &mut String) -> Result<(), AllocError> {
+    write!(out, " prepare {slot} {text:?} {types:?}")
+}
+
 fn tell_command(command: &Command, out: &mut String) -> Result<(), AllocError> {
     match command {
         Command::Simple { text, take } => tell_simple(text.as_str(), *take, out),
         Command::Batch { text } => write!(out, " batch {:?}", text.as_str()),
         Command::Check => out.push_str(" check"),
+        Command::Prepare { slot, text, types } => {
+            tell_prepare(*slot, text.as_str(), types.as_slice(), out)
+        }
+        Command::Clear => out.push_str(" clear"),
     }
 }
 

@@ -2,6 +2,7 @@ pub mod Texts
 pub mod Finding
 pub mod QuoteLaws
 pub mod WordLaws
+pub mod TypeNames
 pub mod LineLaws
 pub mod DraftLaws
 pub mod TextLaws

@@ -1,20 +1,21 @@
 -- Lines are read as they are spelled.
 use Rattle.std.proofs.Common.{◌≡◌, ◌≢◌, ◌<◌, ◌⊎◌, ℕ, true, false, List, [], ◌∷◌, ◌++◌, Option, Some, None, codes, refl, sym, ap, subst, ◌∙◌, append_assoc, append-nil, inl, inr}
-use Rattle.std.specs.Prelude.{IsUtf8, is_none, cond, not, ◌&&◌, ◌==◌}
-use Rattle.std.specs.List.{AllZip, concat, join_with_byte, list_all}
+use Rattle.std.specs.Prelude.{IsUtf8, is_none, cond, ◌==◌}
+use Rattle.std.specs.List.{AllZip, concat, join_with_byte}
 use Rattle.std.proofs.lemmas.Bool.{eqb-false}
 use Rattle.std.proofs.lemmas.List.Concat.{flat_map-append}
 use Rattle.pg_text.specs.SessionText as said
 use Rattle.pg_spec.specs.SessionText.{IsBytes, IsNumber, IsQuoted}
-use Rattle.pg_text.specs.SessionText.{Spells}
+use Rattle.pg_text.specs.SessionText.{IsTypeName, Spells}
 use Rattle.pg_text.specs.declared.line.Keyword.{Keyword}
-use Rattle.pg_text.specs.declared.line.Keyword.TheVariants.{Config, Nonce, Limit, Turns, Handle, Step, Cut, End, Simple, Batch, Check}
+use Rattle.pg_text.specs.declared.line.Keyword.TheVariants.{Config, Nonce, Limit, Turns, Handle, Step, Cut, End, Simple, Batch, Check, Prepare, Clear}
 use Rattle.pg_text.specs.declared.line.Line.{Line}
 use Rattle.pg_text.specs.declared.line.Line.TheVariants as line
 use Rattle.pg_text.specs.declared.command.Command.TheVariants as command
 use Rattle.pg_text.specs.Lines.{first_word, ReadsLine, ReadsRest, SaysSomething, WordsOf}
 use Rattle.pg_text.specs.Words.{AllWords, behind, IsTextOf, IsUtf8Quoted, IsWord, left_text, NoSpace, OneWord, Takes, TakesNumber, TookAll}
-use Rattle.pg_text.proofs.WordLaws.{Ends, bytes_ends, number_ends, quoted_ends, word_ends}
+use Rattle.pg_text.proofs.WordLaws.{Ends, bytes_ends, no_space_from, number_ends, quoted_ends, word_ends}
+use Rattle.pg_text.proofs.TypeNames.{type_name_ends}
 
 -- ---- words behind one another
 
@@ -200,6 +201,34 @@ batch_some old text (word, is, e) = (said.CommandLine (command.Batch text), word
 pub batch_none : (old : Option (List ℕ)) → OneWord IsUtf8Quoted old None → ReadsRest Batch old None
 batch_none old none l words (text, word, is, utf8, quoted, same) e = none text word (utf8, quoted) (e ∙ ap behind same)
 
+pub prepare_some : (old mid last : Option (List ℕ)) (slot : ℕ) (text types given : List ℕ) → given ≡ types →
+    Takes (IsNumber 18446744073709551615) old (Some slot) mid → Takes IsUtf8Quoted mid (Some text) last → AllWords IsTypeName last (Some types) →
+    ReadsRest Prepare old (Some (line.Command (command.Prepare slot text given)))
+prepare_some old mid last slot text types given same number quoted names = (
+  said.CommandLine (command.Prepare slot text given),
+  number.0 ∷ quoted.0 ∷ names.0,
+  (slot, text, given, number.0, quoted.0, names.0, refl, quoted.1.0, number.1, quoted.1.1, subst (λ (t : List ℕ). AllZip IsTypeName t names.0) (sym same) names.1, refl),
+  number.2 ∙ ap (λ t. 32 ∷ number.0 ++ t) (quoted.2 ∙ ap (λ t. 32 ∷ quoted.0 ++ t) names.2),
+  refl,
+)
+
+pub prepare_slotless : (old new : Option (List ℕ)) → Takes (IsNumber 18446744073709551615) old None new → ReadsRest Prepare old None
+prepare_slotless old new none l words (slot, text, types, number, word, names, is, utf8, digits, quoted, each, same) e =
+    no_word (IsNumber 18446744073709551615) old new none slot number (word ∷ names) digits (e ∙ ap behind same)
+
+pub prepare_textless : (old mid new : Option (List ℕ)) (slot : ℕ) → Takes (IsNumber 18446744073709551615) old (Some slot) mid → Takes IsUtf8Quoted mid None new →
+    ReadsRest Prepare old None
+prepare_textless old mid new slot taken none l words (slot', text, types, number, word, names, is, utf8, digits, quoted, each, same) e =
+    let left = (after_word (IsNumber 18446744073709551615) (number_ends 18446744073709551615) old mid slot taken slot' number (word ∷ names) digits (e ∙ ap behind same)).1 in
+    no_word IsUtf8Quoted mid new none text word names (utf8, quoted) left
+
+pub prepare_typeless : (old mid last : Option (List ℕ)) (slot : ℕ) (text : List ℕ) →
+    Takes (IsNumber 18446744073709551615) old (Some slot) mid → Takes IsUtf8Quoted mid (Some text) last → AllWords IsTypeName last None → ReadsRest Prepare old None
+prepare_typeless old mid last slot text taken quoted none l words (slot', text', types, number, word, names, is, utf8, digits, spelled, each, same) e =
+    let first = (after_word (IsNumber 18446744073709551615) (number_ends 18446744073709551615) old mid slot taken slot' number (word ∷ names) digits (e ∙ ap behind same)).1 in
+    let second = (after_word IsUtf8Quoted utf8_ends mid last text quoted text' word names (utf8, spelled) first).1 in
+    none types names each second
+
 -- ---- spelled lines
 
 join_words : (word : List ℕ) (words : List (List ℕ)) → join_with_byte 32 (word ∷ words) ≡ word ++ behind words
@@ -232,6 +261,14 @@ spelled_words (said.CommandLine (command.Simple text (Some n))) s (utf8, word, n
 spelled_words (said.CommandLine (command.Batch text)) s (utf8, word, quoted, e) =
     inr (Batch, word ∷ [], (text, word, refl, utf8, quoted, refl), e ∙ join_words (codes "batch") (word ∷ []))
 spelled_words (said.CommandLine command.Check) s h = inr (Check, [], (refl, refl), h)
+spelled_words (said.CommandLine (command.Prepare slot text types)) s (utf8, number, word, names, digits, quoted, each, e) =
+    inr (
+      Prepare,
+      number ∷ word ∷ names,
+      (slot, text, types, number, word, names, refl, utf8, digits, quoted, each, refl),
+      e ∙ join_words (codes "prepare") (number ∷ word ∷ names),
+    )
+spelled_words (said.CommandLine command.Clear) s h = inr (Clear, [], (refl, refl), h)
 
 pub words_spell : (keyword : Keyword) (l : said.Line) (words : List (List ℕ)) (s : List ℕ) → WordsOf keyword l words → s ≡ first_word keyword ++ behind words → Spells l s
 words_spell Config l words s (text, word, is, utf8, quoted, same) e =
@@ -255,14 +292,10 @@ words_spell Simple l words s (text, word, utf8, quoted, inr (n, number, is, digi
 words_spell Batch l words s (text, word, is, utf8, quoted, same) e =
     subst (λ (m : said.Line). Spells m s) (sym is) (utf8, word, quoted, e ∙ sym (join_words (codes "batch") words) ∙ ap (λ w. join_with_byte 32 (codes "batch" ∷ w)) same)
 words_spell Check l words s (is, same) e = subst (λ (m : said.Line). Spells m s) (sym is) (e ∙ ap (λ w. codes "check" ++ behind w) same)
-
-no_space_from : (w : List ℕ) → list_all (λ b. not (b == 32)) w ≡ true → NoSpace w
-no_space_from [] e = tt
-no_space_from (b ∷ w) e =
-    elim (b == 32) as (λ t. (b == 32) ≡ t → (not t && list_all (λ b. not (b == 32)) w) ≡ true → NoSpace (b ∷ w)) [
-      | true ↦ λ is h. cc h
-      | false ↦ λ is h. (eqb-false b 32 is, no_space_from w h)
-    ] refl e
+words_spell Prepare l words s (slot, text, types, number, word, names, is, utf8, digits, quoted, each, same) e =
+    subst (λ (m : said.Line). Spells m s) (sym is)
+    (utf8, number, word, names, digits, quoted, each, e ∙ sym (join_words (codes "prepare") words) ∙ ap (λ w. join_with_byte 32 (codes "prepare" ∷ w)) same)
+words_spell Clear l words s (is, same) e = subst (λ (m : said.Line). Spells m s) (sym is) (e ∙ ap (λ w. codes "clear" ++ behind w) same)
 
 first_no_space : (keyword : Keyword) → NoSpace (first_word keyword)
 first_no_space Config = no_space_from (first_word Config) refl
@@ -276,14 +309,16 @@ first_no_space End = no_space_from (first_word End) refl
 first_no_space Simple = no_space_from (first_word Simple) refl
 first_no_space Batch = no_space_from (first_word Batch) refl
 first_no_space Check = no_space_from (first_word Check) refl
+first_no_space Prepare = no_space_from (first_word Prepare) refl
+first_no_space Clear = no_space_from (first_word Clear) refl
 
 -- the line that a word begins, told by two letters
 keyword_at : List ℕ → Keyword
 keyword_at [] = Config
 keyword_at (a ∷ []) = Config
 keyword_at (a ∷ b ∷ w) =
-    cond (a == 99) (cond (b == 111) Config (cond (b == 104) Check Cut))
-    (cond (a == 110) Nonce (cond (a == 108) Limit (cond (a == 116) Turns (cond (a == 104) Handle (cond (a == 101) End (cond (a == 98) Batch (cond (b == 116) Step Simple)))))))
+    cond (a == 99) (cond (b == 111) Config (cond (b == 104) Check (cond (b == 108) Clear Cut)))
+    (cond (a == 110) Nonce (cond (a == 108) Limit (cond (a == 116) Turns (cond (a == 104) Handle (cond (a == 101) End (cond (a == 98) Batch (cond (a == 112) Prepare (cond (b == 116) Step Simple))))))))
 
 keyword_at-first_word : (keyword : Keyword) → keyword_at (first_word keyword) ≡ keyword
 unfolding keyword_at
@@ -298,6 +333,8 @@ keyword_at-first_word End = refl
 keyword_at-first_word Simple = refl
 keyword_at-first_word Batch = refl
 keyword_at-first_word Check = refl
+keyword_at-first_word Prepare = refl
+keyword_at-first_word Clear = refl
 
 same_keyword : (a b : Keyword) → first_word a ≡ first_word b → a ≡ b
 same_keyword a b e = sym (keyword_at-first_word a) ∙ ap keyword_at e ∙ keyword_at-first_word b
@@ -398,6 +435,12 @@ same_words Simple l m ws vs (t, w, utf8, quoted, inr (n, number, p, digits, a)) 
 same_words Batch l m ws vs (t, w, p, utf8, quoted, a) (u, v, q, utf8', quoted', b) e =
     p ∙ ap (λ x. said.CommandLine (command.Batch x)) (first_of IsQuoted quoted_ends t u w v [] [] quoted quoted' (ap behind (sym a) ∙ e ∙ ap behind b)).0 ∙ sym q
 same_words Check l m ws vs p q e = p.0 ∙ sym q.0
+same_words Prepare l m ws vs (slot, t, types, number, w, names, p, utf8, digits, quoted, each, a) (slot', u, types', number', v, names', q, utf8', digits', quoted', each', b) e =
+    let first = first_of (IsNumber 18446744073709551615) (number_ends 18446744073709551615) slot slot' number number' (w ∷ names) (v ∷ names') digits digits' (ap behind (sym a) ∙ e ∙ ap behind b) in
+    let second = first_of IsQuoted quoted_ends t u w v names names' quoted quoted' first.1 in
+    let third = all_same IsTypeName type_name_ends types types' names names' each each' second.1 in
+    p ∙ (λ i. said.CommandLine (command.Prepare (first.0 i) (second.0 i) (third i))) ∙ sym q
+same_words Clear l m ws vs p q e = p.0 ∙ sym q.0
 
 word_says : (keyword : Keyword) (t : List ℕ) → SaysSomething (first_word keyword ++ t)
 word_says Config t = eqb-false 99 35 refl
@@ -411,6 +454,8 @@ word_says End t = eqb-false 101 35 refl
 word_says Simple t = eqb-false 115 35 refl
 word_says Batch t = eqb-false 98 35 refl
 word_says Check t = eqb-false 99 35 refl
+word_says Prepare t = eqb-false 112 35 refl
+word_says Clear t = eqb-false 99 35 refl
 
 -- a line is spelled by at most one line
 pub one_line : (l m : said.Line) (s : List ℕ) → Spells l s → Spells m s → l ≡ m

@@ -10,7 +10,7 @@ use Rattle.pg_text.specs.SessionText.{CanNotGoOn, CommandLine, ConfigLine, CutLi
 use Rattle.pg_text.specs.Sessions.{as_session}
 use Rattle.pg_text.specs.Views.{as_command, as_scripts}
 use Rattle.pg_text.specs.declared.command.Command.{Command}
-use Rattle.pg_text.specs.declared.command.Command.TheVariants.{Batch, Check, Simple}
+use Rattle.pg_text.specs.declared.command.Command.TheVariants.{Batch, Check, Clear, Prepare, Simple}
 use Rattle.pg_text.proofs.LineLaws.{one_line}
 
 -- ---- lists of what is led elsewhere
@@ -178,6 +178,8 @@ abbrev back_command : Command → simple.Command
 back_command (Simple text take) = simple.Simple text take
 back_command (Batch text) = simple.Simple text None
 back_command Check = simple.Simple [] None
+back_command (Prepare slot text types) = simple.Simple text None
+back_command Clear = simple.Simple [] None
 
 abbrev back_line : Line → said.Line
 back_line Nothing = said.Nothing
@@ -333,6 +335,8 @@ spells-back (CommandLine (Simple text None)) w is h = h
 spells-back (CommandLine (Simple text (Some n))) w is h = h
 spells-back (CommandLine (Batch text)) w is h = absurd is
 spells-back (CommandLine Check) w is h = absurd is
+spells-back (CommandLine (Prepare slot text types)) w is h = absurd is
+spells-back (CommandLine Clear) w is h = absurd is
 
 zip-back : (lines : List Line) (spelled : List (List ℕ)) → AllByRecursion IsSimpleLine lines → AllZip Spells lines spelled → AllZip said.Spells (map back_line lines) spelled
 zip-back [] [] is h = tt

@@ -1,8 +1,12 @@
 -- Texts that are written piece by piece.
-use Rattle.std.proofs.Common.{◌≡◌, ℕ, List, [], ◌∷◌, ◌++◌, map, Result, Ok, Err, OnOk, refl, ap, sym, ◌∙◌, append_assoc, append-nil}
+use Rattle.std.proofs.Common.{◌≡◌, ℕ, List, [], ◌∷◌, ◌++◌, map, codes, decimal, string_bytes, String, Result, Ok, Err, OnOk, refl, ap, sym, ◌∙◌, append_assoc, append-nil, arith}
 use Rattle.std.specs.List.{join_with_byte}
+use Rattle.std.proofs.lemmas.Grind.{common_steps}
 use Rattle.hex.specs.Hex.{encode_with}
-use Rattle.pg_text.specs.Written.{behind_spaces}
+use Rattle.pg_statements.specs.declared.statement.Described.{Described}
+use Rattle.pg_text.specs.ReportText.{answer_lines, answer_words, further_lines}
+use Rattle.pg_text.specs.Written.{Adds, answered, behind_spaces}
+use Rattle.pg_text.specs.declared.command.Answer.TheVariants.{Statement}
 
 -- one piece, and then another
 pub adds : (a b c xs ys : List ℕ) → b ≡ a ++ xs → c ≡ b ++ ys → c ≡ a ++ (xs ++ ys)
@@ -28,3 +32,18 @@ encode_with-append t (x ∷ xs) ys = rw (encode_with-append t xs ys) refl
 pub join_behind : {A : Type 0} (word : A → List ℕ) (first : List ℕ) (items : List A) → join_with_byte 32 (first ∷ map word items) ≡ first ++ behind_spaces word items
 join_behind word first [] = sym (append-nil first)
 join_behind word first (x ∷ items) = ap (λ rest. first ++ (32 ∷ rest)) (join_behind word (word x) items)
+
+-- ---- an answer
+
+joined : (old start handle command words more : List ℕ) →
+    (old ++ (start ++ 32 ∷ (handle ++ 32 ∷ command))) ++ (32 ∷ (words ++ 10 ∷ []) ++ more) ≡ old ++ ((start ++ 32 ∷ (handle ++ 32 ∷ (command ++ 32 ∷ words))) ++ 10 ∷ [] ++ more)
+joined old start handle command words more = grind (arith, common_steps)
+
+-- a statement behind the numbers of its handle and command is the answer to a command
+pub answered_by : {A E Z : Type 0} (handle command : ℕ) (s : Described) (old mid new : String Z) (r : Result A E) →
+    string_bytes mid ≡ string_bytes old ++ (codes "answer" ++ 32 ∷ (decimal handle ++ 32 ∷ decimal command)) →
+    Adds (answered (Statement s)) mid new r → Adds (answer_lines handle (command, Statement s)) old new r
+answered_by handle command s old mid new (Ok x) numbered added =
+    added ∙ ap (λ (t : List ℕ). t ++ answered (Statement s)) numbered
+    ∙ joined (string_bytes old) (codes "answer") (decimal handle) (decimal command) (join_with_byte 32 (answer_words (Statement s))) (further_lines (Statement s))
+answered_by handle command s old mid new (Err e) numbered added = added

@@ -1,13 +1,14 @@
 -- Words are told from what stands behind them.
 use Rattle.std.proofs.Common.{◌≡◌, ◌≢◌, ◌<◌, ◌≤◌, ◌+◌, ◌*◌, ℕ, zero, suc, false, List, [], ◌∷◌, ◌++◌, length, get_or, take, drop, Option, Some, None, Result, Ok, Err, IfOk, IfSome, refl, sym, ap, subst, ◌∙◌, append-nil, lt-ltb, ltb-true, eq-eqb, eqb, ◌&&◌, inl, inr, arith, nat_lt}
 use lib.Pointwise.{pointwise}
-use Rattle.std.specs.Prelude.{EachIndex, IsUtf8}
+use Rattle.std.specs.Prelude.{EachIndex, IsUtf8, not, true, ◌==◌}
+use Rattle.std.specs.List.{list_all}
 use Rattle.std.specs.Int.{IsInRange}
 use Rattle.std.proofs.lemmas.Str.{IsUtf8-from_ascii}
 use Rattle.std.proofs.lemmas.Str.Ascii.{IsAscii-from_reads}
 use Rattle.std.specs.Char.{digit_value}
 use Rattle.std.specs.Str.Parse.{AllDigits}
-use Rattle.std.proofs.lemmas.Bool.{cond_both, cond-true}
+use Rattle.std.proofs.lemmas.Bool.{cond_both, cond-true, eqb-false}
 use Rattle.std.proofs.lemmas.Bool.Decides.{nat_tests}
 use Rattle.std.proofs.lemmas.List.{append_cancel_right, take-append-drop, drop_more}
 use Rattle.std.proofs.lemmas.Str.Parse.{digit_at}
@@ -32,6 +33,15 @@ left_same None None e = refl
 left_same None (Some words) e = absurd cc
 left_same (Some words) None e = absurd cc
 left_same (Some v) (Some w) e = let same : v ≡ w = cc in ap (λ t. Some t) same
+
+-- no byte of it is a space
+pub no_space_from : (w : List ℕ) → list_all (λ b. not (b == 32)) w ≡ true → NoSpace w
+no_space_from [] e = tt
+no_space_from (b ∷ w) e =
+    elim (b == 32) as (λ t. (b == 32) ≡ t → (not t && list_all (λ b. not (b == 32)) w) ≡ true → NoSpace (b ∷ w)) [
+      | true ↦ λ is h. cc h
+      | false ↦ λ is h. (eqb-false b 32 is, no_space_from w h)
+    ] refl e
 
 no_space-take : (rest : List ℕ) (at : ℕ) → at ≤ length rest → ((k : ℕ) → k < at → get_or rest k 0 ≢ 32) → NoSpace (take at rest)
 no_space-take rest zero fits none = tt

@@ -4,9 +4,9 @@ use Rattle.std.specs.List.{AllZip, concat}
 use Rattle.pg_text.specs.declared.command.Command.TheVariants as command
 use Rattle.pg_text.specs.SessionText as said
 use Rattle.pg_spec.specs.SessionText.{IsBytes, IsNumber, IsQuoted}
-use Rattle.pg_text.specs.SessionText.{Spells}
+use Rattle.pg_text.specs.SessionText.{IsTypeName, Spells}
 use Rattle.pg_text.specs.declared.line.Keyword.{Keyword}
-use Rattle.pg_text.specs.declared.line.Keyword.TheVariants.{Config, Nonce, Limit, Turns, Handle, Step, Cut, End, Simple, Batch, Check}
+use Rattle.pg_text.specs.declared.line.Keyword.TheVariants.{Config, Nonce, Limit, Turns, Handle, Step, Cut, End, Simple, Batch, Check, Prepare, Clear}
 use Rattle.pg_text.specs.declared.line.Line.{Line}
 use Rattle.pg_text.specs.declared.line.Line.TheVariants as line
 use Rattle.pg_text.specs.Words.{behind, left_text}
@@ -24,6 +24,8 @@ first_word End = codes "end"
 first_word Simple = codes "simple"
 first_word Batch = codes "batch"
 first_word Check = codes "check"
+first_word Prepare = codes "prepare"
+first_word Clear = codes "clear"
 
 -- the word begins this line, or none
 abbrev pub FirstWord : List ℕ → Option Keyword → Type 0
@@ -59,6 +61,10 @@ WordsOf Simple l words = (text : List ℕ) × (word : List ℕ) × IsUtf8 text �
     × (words ≡ word ∷ codes "take" ∷ number ∷ [])))
 WordsOf Batch l words = (text : List ℕ) × (word : List ℕ) × (l ≡ said.CommandLine (command.Batch text)) × IsUtf8 text × IsQuoted text word × (words ≡ word ∷ [])
 WordsOf Check l words = (l ≡ said.CommandLine command.Check) × (words ≡ [])
+WordsOf Prepare l words = (slot : ℕ) × (text : List ℕ) × (types : List ℕ) × (number : List ℕ) × (word : List ℕ) × (names : List (List ℕ))
+    × (l ≡ said.CommandLine (command.Prepare slot text types)) × IsUtf8 text × IsNumber 18446744073709551615 slot number × IsQuoted text word
+    × AllZip IsTypeName types names × (words ≡ number ∷ word ∷ names)
+WordsOf Clear l words = (l ≡ said.CommandLine command.Clear) × (words ≡ [])
 
 -- behind the first word a line goes on so; None: there is no such line
 abbrev pub ReadsRest : Keyword → Option (List ℕ) → Option Line → Type 0

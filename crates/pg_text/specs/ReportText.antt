@@ -5,8 +5,10 @@ use Rattle.hex.specs.Hex.{encode_lower}
 use Rattle.pg_spec.specs.ReportText.{line, signed, quoted, failure_words, item_line, async_line, book_line, turn_line}
 use Rattle.pg_spec.specs.SimpleQuery.{Item}
 use Rattle.pg_errors.specs.Views.{async_of}
+use Rattle.pg_types.specs.declared.pg_type.PgType.{PgType}
+use Rattle.pg_statements.specs.declared.column.Column.{Column}
 use Rattle.pg_text.specs.declared.command.Answer.{Answer}
-use Rattle.pg_text.specs.declared.command.Answer.TheVariants.{Done, Failed, Messages}
+use Rattle.pg_text.specs.declared.command.Answer.TheVariants.{Done, Failed, Messages, Statement}
 use Rattle.pg_text.specs.declared.report.Report.{Report}
 use Rattle.pg_text.specs.Views.{booking_of, item_of}
 
@@ -14,17 +16,31 @@ use Rattle.pg_text.specs.Views.{booking_of, item_of}
 abbrev pub answer_words : Answer → List (List ℕ)
 answer_words Done = codes "done" ∷ []
 answer_words (Messages messages) = codes "messages" ∷ decimal (length messages) ∷ []
+answer_words (Statement s) = codes "statement" ∷ quoted s.name ∷ []
 answer_words (Failed e) = codes "failed" ∷ failure_words e
 
--- the parts whose lines follow it
+-- the messages in it
 abbrev pub answer_items : Answer → List Item
 answer_items (Messages messages) = map item_of messages
 answer_items other = []
 
+-- the type of a parameter
+abbrev pub param_line : PgType → List ℕ
+param_line param = line (codes "param" ∷ decimal param.oid ∷ [])
+
+-- a column of the rows that a statement gives: its name and its type
+abbrev pub column_line : Column → List ℕ
+column_line column = line (codes "column" ∷ quoted column.name ∷ decimal column.type_.oid ∷ [])
+
+-- the lines that follow it
+abbrev pub further_lines : Answer → List ℕ
+further_lines (Statement s) = flat_map param_line s.params ++ flat_map column_line s.columns
+further_lines other = flat_map item_line (answer_items other)
+
 -- the lines of the answer to a command
 abbrev pub answer_lines : ℕ → ℕ × Answer → List ℕ
 answer_lines handle (command, answer) =
-    line (codes "answer" ∷ decimal handle ∷ decimal command ∷ answer_words answer) ++ flat_map item_line (answer_items answer)
+    line (codes "answer" ∷ decimal handle ∷ decimal command ∷ answer_words answer) ++ further_lines answer
 
 -- the lines of the answers of a handle
 abbrev pub script_lines : ℕ × List Answer → List ℕ

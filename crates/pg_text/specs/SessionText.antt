@@ -1,10 +1,11 @@
 -- The text of a session: its lines, how each is spelled, and what they mean together.
-use Rattle.std.specs.Prelude.{◌≡◌, ℕ, ◌+◌, ◌≤◌, ◌⊎◌, Bool, true, false, List, [], ◌∷◌, ◌++◌, length, map, filter, flat_map, filter_map, Option, Some, None, codes, IsUtf8}
+use Rattle.std.specs.Prelude.{◌≡◌, ℕ, ◌+◌, ◌≤◌, ◌⊎◌, Bool, true, false, List, [], ◌∷◌, ◌++◌, length, map, filter, flat_map, filter_map, Option, Some, None, option_map, codes, IsUtf8}
 use Rattle.std.specs.List.{concat, slice_split, AllZip, list_any}
 use Rattle.std.specs.Str.{byte}
+use Rattle.pg_types.specs.BuiltIns.{row_of}
 use Rattle.pg_spec.specs.SessionText.{AreLines, IsBytes, IsNumber, IsQuoted, IsWords, default_nonce, one_or}
 use Rattle.pg_text.specs.declared.command.Command.{Command}
-use Rattle.pg_text.specs.declared.command.Command.TheVariants.{Batch, Check, Simple}
+use Rattle.pg_text.specs.declared.command.Command.TheVariants.{Batch, Check, Clear, Prepare, Simple}
 
 -- what a line says
 pub data Line : Type 0 where
@@ -19,6 +20,10 @@ pub data Line : Type 0 where
   CutLine : (bytes : ℕ) → Line
   EndLine : Line
   CommandLine : Command → Line
+
+-- the name of the built-in type with this oid
+abbrev pub IsTypeName : ℕ → List ℕ → Type 0
+IsTypeName oid name = option_map (λ row. row.name) (row_of oid) ≡ Some name
 
 -- how a line is spelled
 abbrev pub Spells : Line → List ℕ → Type 0
@@ -36,6 +41,9 @@ Spells (CommandLine (Simple text (Some n))) spelled = IsUtf8 text × (word : Lis
     × IsQuoted text word × IsNumber 18446744073709551615 n number × IsWords (codes "simple") (word ∷ codes "take" ∷ number ∷ []) spelled
 Spells (CommandLine (Batch text)) spelled = IsUtf8 text × (word : List ℕ) × IsQuoted text word × IsWords (codes "batch") (word ∷ []) spelled
 Spells (CommandLine Check) spelled = spelled ≡ codes "check"
+Spells (CommandLine (Prepare slot text types)) spelled = IsUtf8 text × (number : List ℕ) × (word : List ℕ) × (names : List (List ℕ))
+    × IsNumber 18446744073709551615 slot number × IsQuoted text word × AllZip IsTypeName types names × IsWords (codes "prepare") (number ∷ word ∷ names) spelled
+Spells (CommandLine Clear) spelled = spelled ≡ codes "clear"
 
 -- the text of a `config` line
 abbrev pub config_of : Line → Option (List ℕ)

@@ -3,7 +3,7 @@ use Rattle.std.specs.Prelude.{◌≡◌, ℕ, ℤ, List, [], ◌∷◌, ◌++◌
 use Rattle.std.specs.List.{enumerate_from, join_with_byte}
 use Rattle.pg_spec.specs.DbErrors.{DbError}
 use Rattle.hex.specs.Hex.{encode_lower}
-use Rattle.pg_spec.specs.ReportText.{line, signed, quoted, async_line, book_line, item_line, turn_line}
+use Rattle.pg_spec.specs.ReportText.{line, signed, quoted, async_line, book_line, turn_line}
 use Rattle.pg_errors.specs.Views.{async_of}
 use Rattle.pg_errors.specs.declared.async_message.Notification.{Notification}
 use Rattle.pg_desk.specs.declared.event.Booking.{Booking}
@@ -11,7 +11,7 @@ use Rattle.pg_spec.specs.declared.stamps.Stamp.{Stamp}
 use Rattle.pg_text.specs.declared.command.Answer.{Answer}
 use Rattle.pg_text.specs.declared.report.Pair.{Pair}
 use Rattle.pg_text.specs.declared.report.Report.{Report}
-use Rattle.pg_text.specs.ReportText.{answer_items, answer_lines, answer_words, script_lines}
+use Rattle.pg_text.specs.ReportText.{answer_lines, answer_words, further_lines, script_lines}
 use Rattle.pg_text.specs.Views.{booking_of}
 
 -- where memory was enough, this piece stands behind what stood there
@@ -83,4 +83,4 @@ stamp_words stamp = 32 ∷ decimal stamp.owner ++ 32 ∷ decimal stamp.command +
 
 -- an answer behind the numbers of its handle and command
 abbrev pub answered : Answer → List ℕ
-answered answer = 32 ∷ line (answer_words answer) ++ flat_map item_line (answer_items answer)
+answered answer = 32 ∷ line (answer_words answer) ++ further_lines answer

@@ -11,6 +11,7 @@ mod quoted;
 mod report;
 mod scripts;
 mod session;
+mod type_name;
 mod word;
 
 pub use command::{Answer, Command};
@@ -21,6 +22,7 @@ pub use laws::{
 pub use parse::session_text;
 pub use pg_query::{Cells, SimpleMessage};
 pub use pg_spec::TurnMark;
+pub use pg_statements::Statement;
 pub use print::{error_text, report_text};
 pub use report::{Pair, Report};
 pub use scripts::Scripts;

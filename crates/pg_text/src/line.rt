@@ -4,12 +4,13 @@ ghost use Rattle.std.specs.Prelude.{◌<◌, IfOk, IfSome, option_map};
 ghost use Rattle.pg_spec.specs.SessionText.{IsNumber, IsQuoted};
 ghost use Rattle.pg_text.specs.declared.line.Keyword.TheVariants as first;
 ghost use Rattle.pg_text.specs.Drafts.{HasCut};
+ghost use Rattle.pg_text.specs.SessionText.{IsTypeName};
 ghost use Rattle.pg_text.specs.Lines.{FirstWord, ReadsLine, ReadsRest, SaysSomething};
 ghost use Rattle.pg_text.specs.Words.{AllBytes, AllWords, IsTextOf, IsUtf8Quoted, OneWord, Takes, TakesNumber};
 
 use crate::command::Command;
 use crate::word::Words;
-use pg_types::{Blob, OutOfMemory, Text};
+use pg_types::{Blob, List, Oid, OutOfMemory, Text};
 use std::alloc::Global;
 
 /// What a line says.
@@ -75,6 +76,8 @@ enum Keyword {
     Simple,
     Batch,
     Check,
+    Prepare,
+    Clear,
 }
 
 /// What line begins with this word.
@@ -114,6 +117,12 @@ fn keyword_of(word: &[u8]) -> Option<Keyword>
     if word == b"check".as_slice() {
         return Some(Keyword::Check);
     }
+    if word == b"prepare".as_slice() {
+        return Some(Keyword::Prepare);
+    }
+    if word == b"clear".as_slice() {
+        return Some(Keyword::Clear);
+    }
     None
 }
 
@@ -138,6 +147,8 @@ fn read_rest(
         Keyword::Simple => simple_line(alloc, words),
         Keyword::Batch => batch_line(alloc, words),
         Keyword::Check => Ok(check_line(words)),
+        Keyword::Prepare => prepare_line(alloc, words),
+        Keyword::Clear => Ok(clear_line(words)),
     }
 }
 
@@ -267,6 +278,38 @@ fn check_line(words: &Words) -> Option<Line>
     }
 }
 
+/// `SLOT TEXT TYPE ..`.
+fn prepare_line(alloc: Global, words: &mut Words) -> Result<Option<Line>, OutOfMemory>
+    ensures line { IfOk result (λ found. ReadsRest first.Prepare words.old found) }
+    ensures cut { IfOk result (λ found. IfSome found HasCut) }
+{
+    let Some(slot) = words.number(u64::MAX) else {
+        return Ok(None);
+    };
+    let Some(text) = utf8_text(alloc, words)? else {
+        return Ok(None);
+    };
+    let Some(types) = all_types(alloc, words)? else {
+        return Ok(None);
+    };
+    Ok(Some(Line::Command(Command::Prepare {
+        slot,
+        text,
+        types: List::new(types),
+    })))
+}
+
+fn clear_line(words: &Words) -> Option<Line>
+    ensures line { ReadsRest first.Clear words.now result }
+    ensures cut { IfSome result HasCut }
+{
+    if words.is_done() {
+        Some(Line::Command(Command::Clear))
+    } else {
+        None
+    }
+}
+
 /// `take N`, and nothing behind it.
 fn take_number(words: &mut Words) -> Option<u64>
     ensures { TakesNumber words.old result }
@@ -353,6 +396,20 @@ fn all_numbers(alloc: Global, words: &mut Words) -> Result<Option<Vec<u32>>, Out
         }
     }
     Ok(Some(turns))
+}
+
+/// Names of types, up to the end.
+fn all_types(alloc: Global, words: &mut Words) -> Result<Option<Vec<Oid>>, OutOfMemory>
+    ensures { IfOk result (λ found. AllWords IsTypeName words.old (option_map (λ types. types.items) found)) }
+{
+    let mut types = Vec::new(alloc);
+    while !words.is_done() {
+        match words.type_name() {
+            Some(oid) => types.push(oid)?,
+            None => return Ok(None),
+        }
+    }
+    Ok(Some(types))
 }
 
 /// Bytes, up to the end, joined.

@@ -18,7 +18,8 @@ use pg_desk::{Booking, Stamp};
 use pg_errors::{AsyncMessage, DbError, Error, Notification};
 use pg_query::SimpleMessage;
 use pg_spec::TurnMark;
-use pg_types::{Blob, List, OutOfMemory, Text};
+use pg_statements::{Column, Statement};
+use pg_types::{Blob, List, OutOfMemory, Text, Type};
 use std::alloc::Global;
 
 /// The text of a report.
@@ -203,6 +204,7 @@ fn put_answer(
     match answer {
         Answer::Done => put_done(out),
         Answer::Messages(messages) => put_items(alloc, out, messages.as_slice()),
+        Answer::Statement(statement) => put_statement(alloc, out, statement),
         Answer::Failed(error) => put_failed(alloc, out, error),
     }
 }
@@ -221,6 +223,54 @@ fn put_done(out: &mut String) -> Result<(), OutOfMemory>
     ensures { Adds (written.answered Answer.Done) out.old out.new result }
 {
     put(out, " done\n")
+}
+
+/// The name of a statement, and a line for each parameter and each column.
+fn put_statement(alloc: Global, out: &mut String, statement: &Statement) -> Result<(), OutOfMemory>
+    ensures { Adds (written.answered (Answer.Statement statement.now)) out.old out.new result }
+{
+    put(out, " statement ")?;
+    put_quoted(alloc, out, statement.name().as_bytes())?;
+    put(out, "\n")?;
+    put_params(out, statement.params())?;
+    put_described(alloc, out, statement.columns())
+}
+
+fn put_params(out: &mut String, params: &[Type]) -> Result<(), OutOfMemory>
+    ensures { Adds (flat_map text.param_line params.now) out.old out.new result }
+{
+    for param in params {
+        put_param(out, param)?;
+    }
+    Ok(())
+}
+
+fn put_param(out: &mut String, param: &Type) -> Result<(), OutOfMemory>
+    ensures { Adds (text.param_line param.now) out.old out.new result }
+{
+    put(out, "param ")?;
+    put_number(out, param.oid() as u64)?;
+    put(out, "\n")
+}
+
+/// A line for each column of a statement.
+fn put_described(alloc: Global, out: &mut String, columns: &[Column]) -> Result<(), OutOfMemory>
+    ensures { Adds (flat_map text.column_line columns.now) out.old out.new result }
+{
+    for column in columns {
+        put_column(alloc, out, column)?;
+    }
+    Ok(())
+}
+
+fn put_column(alloc: Global, out: &mut String, column: &Column) -> Result<(), OutOfMemory>
+    ensures { Adds (text.column_line column.now) out.old out.new result }
+{
+    put(out, "column ")?;
+    put_quoted(alloc, out, column.name().as_bytes())?;
+    put(out, " ")?;
+    put_number(out, column.type_().oid() as u64)?;
+    put(out, "\n")
 }
 
 fn put_failed(alloc: Global, out: &mut String, error: &Error) -> Result<(), OutOfMemory>

@@ -3,11 +3,13 @@
 ghost use Rattle.std.specs.Prelude.{◌≡◌, ◌≢◌, ◌<◌, ◌↔◌, ℕ, length, slice_index, EachIndex, IfOk, MatchOption, IsTrue, is_none, option_map};
 ghost use Rattle.std.specs.Int.{IsInRange};
 ghost use Rattle.pg_spec.specs.SessionText.{IsBytes, IsNumber, IsQuoted};
+ghost use Rattle.pg_text.specs.SessionText.{IsTypeName};
 ghost use Rattle.pg_text.specs.Words.{BeginsWithQuote, IsHexWord, IsWord, LeavesBehind, Means, Takes};
 
 use crate::quoted::{Quoted, read_quoted};
+use crate::type_name::oid_named;
 use memchr::memchr;
-use pg_types::OutOfMemory;
+use pg_types::{Oid, OutOfMemory};
 use std::alloc::Global;
 use std::marker::Model;
 
@@ -60,6 +62,16 @@ impl<'a> Words<'a> {
     {
         match self.word() {
             Some(digits) => number_of(digits, most),
+            None => None,
+        }
+    }
+
+    /// Takes the name of a built-in type.
+    pub(crate) fn type_name(&mut self) -> Option<Oid>
+        ensures { Takes IsTypeName self.old result self.new }
+    {
+        match self.word() {
+            Some(name) => oid_named(name),
             None => None,
         }
     }
