@@ -1,29 +1,39 @@
 -- The bytes of a reply, as they are written one behind another.
-use Rattle.std.proofs.Common.{◌≡◌, ℕ, ◌+◌, ◌<◌, Bool, true, false, List, [], ◌∷◌, ◌++◌, length, replicate, sym, ap, ◌∙◌, arith, codes, decimal, append_assoc, append-nil}
+use Rattle.std.proofs.Common.{◌≡◌, ℕ, zero, suc, ◌+◌, ◌<◌, ◌≤◌, Bool, true, false, List, [], ◌∷◌, ◌++◌, length, get_or, replicate, refl, sym, ap, ◌∙◌, arith, codes, decimal, append_assoc, append-nil}
 use Rattle.std.specs.Int.{w32, to_be_bytes}
 use Rattle.std.proofs.lemmas.Fmt.{decimal_digit}
+use Rattle.std.proofs.lemmas.Nat.{be_bytes_4}
 use Rattle.std.proofs.lemmas.List.{replicate_more}
 use Rattle.std.proofs.lemmas.List.Concat.{flat_map-append}
 use Rattle.pg_spec.specs.RawMessages.{RawMessage, message_bytes}
 use Rattle.pg_gen.specs.Generated.{before_rows, behind_rows, reply}
 use Rattle.pg_gen.specs.Messages.{bytes_of, command_complete, notification, one_cell, ready}
 
--- four pieces behind what stood there
-four : (old a b c d : List ℕ) → (((old ++ a) ++ b) ++ c) ++ d ≡ old ++ (a ++ (b ++ (c ++ d)))
-four old a b c d = append_assoc ((old ++ a) ++ b) c d ∙ append_assoc (old ++ a) b (c ++ d) ∙ append_assoc old a (b ++ (c ++ d))
+-- a number below 256, in four bytes
+each_below : (n : ℕ) → n < 256 → (i : ℕ) → get_or (0 ∷ 0 ∷ 0 ∷ n ∷ []) i 0 < 256
+each_below n below zero = omega arith
+each_below n below (suc zero) = omega arith
+each_below n below (suc (suc zero)) = omega arith
+each_below n below (suc (suc (suc zero))) = below
+each_below n below (suc (suc (suc (suc i)))) = omega arith
 
-row_is : (old value : List ℕ) →
-    (((old ++ 68 ∷ to_be_bytes w32 (length value + 6 + 4)) ++ 0 ∷ 1 ∷ []) ++ to_be_bytes w32 (length value)) ++ value ≡ old ++ message_bytes (one_cell value)
-row_is old value =
-    let n : length value + 6 + 4 ≡ 4 + length (one_cell value).body = omega arith in
-    four old (68 ∷ to_be_bytes w32 (length value + 6 + 4)) (0 ∷ 1 ∷ []) (to_be_bytes w32 (length value)) value
-    ∙ ap (λ k. old ++ ((68 ∷ to_be_bytes w32 k) ++ ((0 ∷ 1 ∷ []) ++ (to_be_bytes w32 (length value) ++ value)))) n
+in_last : (n : ℕ) → n < 256 → to_be_bytes w32 n ≡ 0 ∷ 0 ∷ 0 ∷ n ∷ []
+in_last n below = be_bytes_4 (0 ∷ 0 ∷ 0 ∷ n ∷ []) n refl (each_below n below) (omega arith)
 
-end_is : (old : List ℕ) (rows : ℕ) → rows < 10 →
-    (((old ++ 67 ∷ to_be_bytes w32 (9 + 4)) ++ codes "SELECT ") ++ (48 + rows) ∷ 0 ∷ []) ++ 90 ∷ 0 ∷ 0 ∷ 0 ∷ 5 ∷ 73 ∷ [] ≡ old ++ bytes_of (behind_rows rows)
-end_is old rows few =
-    four old (67 ∷ to_be_bytes w32 (9 + 4)) (codes "SELECT ") ((48 + rows) ∷ 0 ∷ []) (90 ∷ 0 ∷ 0 ∷ 0 ∷ 5 ∷ 73 ∷ [])
-    ∙ ap (λ digits. old ++ bytes_of (command_complete (codes "SELECT " ++ digits) ∷ ready ∷ [])) (sym (decimal_digit rows few))
+row_is : (value : List ℕ) → length value ≤ 40 →
+    (68 ∷ 0 ∷ 0 ∷ 0 ∷ (length value + 10) ∷ 0 ∷ 1 ∷ 0 ∷ 0 ∷ 0 ∷ length value ∷ []) ++ value ≡ message_bytes (one_cell value)
+row_is value short =
+    let n : length value + 10 ≡ 4 + length (one_cell value).body = omega arith in
+    ap (λ (l : List ℕ). 68 ∷ (l ++ (0 ∷ 1 ∷ 0 ∷ 0 ∷ 0 ∷ length value ∷ value))) (sym (in_last (length value + 10) (omega arith)))
+    ∙ ap (λ (l : List ℕ). 68 ∷ (to_be_bytes w32 (length value + 10) ++ (0 ∷ 1 ∷ (l ++ value)))) (sym (in_last (length value) (omega arith)))
+    ∙ ap (λ k. 68 ∷ (to_be_bytes w32 k ++ (0 ∷ 1 ∷ (to_be_bytes w32 (length value) ++ value)))) n
+
+-- what stands before ReadyForQuery
+abbrev done : ℕ → List ℕ
+done digit = 67 ∷ 0 ∷ 0 ∷ 0 ∷ 13 ∷ 83 ∷ 69 ∷ 76 ∷ 69 ∷ 67 ∷ 84 ∷ 32 ∷ digit ∷ 0 ∷ []
+
+abbrev ready_bytes : List ℕ
+ready_bytes = 90 ∷ 0 ∷ 0 ∷ 0 ∷ 5 ∷ 73 ∷ []
 
 -- the column
 abbrev columns : List ℕ
@@ -31,15 +41,17 @@ columns = 84 ∷ 0 ∷ 0 ∷ 0 ∷ 26 ∷ 0 ∷ 1 ∷ 118 ∷ 0 ∷ 0 ∷ 0 ∷ 
 
 -- ---- what is written
 
-pub row_written : (old value h a b new : List ℕ) → h ≡ old ++ 68 ∷ to_be_bytes w32 (length value + 6 + 4) → a ≡ h ++ 0 ∷ 1 ∷ [] →
-    b ≡ a ++ to_be_bytes w32 (length value) → new ≡ b ++ value → new ≡ old ++ message_bytes (one_cell value)
-row_written old value h a b new p q r s =
-    s ∙ ap (λ l. l ++ value) (r ∙ ap (λ l. l ++ to_be_bytes w32 (length value)) (q ∙ ap (λ l. l ++ 0 ∷ 1 ∷ []) p)) ∙ row_is old value
+pub row_written : (old value a new : List ℕ) → length value ≤ 40 → a ≡ old ++ 68 ∷ 0 ∷ 0 ∷ 0 ∷ (length value + 10) ∷ 0 ∷ 1 ∷ 0 ∷ 0 ∷ 0 ∷ length value ∷ [] →
+    new ≡ a ++ value → new ≡ old ++ message_bytes (one_cell value)
+row_written old value a new short p q =
+    q ∙ ap (λ l. l ++ value) p
+    ∙ append_assoc old (68 ∷ 0 ∷ 0 ∷ 0 ∷ (length value + 10) ∷ 0 ∷ 1 ∷ 0 ∷ 0 ∷ 0 ∷ length value ∷ []) value
+    ∙ ap (λ l. old ++ l) (row_is value short)
 
-pub end_written : (old h a b new : List ℕ) (rows : ℕ) → rows < 10 → h ≡ old ++ 67 ∷ to_be_bytes w32 (9 + 4) → a ≡ h ++ codes "SELECT " →
-    b ≡ a ++ (48 + rows) ∷ 0 ∷ [] → new ≡ b ++ 90 ∷ 0 ∷ 0 ∷ 0 ∷ 5 ∷ 73 ∷ [] → new ≡ old ++ bytes_of (behind_rows rows)
-end_written old h a b new rows few p q r s =
-    s ∙ ap (λ l. l ++ 90 ∷ 0 ∷ 0 ∷ 0 ∷ 5 ∷ 73 ∷ []) (r ∙ ap (λ l. l ++ (48 + rows) ∷ 0 ∷ []) (q ∙ ap (λ l. l ++ codes "SELECT ") p)) ∙ end_is old rows few
+pub end_written : (old a new : List ℕ) (rows : ℕ) → rows < 10 → a ≡ old ++ done (48 + rows) → new ≡ a ++ ready_bytes → new ≡ old ++ bytes_of (behind_rows rows)
+end_written old a new rows few p q =
+    q ∙ ap (λ l. l ++ ready_bytes) p ∙ append_assoc old (done (48 + rows)) ready_bytes
+    ∙ ap (λ digits. old ++ bytes_of (command_complete (codes "SELECT " ++ digits) ∷ ready ∷ [])) (sym (decimal_digit rows few))
 
 pub notified_written : (old payload mid new : List ℕ) (notified : Bool) → notified ≡ true →
     mid ≡ old ++ message_bytes (notification 1 (codes "c") payload) → new ≡ mid ++ columns → new ≡ old ++ bytes_of (before_rows payload notified)

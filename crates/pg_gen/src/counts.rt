@@ -51,7 +51,7 @@ impl Counts {
     {
         self.commands = one_more(self.commands)?;
         match answer {
-            Answer::Done => Ok(self),
+            Answer::Done | Answer::Statement(_) => Ok(self),
             Answer::Messages(messages) => self.with_messages(messages.as_slice()),
             Answer::Failed(_) => {
                 self.failed = one_more(self.failed)?;

@@ -11,6 +11,7 @@ ghost use Rattle.pg_gen.specs.Messages.{bytes_of};
 
 use crate::draws::Draws;
 use crate::reply::{OPENING, reply};
+use itoa::Buffer;
 use pg_text::{Command, Scripts, Session};
 use pg_types::{Blob, List, OutOfMemory, Text};
 use pg_wire::MemoryLink;
@@ -84,7 +85,11 @@ fn new_script(alloc: Global, n: u32, handle: u32) -> Result<List<Command>, OutOf
 fn new_command(alloc: Global, i: u32) -> Result<Command, OutOfMemory>
     ensures { IfOk result (λ command. command ≡ as_command (spec.command i)) }
 {
-    let text = format!(in alloc; "q{i}")?;
+    let mut buffer = Buffer::new();
+    let number = buffer.format(i);
+    let mut text = String::with_capacity(alloc, number.len() + 1)?;
+    text.push_str("q")?;
+    text.push_str(number)?;
     Ok(Command::Simple {
         text: Text::new(text),
         take: None,

@@ -83,10 +83,9 @@ fn put_row(value: &[u8], out: &mut Vec<u8>) -> Result<(), OutOfMemory>
     requires { length value.now ≤ 40 }
     ensures { OnOk result (out.new.items ≡ out.old.items ++ message_bytes (one_cell value.now)) }
 {
-    let len = value.len() as u32;
-    put_header(b'D', len + 6, out)?;
-    out.extend_from_slice(&[0, 1])?;
-    out.extend_from_slice(&len.to_be_bytes())?;
+    // All lengths are below 256, so only the last of their four bytes isn't zero.
+    let len = value.len() as u8;
+    out.extend_from_slice(&[b'D', 0, 0, 0, len + 10, 0, 1, 0, 0, 0, len])?;
     Ok(out.extend_from_slice(value)?)
 }
 
@@ -95,9 +94,10 @@ fn put_end(rows: u32, out: &mut Vec<u8>) -> Result<(), OutOfMemory>
     requires { rows < 10 }
     ensures { OnOk result (out.new.items ≡ out.old.items ++ bytes_of (spec.behind_rows rows)) }
 {
-    put_header(b'C', 9, out)?;
-    out.extend_from_slice(b"SELECT ")?;
-    out.extend_from_slice(&[b'0' + rows as u8, 0])?;
+    let digit = b'0' + rows as u8;
+    out.extend_from_slice(&[
+        b'C', 0, 0, 0, 13, b'S', b'E', b'L', b'E', b'C', b'T', b' ', digit, 0,
+    ])?;
     Ok(out.extend_from_slice(&READY)?)
 }
 

@@ -3,5 +3,5 @@ use Rattle.pg_gen.proofs.reply.put_end.Goals as goal
 
 pub returns : goal.returns
 returns c =
-    end_written c.args.out.now.items c.put_header.new.out.items c.extend_from_slice.new.self.items c.extend_from_slice-2.new.self.items c.extend_from_slice-3.new.self.items
-    c.args.rows c.requires c.in_ok-put_header.ensures c.in_ok-extend_from_slice.ensures.items c.in_ok-extend_from_slice-2.ensures.items c.in_ok-extend_from_slice-3.ensures.items
+    end_written c.args.out.now.items c.extend_from_slice.new.self.items c.extend_from_slice-2.new.self.items
+    c.args.rows c.requires c.in_ok-extend_from_slice.ensures.items c.in_ok-extend_from_slice-2.ensures.items
