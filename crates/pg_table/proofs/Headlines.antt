@@ -70,6 +70,7 @@ abbrev back_answer : Answer → said.Answer
 back_answer (answer.Messages messages) = said.Items (map item_of messages)
 back_answer (answer.Failed e) = said.Failed e
 back_answer answer.Done = said.Items []
+back_answer (answer.Statement statement) = said.Items []
 
 answer-back : (a : said.Answer) → back_answer (as_answer a) ≡ a
 answer-back (said.Items items) = ap (λ (xs : List Item). said.Items xs) (items-back items)

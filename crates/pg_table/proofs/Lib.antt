@@ -2,6 +2,8 @@ pub mod Mapped
 pub mod DoneDecides
 pub mod Decided
 pub mod Queries
+pub mod Holding
+pub mod MappedCommands
 pub mod Counted
 pub mod SimpleMeans
 pub mod Renamed

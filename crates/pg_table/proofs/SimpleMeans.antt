@@ -10,6 +10,8 @@ use Rattle.pg_client.specs.Simple.{answer_from, asks_by as asks_of, simple_query
 use Rattle.pg_client.proofs.Done.{batch-free, done-free}
 use Rattle.pg_client.proofs.Leaving.{query-free}
 use Rattle.pg_faults.specs.declared.error.Error.{Error}
+use Rattle.pg_lookup.specs.Lookups.{clear, prepare}
+use Rattle.pg_lookup_laws.proofs.Commands.{clearing, preparing-text}
 use Rattle.pg_query.specs.Dialogue.{Dialogue as Code}
 use Rattle.pg_query.specs.Leaving.{Nothing}
 use Rattle.pg_query.specs.Reading.{ends}
@@ -29,11 +31,12 @@ use Rattle.pg_core.proofs.Requests.{request-so}
 use Rattle.pg_turns.specs.Speeches.{AreCommands, BookWhole, BooksWhole, IsWholeRequest, LetGo, meaning_of}
 use Rattle.pg_table.specs.Mapped.{mapped, mapped_answer}
 use Rattle.pg_table.specs.Slots.{Slots}
-use Rattle.pg_table.specs.Table.{in_done, in_messages, kept_answer, table, simply}
+use Rattle.pg_table.specs.Table.{in_done, in_messages, in_statement, kept_answer, table, simply}
 use Rattle.pg_table.specs.declared.state.AnyAnswer.{AnyAnswer}
 use Rattle.pg_table.proofs.Decided.{whole-decides}
 use Rattle.pg_table.proofs.DoneDecides.{done-decides, whole-sync}
 use Rattle.pg_table.proofs.Mapped.{asked-mapped, asks-mapped, decides-mapped, lets-mapped, reading_in}
+use Rattle.pg_table.proofs.MappedCommands.{books-mapped, command-mapped}
 use Rattle.pg_table.proofs.Queries.{whole-query}
 
 -- ---- they decide in time
@@ -61,6 +64,8 @@ pub are-commands : AreCommands table
 are-commands own (command.Simple text take) = command-by take (query_frame text)
 are-commands own (command.Batch text) = batch-command (query_frame text)
 are-commands own command.Check = request-mapped in_done false sync_frame check_reading (done-decides false)
+are-commands own (command.Prepare slot text types) = command-mapped in_statement (prepare text types) (preparing-text text types).command
+are-commands own command.Clear = command-mapped in_done clear clearing.command
 
 -- ---- and book whole requests
 
@@ -92,6 +97,8 @@ pub book-whole : BookWhole table
 book-whole own (command.Simple text take) = whole-by take text (query_frame text) refl
 book-whole own (command.Batch text) = batch-whole text (query_frame text) refl
 book-whole own command.Check = whole-mapped in_done false sync_frame check_reading whole-sync
+book-whole own (command.Prepare slot text types) = books-mapped in_statement (prepare text types) (preparing-text text types).whole
+book-whole own command.Clear = books-mapped in_done clear clearing.whole
 
 -- ---- and let them go
 
@@ -99,6 +106,8 @@ pub let-go : LetGo table
 let-go own (command.Simple text take) = lets-mapped in_messages Nothing (simple_query text take) (query-free text take)
 let-go own (command.Batch text) = lets-mapped in_done Nothing (batch_execute text) (batch-free (query_frame text))
 let-go own command.Check = lets-mapped in_done Nothing check_connection (done-free false sync_frame)
+let-go own (command.Prepare slot text types) = lets-mapped in_statement Nothing (prepare text types) (preparing-text text types).lets_go
+let-go own command.Clear = lets-mapped in_done Nothing clear clearing.lets_go
 
 -- ---- and mean what the headline says
 
@@ -136,3 +145,5 @@ are-simple own (command.Simple text take) text' take' e =
     ∙ ap (λ (t : List ℕ × Option ℕ). behind (asks_by t.1 (query_frame t.0)) (λ a. ending own (answer_from a))) same
 are-simple own (command.Batch text) text' take' e = absurd cc
 are-simple own command.Check text' take' e = absurd cc
+are-simple own (command.Prepare slot text types) text' take' e = absurd cc
+are-simple own command.Clear text' take' e = absurd cc

@@ -1,21 +1,27 @@
 -- The states of all commands in one: where each stands.
 use Rattle.pg_client.specs.DoneStates.{IsLiveBatch, IsLiveCheck, place_of_batch, place_of_check}
 use Rattle.pg_client.specs.Queries.{IsLiveQuery, place_of_query}
+use Rattle.pg_prepared.specs.States.{IsLiveClear, place_of_clear}
+use Rattle.pg_prepared.specs.contracts.prepare.PrepareStatePolled.TheImpl as prepared
 use Rattle.pg_query.specs.Meaning.{Place}
 use Rattle.pg_table.specs.Mapped.{mapped_place}
-use Rattle.pg_table.specs.Table.{in_done, in_messages}
+use Rattle.pg_table.specs.Table.{in_done, in_messages, in_statement}
 use Rattle.pg_table.specs.declared.state.AnyAnswer.{AnyAnswer}
 use Rattle.pg_table.specs.declared.state.AnyState.{AnyState}
-use Rattle.pg_table.specs.declared.state.AnyState.TheVariants.{Batch, Check, Simple}
+use Rattle.pg_table.specs.declared.state.AnyState.TheVariants.{Batch, Check, Clear, Prepare, Simple}
 
 -- what it asks and answers from here on, and the request that it reads
 abbrev pub place_of : AnyState → Place AnyAnswer
 place_of (Simple state) = mapped_place in_messages (place_of_query state.value)
 place_of (Batch state) = mapped_place in_done (place_of_batch state.value)
 place_of (Check state) = mapped_place in_done (place_of_check state.value)
+place_of (Prepare state) = mapped_place in_statement (prepared.ghosts.place state.value)
+place_of (Clear state) = mapped_place in_done (place_of_clear state.value)
 
 -- it hasn't answered
 abbrev pub IsLive : AnyState → Type 0
 IsLive (Simple state) = IsLiveQuery state.value
 IsLive (Batch state) = IsLiveBatch state.value
 IsLive (Check state) = IsLiveCheck state.value
+IsLive (Prepare state) = prepared.ghosts.is_live state.value
+IsLive (Clear state) = IsLiveClear state.value

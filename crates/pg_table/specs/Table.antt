@@ -4,8 +4,10 @@ use Rattle.pg_faults.specs.declared.error.Error.{Error}
 use Rattle.pg_client.specs.Done.{batch_execute, check_connection}
 use Rattle.pg_client.specs.Simple.{answer_from, simple_query}
 use Rattle.pg_course.specs.Simples.{Simply}
+use Rattle.pg_lookup.specs.Lookups.{clear, prepare}
 use Rattle.pg_query.specs.Dialogue.{Dialogue}
 use Rattle.pg_query.specs.declared.simple_message.SimpleMessage.{SimpleMessage}
+use Rattle.pg_statements.specs.declared.statement.Described.{Described}
 use Rattle.pg_text.specs.declared.command.Answer.{Answer}
 use Rattle.pg_text.specs.declared.command.Answer.TheVariants as answer
 use Rattle.pg_text.specs.declared.command.Command.{Command}
@@ -14,9 +16,9 @@ use Rattle.pg_turns.specs.Handles.{HandleState}
 use Rattle.pg_turns.specs.Speeches.{Speech}
 use Rattle.pg_turns.specs.States.{SessionState}
 use Rattle.pg_table.specs.Mapped.{mapped, mapped_answer}
-use Rattle.pg_table.specs.Slots.{Slots}
+use Rattle.pg_table.specs.Slots.{Slots, with_statement}
 use Rattle.pg_table.specs.declared.state.AnyAnswer.{AnyAnswer}
-use Rattle.pg_table.specs.declared.state.AnyAnswer.TheVariants.{Done, Messages}
+use Rattle.pg_table.specs.declared.state.AnyAnswer.TheVariants.{Done, Messages, Statement}
 
 -- the messages of a simple query as an answer
 abbrev pub in_messages : List SimpleMessage → AnyAnswer
@@ -26,20 +28,33 @@ in_messages messages = Messages messages
 abbrev pub in_done : Unit {0} → AnyAnswer
 in_done x = Done
 
+-- a statement that was prepared as an answer
+abbrev pub in_statement : Described → AnyAnswer
+in_statement statement = Statement statement
+
 -- what a command asks and answers, by the slots of its script: a line for each
 abbrev pub says_of : Slots → Command → Dialogue AnyAnswer
 says_of slots (command.Simple text take) = mapped in_messages (simple_query text take)
 says_of slots (command.Batch text) = mapped in_done (batch_execute text)
 says_of slots command.Check = mapped in_done check_connection
+says_of slots (command.Prepare slot text types) = mapped in_statement (prepare text types)
+says_of slots command.Clear = mapped in_done clear
 
 -- the answer that is kept of a command
 abbrev pub kept_answer : Result AnyAnswer Error → Answer
 kept_answer (Ok (Messages messages)) = answer.Messages messages
 kept_answer (Ok Done) = answer.Done
+kept_answer (Ok (Statement statement)) = answer.Statement statement
 kept_answer (Err e) = answer.Failed e
 
--- the slots of its script behind a command that answered so: none changes them
+-- the slots behind a prepare that answered so: the statement stands in its slot
+abbrev pub slots_behind_prepare : Slots → ℕ → Result AnyAnswer Error → Slots
+slots_behind_prepare slots slot (Ok (Statement statement)) = with_statement slots slot statement
+slots_behind_prepare slots slot r = slots
+
+-- the slots of its script behind a command that answered so
 abbrev pub slots_behind : Slots → Command → Result AnyAnswer Error → Slots
+slots_behind slots (command.Prepare slot text types) r = slots_behind_prepare slots slot r
 slots_behind slots c r = slots
 
 -- the table of commands: a script keeps its slots between them, and none holds a statement before the first

@@ -1,6 +1,6 @@
 //! What is promised over any commands, of those of the table. Each body does nothing.
 
-ghost use Rattle.std.specs.Prelude.{◌≡◌, ℕ, List, Result};
+ghost use Rattle.std.specs.Prelude.{◌≡◌, ◌≢◌, ℕ, List, Result, Some};
 ghost use Rattle.pg_course.specs.Simples.{AreSimple, Headline};
 ghost use Rattle.pg_failed.specs.Calls.{Call};
 ghost use Rattle.pg_failed.specs.Kept.{NoneKeptBack};
@@ -16,8 +16,10 @@ ghost use Rattle.pg_spec.specs.Turns.{Times};
 ghost use Rattle.pg_text.specs.Views.{as_scripts};
 ghost use Rattle.pg_text.specs.declared.command.Answer.{Answer};
 ghost use Rattle.pg_text.specs.declared.command.Command.{Command};
+ghost use Rattle.pg_statements.specs.declared.statement.Described.{Described as Statement};
 ghost use Rattle.pg_turns.specs.Speeches.{AreCommands, BookWhole, LetGo, meaning_of};
 ghost use Rattle.pg_table.specs.Headlines.{AnsweredSimply, simple_call, simple_meaning, simple_session, simple_words};
+ghost use Rattle.pg_table.specs.Slots.{Slots, statement_in, with_statement};
 ghost use Rattle.pg_table.specs.Table.{simply, table};
 
 /// The commands of the table are commands that a session takes, they book whole requests and let each go, and its simple queries
@@ -53,4 +55,11 @@ pub fn failed_sessions_of_simple_queries()
         SentInOrder (meaning_of table) call s given taken → promised.SentInOrder (simple_call call scripts) s given taken }
     ensures kept { (call : Call Command) (scripts : List (List said.Command)) (result : Result said.Report Failure) → call.scripts ≡ as_scripts scripts →
         NoneKeptBack (meaning_of table) call result → promised.NoneKeptBack (simple_call call scripts) result }
+{}
+
+/// A slot holds the statement that was put last into it, and the others hold what they held.
+pub fn slots_hold_what_was_put_last()
+    ensures held { (slots : Slots) (number : ℕ) (statement : Statement) → statement_in (with_statement slots number statement) number ≡ Some statement }
+    ensures others { (slots : Slots) (number other : ℕ) (statement : Statement) → other ≢ number →
+        statement_in (with_statement slots number statement) other ≡ statement_in slots other }
 {}

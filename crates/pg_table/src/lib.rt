@@ -7,7 +7,7 @@ mod state;
 
 pub use laws::{
     failed_sessions_of_simple_queries, sessions_of_simple_queries, simple_queries_of_the_table,
-    the_table_is_of_commands,
+    slots_hold_what_was_put_last, the_table_is_of_commands,
 };
 pub use slots::{Slot, Slots};
 pub use state::{AnyAnswer, AnyState, begin, keep};

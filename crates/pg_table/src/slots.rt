@@ -1,8 +1,10 @@
 //! What a script keeps between its commands: its prepared statements, by the numbers of their slots.
 
-ghost use Rattle.std.specs.Prelude.{◌≡◌, []};
+ghost use Rattle.std.specs.Prelude.{◌≡◌, [], MatchResult};
+ghost use Rattle.pg_table.specs.Slots.{with_statement, without};
 
 use pg_statements::Statement;
+use pg_types::OutOfMemory;
 use std::alloc::Global;
 use std::marker::Model;
 
@@ -41,4 +43,22 @@ impl Slots {
             slots: Vec::new(alloc),
         }
     }
+
+    /// Puts a statement into a slot. A former one is forgotten, also where memory lacks.
+    pub fn put(&mut self, number: u64, statement: Statement) -> Result<(), OutOfMemory>
+        ensures { MatchResult result (λ _. self.new ≡ with_statement self.old number statement) (λ _. self.new ≡ without self.old number) }
+    {
+        forget(&mut self.slots, number);
+        match self.slots.push(Slot { number, statement }) {
+            Ok(()) => Ok(()),
+            Err(_) => Err(OutOfMemory),
+        }
+    }
+}
+
+/// Empties the slot of this number.
+fn forget(slots: &mut Vec<Slot>, number: u64)
+    ensures { slots.new.items ≡ without slots.old.items number }
+{
+    slots.retain(|slot| slot.number != number);
 }

@@ -3,14 +3,16 @@
 ghost use Rattle.std.specs.Prelude.{◌≡◌, IfErr, IfOk, MatchResult, OnOk};
 ghost use Rattle.pg_table.specs.Mapped.{mapped_poll};
 ghost use Rattle.pg_table.specs.States.{IsLive, place_of};
-ghost use Rattle.pg_table.specs.Table.{in_done, in_messages, kept_answer, says_of, slots_behind};
+ghost use Rattle.pg_table.specs.Table.{in_done, in_messages, in_statement, kept_answer, says_of, slots_behind, slots_behind_prepare};
 
 use crate::slots::Slots;
 use futures::task::Poll;
 use pg_client::{BatchExecuteState, CheckConnectionState, SimpleQueryState};
 use pg_desk::{Desk, Stamp};
 use pg_errors::Error;
+use pg_prepared::{ClearState, PrepareState};
 use pg_query::{Polled, SimpleMessage};
+use pg_statements::Statement;
 use pg_text::{Answer, Command};
 use pg_types::List;
 use std::alloc::Global;
@@ -21,6 +23,8 @@ pub enum AnyState<'a> {
     Simple(Box<SimpleQueryState<'a>>),
     Batch(Box<BatchExecuteState<'a>>),
     Check(Box<CheckConnectionState>),
+    Prepare(Box<PrepareState<'a>>),
+    Clear(Box<ClearState>),
 }
 
 /// What a state answers.
@@ -28,6 +32,7 @@ pub enum AnyState<'a> {
 pub enum AnyAnswer {
     Messages(List<SimpleMessage>),
     Done,
+    Statement(Statement),
 }
 
 /// The state of a command, by the slots of its script. OutOfMemory comes where there is no room for it.
@@ -48,6 +53,14 @@ pub fn begin<'a>(alloc: Global, command: &'a Command, slots: &Slots) -> Result<A
         Command::Check => {
             let state = boxed(alloc, CheckConnectionState::new())?;
             Ok(AnyState::Check(state))
+        }
+        Command::Prepare { text, types, .. } => {
+            let state = boxed(alloc, PrepareState::new(text.as_str(), types.as_slice()))?;
+            Ok(AnyState::Prepare(state))
+        }
+        Command::Clear => {
+            let state = boxed(alloc, ClearState::new())?;
+            Ok(AnyState::Clear(state))
         }
     }
 }
@@ -70,7 +83,25 @@ pub fn keep(
     ensures slots { OnOk result (slots.new ≡ slots_behind slots.old command.now answer) }
     ensures error { IfErr result (λ e. e ≡ Error.OutOfMemory) }
 {
+    if let Command::Prepare { slot, .. } = command {
+        keep_prepared(slots, *slot, &answer)?;
+    }
     Ok(told(answer))
+}
+
+/// Keeps the statement that a prepare answered in its slot.
+fn keep_prepared(
+    slots: &mut Slots,
+    slot: u64,
+    answer: &Result<AnyAnswer, Error>,
+) -> Result<(), Error>
+    ensures kept { OnOk result (slots.new ≡ slots_behind_prepare slots.old slot answer.now) }
+    ensures error { IfErr result (λ e. e ≡ Error.OutOfMemory) }
+{
+    if let Ok(AnyAnswer::Statement(statement)) = answer {
+        slots.put(slot, statement.copy()?)?;
+    }
+    Ok(())
 }
 
 /// The answer that is kept of what a state answered.
@@ -80,6 +111,7 @@ fn told(answer: Result<AnyAnswer, Error>) -> Answer
     match answer {
         Ok(AnyAnswer::Messages(messages)) => Answer::Messages(messages),
         Ok(AnyAnswer::Done) => Answer::Done,
+        Ok(AnyAnswer::Statement(statement)) => Answer::Statement(statement),
         Err(error) => Answer::Failed(error),
     }
 }
@@ -106,6 +138,17 @@ fn done(polled: Poll<Result<(), Error>>) -> Poll<Result<AnyAnswer, Error>>
     }
 }
 
+/// A poll of a command that prepares.
+fn statement(polled: Poll<Result<Statement, Error>>) -> Poll<Result<AnyAnswer, Error>>
+    ensures { result ≡ mapped_poll in_statement polled }
+{
+    match polled {
+        Poll::Ready(Ok(statement)) => Poll::Ready(Ok(AnyAnswer::Statement(statement))),
+        Poll::Ready(Err(error)) => Poll::Ready(Err(error)),
+        Poll::Pending => Poll::Pending,
+    }
+}
+
 impl<'a> Polled for AnyState<'a> {
     ghost use Rattle.pg_table.specs.States.{IsLive, place_of};
 
@@ -125,6 +168,8 @@ impl<'a> Polled for AnyState<'a> {
             AnyState::Simple(state) => messages(state.poll(alloc, desk, stamp)),
             AnyState::Batch(state) => done(state.poll(alloc, desk, stamp)),
             AnyState::Check(state) => done(state.poll(alloc, desk, stamp)),
+            AnyState::Prepare(state) => statement(state.poll(alloc, desk, stamp)),
+            AnyState::Clear(state) => done(state.poll(alloc, desk, stamp)),
         }
     }
 
@@ -133,6 +178,8 @@ impl<'a> Polled for AnyState<'a> {
             AnyState::Simple(state) => Box::into_inner(state).hang_up(alloc, desk, stamp),
             AnyState::Batch(state) => Box::into_inner(state).hang_up(alloc, desk, stamp),
             AnyState::Check(state) => Box::into_inner(state).hang_up(alloc, desk, stamp),
+            AnyState::Prepare(state) => Box::into_inner(state).hang_up(alloc, desk, stamp),
+            AnyState::Clear(state) => Box::into_inner(state).hang_up(alloc, desk, stamp),
         }
     }
 }

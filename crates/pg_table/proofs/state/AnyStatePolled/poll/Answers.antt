@@ -1,6 +1,8 @@
 use Rattle.pg_client.specs.DoneStates.{IsLiveBatch, IsLiveCheck, place_of_batch, place_of_check}
 use Rattle.pg_client.specs.Queries.{IsLiveQuery, place_of_query}
-use Rattle.pg_table.specs.Table.{in_done, in_messages}
+use Rattle.pg_prepared.specs.States.{IsLiveClear, place_of_clear}
+use Rattle.pg_prepared.specs.contracts.prepare.PrepareStatePolled.TheImpl as prepared
+use Rattle.pg_table.specs.Table.{in_done, in_messages, in_statement}
 use Rattle.pg_table.proofs.Mapped.{poll-mapped}
 use Rattle.pg_table.proofs.state.AnyStatePolled.poll.Goals as goal
 
@@ -21,3 +23,15 @@ returns-in-Check g c =
     rw (c.done-in-Check.ensures, c.in-Check.is)
     (poll-mapped in_done g.D.Desk.becomes c.args.stamp c.args.desk.now (place_of_check c.in-Check.state.value) c.poll-in-Check.new.desk (IsLiveCheck c.poll-in-Check.new.self) (place_of_check c.poll-in-Check.new.self)
     c.poll-in-Check.result (rw c.deref_mut-in-Check.ensures.value at c.poll-in-Check.ensures))
+
+pub returns-in-Prepare : goal.returns-in-Prepare
+returns-in-Prepare g c =
+    rw (c.statement.ensures, c.in-Prepare.is)
+    (poll-mapped in_statement g.D.Desk.becomes c.args.stamp c.args.desk.now (prepared.ghosts.place c.in-Prepare.state.value) c.poll-in-Prepare.new.desk (prepared.ghosts.is_live c.poll-in-Prepare.new.self) (prepared.ghosts.place c.poll-in-Prepare.new.self)
+    c.poll-in-Prepare.result (rw c.deref_mut-in-Prepare.ensures.value at c.poll-in-Prepare.ensures))
+
+pub returns-in-Clear : goal.returns-in-Clear
+returns-in-Clear g c =
+    rw (c.done-in-Clear.ensures, c.in-Clear.is)
+    (poll-mapped in_done g.D.Desk.becomes c.args.stamp c.args.desk.now (place_of_clear c.in-Clear.state.value) c.poll-in-Clear.new.desk (IsLiveClear c.poll-in-Clear.new.self) (place_of_clear c.poll-in-Clear.new.self)
+    c.poll-in-Clear.result (rw c.deref_mut-in-Clear.ensures.value at c.poll-in-Clear.ensures))
