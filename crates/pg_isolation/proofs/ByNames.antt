@@ -17,3 +17,7 @@ by-names own other (command.Batch text) same =
     alone-of (asked (table.says own (command.Batch text))) (λ r. Answers (table.ends own (command.Batch text) r)) (λ r. Answers (table.ends other (command.Batch text) r)) (λ r. refl)
 by-names own other command.Check same =
     alone-of (asked (table.says own command.Check)) (λ r. Answers (table.ends own command.Check r)) (λ r. Answers (table.ends other command.Check r)) (λ r. refl)
+by-names own other (command.Prepare slot text types) same =
+    alone-of (asked (table.says own (command.Prepare slot text types))) (λ r. Answers (table.ends own (command.Prepare slot text types) r)) (λ r. Answers (table.ends other (command.Prepare slot text types) r)) (λ r. refl)
+by-names own other command.Clear same =
+    alone-of (asked (table.says own command.Clear)) (λ r. Answers (table.ends own command.Clear r)) (λ r. Answers (table.ends other command.Clear r)) (λ r. refl)

@@ -1,3 +1,4 @@
 pub mod Entries
 pub mod Isolated
 pub mod ByNames
+pub mod Told

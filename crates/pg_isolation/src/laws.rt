@@ -7,10 +7,13 @@ ghost use Rattle.pg_course.specs.Meanings.{HasRun, Meaning};
 ghost use Rattle.pg_headline.specs.Endings.{EndedWell, IsRun, Report, Session};
 ghost use Rattle.pg_text.specs.declared.command.Answer.{Answer};
 ghost use Rattle.pg_text.specs.declared.command.Command.{Command};
-ghost use Rattle.pg_turns.specs.Speeches.{meaning_of};
+ghost use Rattle.pg_query.specs.declared.desk_call.DeskCall.{DeskCall};
+ghost use Rattle.pg_query.specs.declared.desk_call.Reply.{Reply};
+ghost use Rattle.pg_turns.specs.Speeches.{Speech, meaning_of};
 ghost use Rattle.pg_table.specs.Table.{table};
 ghost use Rattle.pg_isolation.specs.Names.{named};
 ghost use Rattle.pg_isolation.specs.Reads.{AreIsolated, EachAnswers};
+ghost use Rattle.pg_isolation.specs.Told.{DeskTells};
 
 /// In a session of any commands each answered by what it read: what it booked, asked and answered is the outcome of its dialogue
 /// on the replies to its own requests and on what its desk told it.
@@ -44,4 +47,17 @@ pub fn isolation_of_sessions()
         (x : EndedWell (meaning_of table) s taken) (y : EndedWell (meaning_of table) other sent) → AreIsolated named x.has_run y.has_run }
     ensures over_any_link { (scripts others : List (List Command)) (turns more : List ℕ) (one two : Report Answer)
         (x : IsRun (meaning_of table) scripts turns one) (y : IsRun (meaning_of table) others more two) → AreIsolated named x.has_run y.has_run }
+{}
+
+/// What the desk of a session of any commands told them of types, of the statements that look types up, and of numbers.
+pub fn what_desks_tell<C, T, A, E>()
+    ensures { (speech : Speech C T A E) (scripts : List (List C)) (turns : List ℕ) (answers : List (List A)) (course : Course DeskCall Reply)
+        (run : HasRun (meaning_of speech) scripts turns answers course) → DeskTells course.asked }
+{}
+
+/// So did the desk of a session of the table's commands that ended well, or has run.
+pub fn desks_of_sessions()
+    ensures ended_well { (s : Session Command Answer) (taken : List ℕ) (ended : EndedWell (meaning_of table) s taken) → DeskTells ended.asked }
+    ensures over_any_link { (scripts : List (List Command)) (turns : List ℕ) (report : Report Answer)
+        (ran : IsRun (meaning_of table) scripts turns report) → DeskTells ran.asked }
 {}
