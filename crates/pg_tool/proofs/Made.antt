@@ -39,7 +39,7 @@ idle_views (h ∷ hs) (script ∷ scripts) count idle =
     ∙ ap (λ vs. idle_handle table.begins ∷ vs) (idle_views hs scripts (omega (arith, count)) (λ k d within. idle (suc k) d (omega (arith, within))))
 
 -- the handle was polled, requests were closed behind it, and the turn was noted
-pub handle_made : (scripts : List (List Command)) (turn turns : ℕ) (p q u : Play) (script : List Command) (first hub : Standing) (olds news : List Handle) (did : Polling) (r : Result (Option Bool) Error) →
+pub handle_made : {E : Type 0} (scripts : List (List Command)) (turn turns : ℕ) (p q u : Play) (script : List Command) (first hub : Standing) (olds news : List Handle) (did : Polling) (r : Result (Option Bool) E) →
     slice_get scripts turn ≡ Some script → turns ≡ length p.trace.items → first ≡ untouched p.hub → olds ≡ p.handles.items →
     OneTurned HubBecomes script (λ old. record { owner = turn; command = length old.answers; turn = turns }) turn
     first (map view_of olds) hub (map view_of news) did →
@@ -78,6 +78,15 @@ answers_view (h ∷ hs) = ap (λ rest. h.answers.items ∷ rest) (answers_view h
 
 some_is : (x y : Bool) → Some x ≡ Some y → y ≡ x
 some_is x y e = cc
+
+-- what holds of what was made holds of what is told of it
+pub noted_so : {A E F : Type 0} (P : A → Type 0) (made : Result A E) (r : Result A F) → IfOk r (λ x. made ≡ Ok x) → IfOk made P → IfOk r P
+noted_so P made (Err e) is so = tt
+noted_so P made (Ok x) is so = subst (λ m. IfOk m P) is so
+
+pub noted_on : {A E F : Type 0} (P : Type 0) (made : Result A E) (r : Result A F) → IfOk r (λ x. made ≡ Ok x) → OnOk made P → OnOk r P
+noted_on P made (Err e) is so = tt
+noted_on P made (Ok x) is so = subst (λ m. OnOk m P) is so
 
 -- a handle's turn, by what it answers
 pub handle_turns : (scripts : List (List Command)) (turn : ℕ) (s t : TableSession) (l : LinkView) (r : Result (Option Bool) Error) → turn < length scripts →

@@ -1,10 +1,9 @@
 -- One handle among others made its turn.
-use Rattle.std.proofs.Common.{◌≡◌, ℕ, List, length, map, true, false, Some, None, IfOk, Result, Ok, Err, slice_get, slice_set, option_map, inl, inr, sym, ◌∙◌, ap, subst}
+use Rattle.std.proofs.Common.{◌≡◌, ℕ, List, length, map, true, false, Option, Some, None, is_some, refl, IfOk, Result, Ok, Err, slice_get, slice_set, option_map, inl, inr, sym, ◌∙◌, ap, subst}
 use Rattle.std.proofs.lemmas.List.{map-set}
 use Rattle.std.proofs.lemmas.Option.{slice_get-map}
 use Rattle.pg_desk.specs.declared.event.Event.{Event}
 use Rattle.pg_spec.specs.declared.stamps.Stamp.{Stamp}
-use Rattle.pg_faults.specs.declared.error.Error.{Error}
 use Rattle.pg_query.specs.Meaning.{Place}
 use Rattle.pg_table.specs.declared.state.AnyAnswer.{AnyAnswer}
 use Rattle.pg_turns.specs.HandleTurns.{AsksCommand}
@@ -14,10 +13,10 @@ use Rattle.pg_turns.specs.declared.handle_turn.Polling.TheVariants as polling
 use Rattle.pg_text.specs.declared.command.Command.{Command}
 use Rattle.pg_table.specs.Table.{TableHandle, says_of, table}
 use Rattle.pg_tool.specs.declared.handle.Handle.{Handle}
-use Rattle.pg_tool.specs.Handles.{OneTurned, PollEnds, view_of}
+use Rattle.pg_tool.specs.Handles.{OneTurned, PollEnds, PollsRunning, view_of}
 
 -- its next command began, and was polled
-pub turn_begins : {D : Type 0} (becomes : D → List Event → D → Type 0) (script : List Command) (stamp : Stamp) (a : D) (old : TableHandle) (b : D) (new : TableHandle) (command : Command) (from : Place AnyAnswer) (r : Result Polling Error) →
+pub turn_begins : {D E : Type 0} (becomes : D → List Event → D → Type 0) (script : List Command) (stamp : Stamp) (a : D) (old : TableHandle) (b : D) (new : TableHandle) (command : Command) (from : Place AnyAnswer) (r : Result Polling E) →
     old.running ≡ None → slice_get script (length old.answers) ≡ Some command → AsksCommand (says_of old.own command) from.dialogue → IfOk r (PollEnds becomes stamp command a from b old.answers old.own new polling.Began) →
     IfOk r (HandleTurns becomes table script stamp a old b new)
 turn_begins becomes script stamp a old b new command from (Err e) none stands asks ends = tt
@@ -43,7 +42,7 @@ turn_begins becomes script stamp a old b new command from (Ok did) none stands a
     })
 
 -- the command that ran was polled
-pub turn_waits : {D : Type 0} (becomes : D → List Event → D → Type 0) (script : List Command) (stamp : Stamp) (a : D) (old : TableHandle) (b : D) (new : TableHandle) (command : Command) (from : Place AnyAnswer) (r : Result Polling Error) →
+pub turn_waits : {D E : Type 0} (becomes : D → List Event → D → Type 0) (script : List Command) (stamp : Stamp) (a : D) (old : TableHandle) (b : D) (new : TableHandle) (command : Command) (from : Place AnyAnswer) (r : Result Polling E) →
     old.running ≡ Some from → slice_get script (length old.answers) ≡ Some command → IfOk r (PollEnds becomes stamp command a from b old.answers old.own new polling.Waits) →
     IfOk r (HandleTurns becomes table script stamp a old b new)
 turn_waits becomes script stamp a old b new command from (Err e) runs stands ends = tt
@@ -68,7 +67,42 @@ turn_waits becomes script stamp a old b new command from (Ok did) runs stands (i
       handle = answered.handle;
     })
 
-pub one_turned : {D : Type 0} (becomes : D → List Event → D → Type 0) (script : List Command) (place turn : ℕ) (a b : D) (handles : List Handle) (old new : Handle) (r : Result Polling Error) →
+runs_some : {A : Type 0} (running : Option A) → is_some running ≡ true → (from : A) × (running ≡ Some from)
+runs_some None runs = absurd cc
+runs_some (Some from) runs = (from, refl)
+
+pub mapped_some : {A B : Type 0} (f : A → B) (o : Option A) → is_some o ≡ true → is_some (option_map f o) ≡ true
+mapped_some f None some = some
+mapped_some f (Some a) some = refl
+
+pub mapped_none : {A B : Type 0} (f : A → B) (o : Option A) → is_some o ≡ false → option_map f o ≡ None
+mapped_none f None none = refl
+mapped_none f (Some a) none = absurd cc
+
+-- the poll of the command that runs, told of where it stood
+polls_from : {D E : Type 0} (becomes : D → List Event → D → Type 0) (stamp : Stamp) (command : Command) (a : D) (old : TableHandle) (b : D) (new : TableHandle) (waiting : Polling) (from : Place AnyAnswer) (r : Result Polling E) →
+    old.running ≡ Some from → IfOk r (PollsRunning becomes stamp command a old b new waiting) → IfOk r (PollEnds becomes stamp command a from b old.answers old.own new waiting)
+polls_from becomes stamp command a old b new waiting from (Err e) runs polls = tt
+polls_from becomes stamp command a old b new waiting from (Ok did) runs polls = polls from runs
+
+-- the command that ran was polled where it stands
+pub turn_polls : {D E : Type 0} (becomes : D → List Event → D → Type 0) (script : List Command) (stamp : Stamp) (a : D) (old : TableHandle) (b : D) (new : TableHandle) (command : Command) (r : Result Polling E) →
+    is_some old.running ≡ true → slice_get script (length old.answers) ≡ Some command → IfOk r (PollsRunning becomes stamp command a old b new polling.Waits) →
+    IfOk r (HandleTurns becomes table script stamp a old b new)
+turn_polls becomes script stamp a old b new command r runs stands polls =
+    let from = runs_some old.running runs in
+    turn_waits becomes script stamp a old b new command from.0 r from.1 stands (polls_from becomes stamp command a old b new polling.Waits from.0 r from.1 polls)
+
+-- one that begins is polled where it stands too
+pub turn_starts : {D E : Type 0} (becomes : D → List Event → D → Type 0) (script : List Command) (stamp : Stamp) (a : D) (old mid : TableHandle) (b : D) (new : TableHandle) (command : Command) (from : Place AnyAnswer) (r : Result Polling E) →
+    old.running ≡ None → mid ≡ record old { running = Some from } → slice_get script (length old.answers) ≡ Some command → AsksCommand (says_of old.own command) from.dialogue →
+    IfOk r (PollsRunning becomes stamp command a mid b new polling.Began) → IfOk r (HandleTurns becomes table script stamp a old b new)
+turn_starts becomes script stamp a old mid b new command from r none is stands asks polls =
+    let ends = polls_from becomes stamp command a mid b new polling.Began from r (ap (λ (h : TableHandle). h.running) is) polls in
+    turn_begins becomes script stamp a old b new command from r none stands asks
+    (subst (λ (h : TableHandle). IfOk r (PollEnds becomes stamp command a from b h.answers h.own new polling.Began)) is ends)
+
+pub one_turned : {D E : Type 0} (becomes : D → List Event → D → Type 0) (script : List Command) (place turn : ℕ) (a b : D) (handles : List Handle) (old new : Handle) (r : Result Polling E) →
     slice_get handles place ≡ Some old →
     IfOk r (HandleTurns becomes table script (record { owner = place; command = length old.answers.items; turn = turn }) a (view_of old) b (view_of new)) →
     IfOk r (OneTurned becomes script (λ h. record { owner = place; command = length h.answers; turn = turn }) place a (map view_of handles) b (map view_of (slice_set handles place new)))

@@ -57,6 +57,11 @@ PollEnds becomes stamp command a from b answers own new waiting did =
     ((did ≡ waiting) × Paused becomes stamp a from b answers own new)
     ⊎ ((did ≡ polling.Answered) × AnsweredBy becomes stamp command a from b answers own new)
 
+-- how the poll of the command that a handle runs ended
+abbrev pub PollsRunning : {D : Type 0} → (D → List Event → D → Type 0) → Stamp → Command → D → TableHandle → D → TableHandle → (waiting did : Polling) → Type 0
+PollsRunning becomes stamp command a old b new waiting did =
+    (from : Place AnyAnswer) → old.running ≡ Some from → PollEnds becomes stamp command a from b old.answers old.own new waiting did
+
 -- the handle at a place made its turn, and no other changed
 pub record OneTurned {D : Type 0} (becomes : D → List Event → D → Type 0) (script : List Command) (stamp : TableHandle → Stamp) (place : ℕ) (a : D) (olds : List TableHandle) (b : D) (news : List TableHandle) (did : Polling) : Type 0 where
   pub old : TableHandle

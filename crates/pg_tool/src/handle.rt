@@ -1,11 +1,10 @@
 //! A handle, which runs the commands of its script one after another.
 
-ghost use Rattle.std.specs.Prelude.{◌≡◌, ◌≢◌, ◌<◌, ◌++◌, ◌∷◌, IfOk, IfErr, IfSome, OnOk, Err, MatchResult, length, map, None, option_map, slice_get, []};
+ghost use Rattle.std.specs.Prelude.{◌≡◌, ◌≢◌, ◌<◌, ◌++◌, ◌∷◌, IfOk, IfSome, OnOk, Err, MatchResult, length, map, true, None, is_some, option_map, slice_get, []};
 ghost use Rattle.std.specs.List.{All};
 ghost use Rattle.pg_turns.specs.Turns.{HandleTurns};
-ghost use Rattle.pg_table.specs.States.{IsLive, place_of};
 ghost use Rattle.pg_table.specs.Table.{kept_answer, slots_behind, table};
-ghost use Rattle.pg_tool.specs.Handles.{IsIdleHandle, IsLiveHandle, IsOnScript, OneTurned, PollEnds, view_of};
+ghost use Rattle.pg_tool.specs.Handles.{IsIdleHandle, IsLiveHandle, IsOnScript, OneTurned, PollsRunning, view_of};
 
 use futures::task::Poll;
 use pg_desk::{Desk, Stamp};
@@ -14,7 +13,7 @@ use pg_query::Polled;
 use pg_table::{AnyAnswer, AnyState, Slots, begin, keep};
 use pg_text::{Answer, Command};
 use pg_turns::Polling;
-use pg_types::List;
+use pg_types::{List, OutOfMemory};
 use std::alloc::Global;
 
 /// A handle: the command that runs, the answers so far, and what its script keeps between its commands. The
@@ -42,11 +41,11 @@ impl<'a> Handle<'a> {
 
     /// How many commands were answered, so the place of the next one or of the one that runs. OutOfMemory
     /// comes above 4,294,967,295, which no script has.
-    pub(crate) fn answered(&self) -> Result<u32, Error>
-        ensures { MatchResult result (λ n. n ≡ length self.now.answers.items) (λ e. e ≡ Error.OutOfMemory) }
+    pub(crate) fn answered(&self) -> Result<u32, OutOfMemory>
+        ensures { IfOk result (λ n. n ≡ length self.now.answers.items) }
     {
         let Ok(answered) = u32::try_from(self.answers.len()) else {
-            return Err(Error::OutOfMemory);
+            return Err(OutOfMemory);
         };
         Ok(answered)
     }
@@ -60,48 +59,48 @@ impl<'a> Handle<'a> {
         script: &'a [Command],
         owner: u32,
         turn: u64,
-    ) -> Result<Polling, Error>
+    ) -> Result<Polling, OutOfMemory>
         requires live { IsLiveHandle self.old }
         requires on_script { IsOnScript script.now (view_of self.old) }
         ensures live { IsLiveHandle self.new }
         ensures turns { IfOk result (HandleTurns D.becomes table script.now (record { owner = owner; command = length self.old.answers.items; turn = turn })
             desk.old (view_of self.old) desk.new (view_of self.new)) }
-        ensures error { IfErr result (λ e. e ≡ Error.OutOfMemory) }
     {
         let stamp = Stamp::new(owner, self.answered()?, turn);
         let Some(command) = command_at(script, self.answers.len()) else {
             return Ok(Polling::Idle);
         };
-        if let Some(state) = self.running.take() {
-            return self.poll(alloc, desk, stamp, command, state, Polling::Waits);
+        if self.running.is_some() {
+            return self.poll(alloc, desk, stamp, command, Polling::Waits);
         }
-        let state = begin(alloc, command, &self.slots)?;
-        self.poll(alloc, desk, stamp, command, state, Polling::Began)
+        let Ok(state) = begin(alloc, command, &self.slots) else {
+            return Err(OutOfMemory);
+        };
+        self.running = Some(state);
+        self.poll(alloc, desk, stamp, command, Polling::Began)
     }
 
-    /// Polls a command once. Where it waits, `waiting` is what the turn did.
+    /// Polls the command that runs once, where it stands. Where it waits, `waiting` is what the turn did.
     fn poll<D: Desk>(
         &mut self,
         alloc: Global,
         desk: &mut D,
         stamp: Stamp,
         command: &Command,
-        state: AnyState<'a>,
         waiting: Polling,
-    ) -> Result<Polling, Error>
-        requires state { IsLive state }
-        requires none { self.old.running ≡ None }
+    ) -> Result<Polling, OutOfMemory>
+        requires live { IsLiveHandle self.old }
+        requires runs { is_some self.old.running ≡ true }
         ensures live { IsLiveHandle self.new }
-        ensures ends { IfOk result (PollEnds D.becomes stamp command.now desk.old (place_of state.entry) desk.new self.old.answers.items self.old.slots (view_of self.new) waiting) }
-        ensures error { IfErr result (λ e. e ≡ Error.OutOfMemory) }
+        ensures ends { IfOk result (PollsRunning D.becomes stamp command.now desk.old (view_of self.old) desk.new (view_of self.new) waiting) }
     {
-        let mut state = state;
+        let Some(state) = &mut self.running else {
+            unreachable!()
+        };
         match state.poll(alloc, desk, stamp) {
-            Poll::Pending => {
-                self.running = Some(state);
-                Ok(waiting)
-            }
+            Poll::Pending => Ok(waiting),
             Poll::Ready(answer) => {
+                self.running = None;
                 self.answer(command, answer)?;
                 Ok(Polling::Answered)
             }
@@ -109,19 +108,22 @@ impl<'a> Handle<'a> {
     }
 
     /// Keeps the answer of the command that ran, and what its script keeps of it. Want of memory ends the session.
-    fn answer(&mut self, command: &Command, answer: Result<AnyAnswer, Error>) -> Result<(), Error>
+    fn answer(
+        &mut self,
+        command: &Command,
+        answer: Result<AnyAnswer, Error>,
+    ) -> Result<(), OutOfMemory>
         ensures running { self.new.running ≡ self.old.running }
         ensures kept { OnOk result (self.new.answers.items ≡ self.old.answers.items ++ kept_answer answer ∷ []) }
         ensures slots { OnOk result (self.new.slots ≡ slots_behind self.old.slots command.now answer) }
         ensures memory { OnOk result (answer ≢ Err Error.OutOfMemory) }
-        ensures error { IfErr result (λ e. e ≡ Error.OutOfMemory) }
     {
         match answer {
-            Err(Error::OutOfMemory) => Err(Error::OutOfMemory),
-            answer => {
-                let told = keep(&mut self.slots, command, answer)?;
-                pushed(&mut self.answers, told)
-            }
+            Err(Error::OutOfMemory) => Err(OutOfMemory),
+            answer => match keep(&mut self.slots, command, answer) {
+                Ok(told) => pushed(&mut self.answers, told),
+                Err(_) => Err(OutOfMemory),
+            },
         }
     }
 
@@ -138,9 +140,8 @@ impl<'a> Handle<'a> {
 }
 
 /// Adds a value at the end.
-fn pushed<T: Drop>(values: &mut Vec<T>, value: T) -> Result<(), Error>
-    ensures added { OnOk result (values.new.items ≡ values.old.items ++ value ∷ []) }
-    ensures error { IfErr result (λ e. e ≡ Error.OutOfMemory) }
+fn pushed<T: Drop>(values: &mut Vec<T>, value: T) -> Result<(), OutOfMemory>
+    ensures { OnOk result (values.new.items ≡ values.old.items ++ value ∷ []) }
 {
     values.push(value)?;
     Ok(())
@@ -174,7 +175,7 @@ pub(crate) fn turn_at<'a, D: Desk>(
     desk: &mut D,
     script: &'a [Command],
     turn: u64,
-) -> Result<Polling, Error>
+) -> Result<Polling, OutOfMemory>
     requires place { place < length handles.old }
     requires live { All IsLiveHandle handles.old }
     requires on_script { IfSome (slice_get handles.old place) (λ handle. IsOnScript script.now (view_of handle)) }
@@ -182,7 +183,6 @@ pub(crate) fn turn_at<'a, D: Desk>(
     ensures count { length handles.new ≡ length handles.old }
     ensures turns { IfOk result (OneTurned D.becomes script.now (λ old. record { owner = place; command = length old.answers; turn = turn })
         place desk.old (map view_of handles.old) desk.new (map view_of handles.new)) }
-    ensures error { IfErr result (λ e. e ≡ Error.OutOfMemory) }
 {
     handles[place as usize].turn(alloc, desk, script, place, turn)
 }

@@ -1,6 +1,6 @@
 //! A session behind its startup: handles and the connection take turns on one hub.
 
-ghost use Rattle.std.specs.Prelude.{◌≡◌, ◌^◌, ◌<◌, ◌≤◌, ◌++◌, ◌∷◌, [], length, slice_get, Some, false, IfOk, IfErr, OnOk};
+ghost use Rattle.std.specs.Prelude.{◌≡◌, ◌^◌, ◌<◌, ◌≤◌, ◌++◌, ◌∷◌, [], length, slice_get, Some, Ok, false, IfOk, IfErr, OnOk};
 ghost use Rattle.pg_connect.specs.Calm.{StaysCalm};
 ghost use Rattle.pg_session.specs.Failures.{HasFailed, TurnFails};
 ghost use Rattle.pg_turns.specs.Sessions.{IsNewSession, Plays};
@@ -20,7 +20,7 @@ use pg_errors::{AsyncMessage, Error};
 use pg_hub::{Engine, Hub};
 use pg_text::{Command, Scripts, TurnMark};
 use pg_turns::Polling;
-use pg_types::List;
+use pg_types::{List, OutOfMemory};
 use pg_wire::Link;
 use std::alloc::Global;
 
@@ -61,17 +61,16 @@ impl<'a> Play<'a> {
     }
 
     /// Where every command is answered, no request will be booked any more.
-    fn close_if_answered(&mut self) -> Result<(), Error>
+    fn close_if_answered(&mut self) -> Result<(), OutOfMemory>
         ensures closes { OnOk result (Closes self.old.unanswered self.old.hub self.new.hub) }
         ensures same { self.new ≡ record self.old { hub = self.new.hub } }
-        ensures error { IfErr result (λ e. e ≡ Error.OutOfMemory) }
     {
         if self.unanswered > 0 {
             return Ok(());
         }
         match self.hub.close_requests() {
             Ok(()) => Ok(()),
-            Err(_) => Err(Error::OutOfMemory),
+            Err(_) => Err(OutOfMemory),
         }
     }
 
@@ -186,18 +185,17 @@ impl<'a> Play<'a> {
         ensures crosses { Crosses (L.view link.old) (L.view link.new) result }
     {
         if (turn as usize) < scripts.as_slice().len() {
-            return self.handle_turn(alloc, scripts, turn);
+            return noted(self.handle_turn(alloc, scripts, turn));
         }
         let moved = self.poll_connection(alloc, link)?;
-        self.mark(turn, moved)
+        noted(self.mark(turn, moved))
     }
 
     /// Notes a turn that was made, and passes on what it moved.
-    fn mark(&mut self, turn: u32, moved: Option<bool>) -> Result<Option<bool>, Error>
+    fn mark(&mut self, turn: u32, moved: Option<bool>) -> Result<Option<bool>, OutOfMemory>
         ensures trace { OnOk result (self.new.trace.items ≡ self.old.trace.items ++ record { turn = turn; delivered = self.old.streams.delivered } ∷ []) }
         ensures moved { IfOk result (λ passed. passed ≡ moved) }
         ensures same { self.new ≡ record self.old { trace = self.new.trace } }
-        ensures error { IfErr result (λ e. e ≡ Error.OutOfMemory) }
     {
         self.trace
             .push(TurnMark::new(turn, self.streams.delivered))?;
@@ -217,13 +215,12 @@ impl<'a> Play<'a> {
         alloc: Global,
         scripts: &'a Scripts,
         turn: u32,
-    ) -> Result<Option<bool>, Error>
+    ) -> Result<Option<bool>, OutOfMemory>
         requires ready { IsReady scripts.now self.old }
         requires going { IsGoing scripts.now self.old }
         requires place { turn < length scripts.now }
         ensures ready { IsReady scripts.now self.new }
         ensures made { IfOk result (HandlePolled scripts.now turn (state_of self.old) (state_of self.new)) }
-        ensures error { IfErr result (λ e. e ≡ Error.OutOfMemory) }
     {
         let script = script_at(scripts, turn);
         let turns = self.turns_made();
@@ -234,12 +231,11 @@ impl<'a> Play<'a> {
     }
 
     /// Closes requests behind the last answer, and says whether a handle's turn moved anything.
-    fn behind_poll(&mut self, polling: Polling) -> Result<bool, Error>
+    fn behind_poll(&mut self, polling: Polling) -> Result<bool, OutOfMemory>
         ensures closes { OnOk result (ClosesBehind polling self.old.unanswered self.old.hub self.new.hub) }
         ensures moved { IfOk result (λ moved. moved ≡ moved_by polling self.old.hub) }
         ensures unanswered { OnOk result (self.new.unanswered ≡ left_behind polling self.old.unanswered) }
         ensures same { self.new ≡ record self.old { hub = self.new.hub; unanswered = self.new.unanswered } }
-        ensures error { IfErr result (λ e. e ≡ Error.OutOfMemory) }
     {
         match polling {
             Polling::Idle => Ok(false),
@@ -279,6 +275,17 @@ impl<'a> Play<'a> {
                 Ok(Some(true))
             }
         }
+    }
+}
+
+/// A turn as the session tells it. What only wants memory has an error that takes no room.
+fn noted(made: Result<Option<bool>, OutOfMemory>) -> Result<Option<bool>, Error>
+    ensures made { IfOk result (λ moved. made ≡ Ok moved) }
+    ensures error { IfErr result (λ e. e ≡ Error.OutOfMemory) }
+{
+    match made {
+        Ok(moved) => Ok(moved),
+        Err(_) => Err(Error::OutOfMemory),
     }
 }
 

@@ -1,20 +1,31 @@
-use Rattle.std.proofs.Common.{rules, ◌≡◌, length, slice_get, None, Some, IfOk, inl, ap, sym, ◌∙◌}
+use Rattle.std.proofs.Common.{rules, ◌≡◌, true, false, length, slice_get, is_some, Some, IfOk, inl, refl, ap, ◌∙◌}
 use Rattle.pg_spec.specs.Stamps.{stamped}
 use Rattle.pg_spec.specs.declared.stamps.Stamp.{Stamp}
 use Rattle.pg_table.specs.States.{place_of}
-use Rattle.pg_tool.specs.Handles.{PollEnds, view_of}
-use Rattle.pg_tool.proofs.Turned.{turn_begins}
+use Rattle.pg_tool.specs.Handles.{PollsRunning, view_of}
+use Rattle.pg_tool.proofs.Turned.{mapped_none, mapped_some, turn_polls, turn_starts}
 use Rattle.pg_turns.specs.declared.handle_turn.Polling.TheVariants as polling
 use Rattle.pg_tool.proofs.handle.Handle.turn.Goals as goal
+
+pub returns-then-is_some-clause-turns : goal.returns-then-is_some-clause-turns
+returns-then-is_some-clause-turns g c =
+    let self = c.args.self.now in
+    let stamp : Stamp = record { owner = c.args.owner; command = length self.answers.items; turn = c.args.turn } in
+    let some : is_some self.running ≡ true = search rules in
+    let stands : slice_get c.args.script.now (length self.answers.items) ≡ Some c.in-Some.command.now = search rules in
+    let stamp_is : c.new-stamp.result ≡ stamp = c.new-stamp.ensures ∙ ap (λ n. stamped c.args.owner n c.args.turn) c.in_ok-answered.ensures in
+    let polls : IfOk c.poll.result (PollsRunning g.D.Desk.becomes stamp c.in-Some.command.now c.args.desk.now (view_of self) c.poll.new.desk (view_of c.poll.new.self) polling.Waits) =
+    rw stamp_is at c.poll.ensures.ends in
+    turn_polls g.D.Desk.becomes c.args.script.now stamp c.args.desk.now (view_of self) c.poll.new.desk (view_of c.poll.new.self) c.in-Some.command.now c.poll.result
+    (mapped_some place_of self.running some) stands polls
 
 pub returns-clause-turns : goal.returns-clause-turns
 returns-clause-turns g c =
     let self = c.args.self.now in
     let stamp : Stamp = record { owner = c.args.owner; command = length self.answers.items; turn = c.args.turn } in
-    let none : (view_of self).running ≡ None = search rules in
+    let none : is_some self.running ≡ false = search rules in
     let stands : slice_get c.args.script.now (length self.answers.items) ≡ Some c.in-Some.command.now = search rules in
     let stamp_is : c.new-stamp.result ≡ stamp = c.new-stamp.ensures ∙ ap (λ n. stamped c.args.owner n c.args.turn) c.in_ok-answered.ensures in
-    let ends : IfOk c.poll-2.result (PollEnds g.D.Desk.becomes stamp c.in-Some.command.now c.args.desk.now (place_of c.in_ok-state.state) c.poll-2.new.desk self.answers.items self.slots (view_of c.poll-2.new.self) polling.Began) =
-    rw stamp_is at c.poll-2.ensures.ends in
-    turn_begins g.D.Desk.becomes c.args.script.now stamp c.args.desk.now (view_of self) c.poll-2.new.desk (view_of c.poll-2.new.self) c.in-Some.command.now (place_of c.in_ok-state.state) c.poll-2.result
-    none stands (inl c.in_ok-state.ensures.asks) ends
+    turn_starts g.D.Desk.becomes c.args.script.now stamp c.args.desk.now (view_of self) (record (view_of self) { running = Some (place_of c.in-Ok.state) }) c.poll-2.new.desk (view_of c.poll-2.new.self)
+    c.in-Some.command.now (place_of c.in-Ok.state) c.poll-2.result
+    (mapped_none place_of self.running none) refl stands (inl c.in-Ok.ensures.asks) (rw stamp_is at c.poll-2.ensures.ends)
