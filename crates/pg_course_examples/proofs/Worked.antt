@@ -12,7 +12,7 @@ use Rattle.pg_spec.specs.Turns.{BeginInTurn, IsFirstTurn, Times, delivered_befor
 use Rattle.pg_course.specs.Courses.{delivered_to}
 use Rattle.pg_course.specs.Meanings.{AreAskedFirst, Did, EachCommand, booked_in}
 use Rattle.pg_course_examples.specs.Rows.{Begin, Command, Commit, CopyIn, Own, Prepare, Query, ending, meaning, new}
-use Rattle.pg_course_examples.specs.Sessions.{IsRight, Session, copied, copied_beside, copy_piece, has, mood, prepared_and_queried, refused_begin, s0, shared_type, simple_a, simple_b, ten_turns, two_queries}
+use Rattle.pg_course_examples.specs.Sessions.{IsRight, Session, copied, copied_beside, copied_late, copy_piece, has, mood, prepared_and_queried, refused_begin, s0, shared_type, simple_a, simple_b, ten_turns, twelve_turns, two_queries}
 use Rattle.pg_course_examples.proofs.Tests.{EachIn, all_below, below, first-at_least, first-own, of-rows, rising, trace-is}
 
 abbrev times : ℕ → ℕ → Times
@@ -288,6 +288,80 @@ copy = record {
   asked_first = asked-first copied refl;
   none_asked_beside = All-from_recursion (λ a. IsSome (entry_at copied.scripts a.stamp.owner a.stamp.command)) copied.course.asked (refl, tt);
   asked_in_order = rising (λ a. a.stamp.turn) copied.course.asked refl;
+  told = (refl, tt);
+}
+
+-- ---- the same, where the piece is put a turn later
+
+abbrev late : List (List Times)
+late = (times 0 2 ∷ times 4 10 ∷ []) ∷ []
+
+described-late : Did meaning copied_late.course copied_states copied_late.answers 0 0 (Prepare 0 (codes "q")) (times 0 2)
+unfolding digits is_utf8 chars encode utf8_lossy utf8_valid_len
+described-late = record {
+  before = new;
+  had = refl;
+  ending = _;
+  answered = refl;
+  has = refl;
+  at = _;
+  in_turn = refl;
+  unfolds = (refl, refl, (refl, refl, [], refl, (3, refl, 2, first-at_least twelve_turns 0 0 2 3 (λ place. delivered_to copied_late.course (Some 0) place) refl, (refl, refl, refl, refl))));
+}
+
+-- the opening is read in turn 6, and the piece is put in turn 8
+copies-late : Did meaning copied_late.course copied_states copied_late.answers 0 1 (CopyIn 0 (codes "1" ∷ [])) (times 4 10)
+unfolding digits is_utf8 chars encode utf8_lossy utf8_valid_len
+copies-late = record {
+  before = has (s0 []);
+  had = refl;
+  ending = _;
+  answered = refl;
+  has = refl;
+  at = _;
+  in_turn = refl;
+  unfolds = (
+    refl,
+    refl,
+    copy_piece ∷ ending ∷ [],
+    refl,
+    (
+      2,
+      refl,
+      6,
+      first-at_least twelve_turns 0 4 6 2 (λ place. delivered_to copied_late.course (Some 1) place) refl,
+      (
+        8,
+        record { made = omega arith; own = refl; no_sooner = omega arith },
+        ending ∷ [],
+        refl,
+        ([], refl, (1, refl, 10, first-at_least twelve_turns 0 8 10 3 (λ place. delivered_to copied_late.course (Some 1) place) refl, (refl, refl, refl, refl))),
+      ),
+    ),
+  );
+}
+
+pub copy-late : IsRight copied_late
+copy-late = record {
+  schedule = late;
+  states = copied_states;
+  one_answer_each = refl;
+  one_time_each = refl;
+  new = one-handle (λ handle. entry_at copied_states handle 0 ≡ Some new) refl;
+  turns_made = trace-is [] 1 twelve_turns refl;
+  begins = all-begin copied_late late ((first-own twelve_turns 0 0 0 refl, (first-own twelve_turns 0 3 4 refl, tt)), tt);
+  did = each copied_late copied_states late (
+    (
+      so (times 0 2) (Did meaning copied_late.course copied_states copied_late.answers 0 0 (Prepare 0 (codes "q"))) described-late,
+      (so (times 4 10) (Did meaning copied_late.course copied_states copied_late.answers 0 1 (CopyIn 0 (codes "1" ∷ []))) copies-late, tt),
+    ),
+    tt,
+  );
+  no_other = All-from_recursion (λ b. IsSome (entry_at copied_late.scripts b.stamp.owner b.stamp.command)) copied_late.course.book (refl, (refl, tt));
+  in_order = rising (λ b. b.stamp.turn) copied_late.course.book refl;
+  asked_first = asked-first copied_late refl;
+  none_asked_beside = All-from_recursion (λ a. IsSome (entry_at copied_late.scripts a.stamp.owner a.stamp.command)) copied_late.course.asked (refl, tt);
+  asked_in_order = rising (λ a. a.stamp.turn) copied_late.course.asked refl;
   told = (refl, tt);
 }
 

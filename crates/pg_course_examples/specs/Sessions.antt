@@ -143,6 +143,16 @@ copied = record {
   };
 }
 
+-- ---- the same, where the piece is put a turn later than it could be: of an open copy a turn may end at a part
+
+-- the handle has a turn more, in which it puts the piece
+abbrev pub twelve_turns : List TurnMark
+twelve_turns = marked 0 0 ∷ marked 1 4 ∷ marked 0 4 ∷ marked 1 4 ∷ marked 0 4 ∷ marked 1 6 ∷ marked 0 6 ∷ marked 1 6 ∷ marked 0 6 ∷ marked 1 8 ∷ marked 0 8 ∷ marked 1 8 ∷ []
+
+-- the session
+abbrev pub copied_late : Session
+copied_late = record copied { course = record copied.course { trace = twelve_turns } }
+
 -- ---- simple queries
 
 -- the query of the first

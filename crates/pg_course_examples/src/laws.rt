@@ -3,7 +3,7 @@
 ghost use Rattle.pg_course.specs.Isolation.{IsByNames};
 ghost use Rattle.pg_course.specs.Simples.{AreSimple};
 ghost use Rattle.pg_course_examples.specs.Rows.{meaning, named, simply};
-ghost use Rattle.pg_course_examples.specs.Sessions.{IsRight, copied, copied_beside, prepared_and_queried, refused_begin, shared_type, two_queries};
+ghost use Rattle.pg_course_examples.specs.Sessions.{IsRight, copied, copied_beside, copied_late, prepared_and_queried, refused_begin, shared_type, two_queries};
 ghost use Rattle.pg_course_examples.specs.Wrong as wrong;
 
 /// The simple query among the commands is the headline's.
@@ -17,12 +17,13 @@ pub fn commands_go_by_names()
 {}
 
 /// Sessions that have run as their commands mean: a statement is prepared and queried by its slot; of two handles one looks a
-/// type up and the other is told it; a row is copied, also beside another handle's query and a handle without commands; a begin is
-/// refused, rolled back, and the commit behind it fails; two handles query.
+/// type up and the other is told it; a row is copied, also where its piece is put a turn late, and beside another handle's query and a
+/// handle without commands; a begin is refused, rolled back, and the commit behind it fails; two handles query.
 pub fn accepted()
     ensures by_slot { IsRight prepared_and_queried }
     ensures shared { IsRight shared_type }
     ensures copy { IsRight copied }
+    ensures copy_late { IsRight copied_late }
     ensures beside { IsRight copied_beside }
     ensures no_transaction { IsRight refused_begin }
     ensures queries { IsRight two_queries }

@@ -1,4 +1,4 @@
-use Rattle.pg_course_examples.proofs.Worked.{beside, by-slot, copy, no-transaction, queries, shared}
+use Rattle.pg_course_examples.proofs.Worked.{beside, by-slot, copy, copy-late, no-transaction, queries, shared}
 use Rattle.pg_course_examples.proofs.laws.accepted.Goals as goal
 
 pub returns-clause-by_slot : goal.returns-clause-by_slot
@@ -9,6 +9,9 @@ returns-clause-shared c = shared
 
 pub returns-clause-copy : goal.returns-clause-copy
 returns-clause-copy c = copy
+
+pub returns-clause-copy_late : goal.returns-clause-copy_late
+returns-clause-copy_late c = copy-late
 
 pub returns-clause-beside : goal.returns-clause-beside
 returns-clause-beside c = beside
