@@ -1,0 +1,4 @@
+pub mod Found
+pub mod LookupLaws
+pub mod Walked
+pub mod Got

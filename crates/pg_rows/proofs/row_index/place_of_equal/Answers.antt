@@ -1,0 +1,10 @@
+use Rattle.std.proofs.Common.{sym, ◌∙◌, rules, tests, bytes_eq}
+use Rattle.std.proofs.lemmas.Iterator.{YieldsList-from_slice}
+use Rattle.std.proofs.lemmas.Iterator.Search.{position_from_yields_List}
+use Rattle.pg_rows.proofs.Found.{position-map}
+use Rattle.pg_rows.proofs.row_index.place_of_equal.Goals as goal
+
+pub returns : goal.returns
+returns g c =
+    position_from_yields_List (λ x. bytes_eq (g.C.AsName.name x) c.args.name.now) _ _ c.position.result c.position.ensures.ran (YieldsList-from_slice _ c.iter.ensures.rest) (λ x b q k. search (rules, tests))
+    ∙ sym (position-map (λ n. bytes_eq n c.args.name.now) g.C.AsName.name c.args.columns.now)

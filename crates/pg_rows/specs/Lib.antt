@@ -1,0 +1,4 @@
+pub mod Places
+pub mod Lookups
+pub mod Rows
+pub mod Values
