@@ -45,10 +45,11 @@ bound given = message (byte "2") [] ∷ given ++ ready
 abbrev pub complete : List ℕ → RawMessage
 complete tag = message (byte "C") (text0 tag)
 
--- EmptyQueryResponse, and PortalSuspended
+-- EmptyQueryResponse
 abbrev pub empty : RawMessage
 empty = message (byte "I") []
 
+-- PortalSuspended
 abbrev pub suspended : RawMessage
 suspended = message (byte "s") []
 
@@ -135,11 +136,12 @@ typed_with text vs = over new_desk (query_typed find_all Any text (int4 ∷ []) 
 abbrev pub typed_executed : List RawMessage → Came ℕ
 typed_executed reply = over new_desk (execute_typed (codes "q") [] []) (reply ∷ [])
 
--- the rows of an answer, and the kinds of their columns
+-- the rows of an answer, none of an error
 abbrev pub rows_in : Option (Result ResultSet Error) → List Cells
 rows_in (Some (Ok r)) = r.rows
 rows_in answer = []
 
+-- the kinds of its columns, none of an error
 abbrev pub kinds_in : Option (Result ResultSet Error) → List Kind
 kinds_in (Some (Ok r)) = map (λ (c : Column). c.type_.kind) r.statement.columns
 kinds_in answer = []
