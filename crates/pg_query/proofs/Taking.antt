@@ -93,16 +93,14 @@ module _ {D S T : Type 0} {becomes : D → List Event → D → Type 0} {dialogu
   pub refused-take : (c : D) (fault : DeskFault) → becomes b (call.Take new.id (Err fault) ∷ []) c → (e : Error) → e ≡ of_fault fault → GoesToAnswer becomes stamp a p c (Err e)
   refused-take c fault ev e is = ends-on c (call.Take new.id (Err fault) ∷ []) ev (of_fault fault) e is (take-refused stamp (dialogue new.script) new.id fault out.reads.there)
 
--- none came yet
-pub none-came : {D S T : Type 0} {becomes : D → List Event → D → Type 0} {dialogue : S → Dialogue T} {waits : (s : S) → Waiting (dialogue s)} {stamp : Stamp} {a : D} {old : Running S T} {b : D} {new : Running S T} →
-    Joins becomes → ReadsOut becomes dialogue waits stamp a (meaning dialogue old) b new → (c : D) → becomes b (call.Take new.id (Ok taking.Empty) ∷ []) c → Waits becomes dialogue waits stamp a old c new
-none-came {T = T} {dialogue = dialogue} {stamp = stamp} {new = new} joins out c ev = record {
-  reads = record {
-    goes = goes-on joins out c (call.Take new.id (Ok taking.Empty) ∷ []) ev (meaning dialogue new)
-        (subst (λ (d : Dialogue T). Walks stamp (dialogue new.script) new.id (call.Take new.id (Ok taking.Empty) ∷ []) d new.id) (same joins out) (took-nothing stamp (dialogue new.script) new.id out.reads.there));
-    reads = out.reads;
-  };
-  empty = out.empty;
-  before = out.goes.events;
-  last = refl;
-}
+  -- none came yet
+  pub none-came : (c : D) → becomes b (call.Take new.id (Ok taking.Empty) ∷ []) c → Waits becomes dialogue waits stamp a p c new
+  none-came c ev = record {
+    reads = record {
+      goes = goes-on c (call.Take new.id (Ok taking.Empty) ∷ []) ev (meaning dialogue new)
+          (subst (λ (d : Dialogue T). Walks stamp (dialogue new.script) new.id (call.Take new.id (Ok taking.Empty) ∷ []) d new.id) same (took-nothing stamp (dialogue new.script) new.id out.reads.there));
+      reads = out.reads;
+    };
+    empty = out.empty;
+    last = record { before = out.goes.events; are = refl };
+  }

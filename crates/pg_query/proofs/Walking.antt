@@ -1,5 +1,5 @@
 -- Where one event leads a dialogue, with the messages that came and aren't read yet.
-use Rattle.std.proofs.Common.{◌≡◌, ℕ, arith, length, List, [], ◌∷◌, ◌++◌, Bool, false, Option, Some, None, is_none, refl, sym, ◌∙◌, ap, subst, inl, inr, Result, Ok, Err, MatchResult}
+use Rattle.std.proofs.Common.{◌≡◌, ℕ, arith, length, List, [], ◌∷◌, ◌++◌, Bool, false, Option, Some, None, is_none, refl, sym, ◌∙◌, ap, subst, inl, inr, append_assoc, Result, Ok, Err, MatchResult}
 use Rattle.pg_spec.specs.Faults as spec
 use Rattle.pg_spec.specs.RawMessages.{RawMessage}
 use Rattle.pg_wire.specs.Backend.{RefusedBy}
@@ -10,6 +10,7 @@ use Rattle.pg_spec.specs.declared.stamps.Stamp.{Stamp}
 use Rattle.pg_desk.specs.declared.event.Event.{Event}
 use Rattle.pg_desk.specs.declared.event.Event.TheVariants as call
 use Rattle.pg_desk.specs.declared.event.Put.TheVariants as putting
+use Rattle.pg_desk.specs.declared.event.Take.TheVariants as taking
 use Rattle.pg_faults.specs.declared.error.Error.{Error}
 use Rattle.pg_faults.specs.declared.error.Error.TheVariants.{Closed, OutOfMemory}
 use Rattle.pg_query.specs.declared.script.Want.TheVariants as want
@@ -22,7 +23,13 @@ use Rattle.pg_query.specs.declared.desk_call.Reply.{Reply}
 use Rattle.pg_query.specs.Dialogue.{Dialogue, Answer, Ask, Send, Leave, Read, Put, Finish, Close, HangUp, Call, Hear, feed, feed_one, after_reply, Told, Steps, Walks}
 use Rattle.pg_query.specs.Scripts.{IsDeaf, IsLast, Waiting, wanting, GoesOn}
 use Rattle.pg_query.specs.declared.running.Running.{Running}
-use Rattle.pg_query.specs.Meaning.{Place, left_by, meaning_at, PullsOne, Goes, GoesToAnswer, Leaves}
+use Rattle.pg_query.specs.declared.script.Offer.{Offer}
+use Rattle.pg_query.specs.declared.stop.Stop.{Stop}
+use Rattle.pg_query.specs.declared.stop.Stop.TheVariants as stop
+use Rattle.pg_query.specs.declared.desk_call.Cleanup.{Cleanup}
+use Rattle.futures.specs.declared.task.Poll.{Poll}
+use Rattle.futures.specs.declared.task.Poll.TheVariants.{Ready, Pending}
+use Rattle.pg_query.specs.Meaning.{Place, left_by, meaning, meaning_at, offering, PullsOne, Goes, GoesToAnswer, EndIn, Leaves, Waits, Offers, Stops, MatchPoll}
 
 pub feed-answer : {T : Type 0} (ms : List RawMessage) (r : Result T Error) → feed ms (Answer r) ≡ Answer r
 feed-answer [] r = refl
@@ -39,6 +46,10 @@ feed-send (m ∷ ms) part refused d = feed-send ms part (λ e. feed_one m (refus
 feed-leave : {T : Type 0} (ms : List RawMessage) (id : ℕ) (d : Dialogue T) → feed ms (Leave id d) ≡ Leave id (feed ms d)
 feed-leave [] id d = refl
 feed-leave (m ∷ ms) id d = feed-leave ms id (feed_one m d)
+
+pub feed-put : {T : Type 0} (ms : List RawMessage) (cleanup : List Cleanup) (part : List ℕ) (d : Dialogue T) → feed ms (Put cleanup part d) ≡ Put cleanup part (feed ms d)
+feed-put [] cleanup part d = refl
+feed-put (m ∷ ms) cleanup part d = feed-put ms cleanup part (feed_one m d)
 
 feed-finish : {T : Type 0} (ms : List RawMessage) (part : List ℕ) (d : Dialogue T) → feed ms (Finish part d) ≡ Finish part (feed ms d)
 feed-finish [] part d = refl
@@ -84,10 +95,25 @@ pub send-kept : {T : Type 0} (stamp : Stamp) (ms : List RawMessage) (id : ℕ) (
     Walks stamp (feed ms (Send part refused d)) id (call.Book stamp part false (Ok new) ∷ call.HangUp new (Err e) ∷ []) (Answer (Err (of_fault e))) id
 send-kept stamp ms id part refused d new e = (Leave new (feed ms d), id, sends stamp ms id part refused d new, (Answer (Err (of_fault e)), id, (refl, refl, refl), (refl, refl)))
 
+pub put-took : {T : Type 0} (stamp : Stamp) (ms : List RawMessage) (id : ℕ) (cleanup : List Cleanup) (part : List ℕ) (d : Dialogue T) → Walks stamp (feed ms (Put cleanup part d)) id (call.Put id part putting.Took ∷ []) (feed ms d) id
+put-took stamp ms id cleanup part d = step stamp (feed ms (Put cleanup part d)) (Put cleanup part (feed ms d)) id _ _ id (feed-put ms cleanup part d) (refl, refl, refl, refl)
+
+pub put-full : {T : Type 0} (stamp : Stamp) (ms : List RawMessage) (id : ℕ) (cleanup : List Cleanup) (part back : List ℕ) (d : Dialogue T) →
+    Walks stamp (feed ms (Put cleanup part d)) id (call.Put id part (putting.Full back) ∷ []) (feed ms (Put cleanup part d)) id
+put-full stamp ms id cleanup part back d = step stamp (feed ms (Put cleanup part d)) (Put cleanup part (feed ms d)) id _ _ id (feed-put ms cleanup part d) (refl, refl, feed-put ms cleanup part d, refl)
+
+pub put-gone : {T : Type 0} (stamp : Stamp) (ms : List RawMessage) (id : ℕ) (cleanup : List Cleanup) (part back : List ℕ) (d : Dialogue T) →
+    Walks stamp (feed ms (Put cleanup part d)) id (call.Put id part (putting.Gone back) ∷ []) (HangUp (Answer (Err Closed))) id
+put-gone stamp ms id cleanup part back d = step stamp (feed ms (Put cleanup part d)) (Put cleanup part (feed ms d)) id _ _ id (feed-put ms cleanup part d) (refl, refl, refl, refl)
+
+pub put-refused : {T : Type 0} (stamp : Stamp) (ms : List RawMessage) (id : ℕ) (cleanup : List Cleanup) (part back : List ℕ) (d : Dialogue T) →
+    Walks stamp (feed ms (Put cleanup part d)) id (call.Put id part (putting.OutOfMemory back) ∷ []) (Answer (Err OutOfMemory)) id
+put-refused stamp ms id cleanup part back d = step stamp (feed ms (Put cleanup part d)) (Put cleanup part (feed ms d)) id _ _ id (feed-put ms cleanup part d) (refl, refl, refl, refl)
+
 pub finished : {T : Type 0} (stamp : Stamp) (ms : List RawMessage) (id : ℕ) (part : List ℕ) (d : Dialogue T) → Walks stamp (feed ms (Finish part d)) id (call.EndCopy id part putting.Took ∷ []) (feed ms d) id
 finished stamp ms id part d = step stamp (feed ms (Finish part d)) (Finish part (feed ms d)) id _ _ id (feed-finish ms part d) (refl, refl, refl, refl)
 
-finish-gone : {T : Type 0} (stamp : Stamp) (ms : List RawMessage) (id : ℕ) (part back : List ℕ) (d : Dialogue T) →
+pub finish-gone : {T : Type 0} (stamp : Stamp) (ms : List RawMessage) (id : ℕ) (part back : List ℕ) (d : Dialogue T) →
     Walks stamp (feed ms (Finish part d)) id (call.EndCopy id part (putting.Gone back) ∷ []) (HangUp (Answer (Err Closed))) id
 finish-gone stamp ms id part back d = step stamp (feed ms (Finish part d)) (Finish part (feed ms d)) id _ _ id (feed-finish ms part d) (refl, refl, refl, refl)
 
@@ -150,24 +176,35 @@ walk-joined {T} stamp d id [] fs d' d'' id' id'' w v =
     subst (λ (x : Dialogue T). Walks stamp x id fs d'' id'') w.0 (subst (λ (n : ℕ). Walks stamp d' n fs d'' id'') w.1 v)
 walk-joined stamp d id (e ∷ es) fs d' d'' id' id'' (c, n, s, w) v = (c, n, s, walk-joined stamp c n es fs d' d'' id' id'' w v)
 
--- where its copy is gone, and was hung up
+-- where its copy is gone by this call, and was hung up
 pub copy-gone : {D T : Type 0} (becomes : D → List Event → D → Type 0) → ((a b c : D) (es fs : List Event) → becomes a es b → becomes b fs c → becomes a (es ++ fs) c) →
-    (stamp : Stamp) (a : D) (p : Place T) (b c : D) (ms : List RawMessage) (id : ℕ) (part back : List ℕ) (d : Dialogue T) → p.dialogue ≡ feed ms (Finish part d) → p.reads ≡ id →
-    becomes a (call.EndCopy id part (putting.Gone back) ∷ []) b → (e : Error) → Leaves becomes b id c e → GoesToAnswer becomes stamp a p c (Err e)
-copy-gone {D} {T} becomes joins stamp a p b c ms id part back d at reads ev e l =
-    let gone : List Event = call.EndCopy id part (putting.Gone back) ∷ [] in
+    (stamp : Stamp) (a : D) (p : Place T) (b c : D) (id : ℕ) (gone : Event) → Walks stamp p.dialogue p.reads (gone ∷ []) (HangUp (Answer (Err Closed))) id →
+    becomes a (gone ∷ []) b → (e : Error) → Leaves becomes b id c e → GoesToAnswer becomes stamp a p c (Err e)
+copy-gone {D} {T} becomes joins stamp a p b c id gone w ev e l =
     let hung : List Event = call.HangUp id l.answer ∷ [] in
-    let walked : Walks stamp (feed ms (Finish part d)) id (gone ++ hung) (Answer (Err (left_by l.answer))) id =
-    walk-joined stamp (feed ms (Finish part d)) id gone hung (HangUp (Answer (Err Closed))) (Answer (Err (left_by l.answer))) id id (finish-gone stamp ms id part back d) (left stamp id l.answer) in
     record {
       last = record { dialogue = Answer (Err (left_by l.answer)); reads = id };
       goes = record {
-        events = gone ++ hung;
-        became = joins a b c gone hung ev l.became;
-        walked = subst (λ (x : Dialogue T). Walks stamp x p.reads (gone ++ hung) (Answer (Err (left_by l.answer))) id) (sym at) (subst (λ (n : ℕ). Walks stamp (feed ms (Finish part d)) n (gone ++ hung) (Answer (Err (left_by l.answer))) id) (sym reads) walked);
+        events = gone ∷ hung;
+        became = joins a b c (gone ∷ []) hung ev l.became;
+        walked = walk-joined stamp p.dialogue p.reads (gone ∷ []) hung (HangUp (Answer (Err Closed))) (Answer (Err (left_by l.answer))) id id w (left stamp id l.answer);
       };
       answers = inl (ap (λ (x : Error). Answer (Err x)) (sym l.says));
     }
+
+-- where the desk has no room for a part, it is offered again
+pub held-back : {S D T : Type 0} (becomes : D → List Event → D → Type 0) (dialogue : S → Dialogue T) (stamp : Stamp) (a b : D) (self : Running S T) (offer : Offer) (back : List ℕ) → back ≡ offer.part →
+    becomes a (call.Put self.id offer.part (putting.Full back) ∷ []) b → Offers becomes dialogue stamp a (offering dialogue self offer) b self (record { part = back; cleanup = offer.cleanup })
+held-back becomes dialogue stamp a b self offer back e =
+    subst (λ (x : List ℕ). becomes a (call.Put self.id offer.part (putting.Full x) ∷ []) b → Offers becomes dialogue stamp a (offering dialogue self offer) b self (record { part = x; cleanup = offer.cleanup })) (sym e)
+    (λ ev. record {
+      goes = record {
+        events = call.Put self.id offer.part (putting.Full offer.part) ∷ [];
+        became = ev;
+        walked = put-full stamp self.batch self.id offer.cleanup.items offer.part offer.part (dialogue self.script);
+      };
+      last = record { before = []; are = refl };
+    })
 
 -- events of one call and of the next
 abbrev pub goes-joined : {D T : Type 0} (becomes : D → List Event → D → Type 0) → ((a b c : D) (es fs : List Event) → becomes a es b → becomes b fs c → becomes a (es ++ fs) c) →
@@ -185,6 +222,38 @@ answer-joined becomes joins stamp a p b q c r h k = record {
   goes = goes-joined becomes joins stamp a p b q c k.last h k.goes;
   answers = k.answers;
 }
+
+-- what is last of the later ones is last of all
+pub end-joined : (es fs : List Event) (e : Event) → EndIn fs e → EndIn (es ++ fs) e
+end-joined es fs e h = record { before = es ++ h.before; are = ap (λ (l : List Event). es ++ l) h.are ∙ sym (append_assoc es h.before (e ∷ [])) }
+
+pub stop-joined : {S D T : Type 0} (becomes : D → List Event → D → Type 0) → ((a b c : D) (es fs : List Event) → becomes a es b → becomes b fs c → becomes a (es ++ fs) c) →
+    (dialogue : S → Dialogue T) (stamp : Stamp) (a : D) (p : Place T) (b : D) (q : Place T) (c : D) (new : Running S T) (s : Stop T) →
+    Goes becomes stamp a p b q → Stops becomes dialogue stamp b q c new s → Stops becomes dialogue stamp a p c new s
+stop-joined becomes joins dialogue stamp a p b q c new (stop.Answers r) h k = answer-joined becomes joins stamp a p b q c r h k
+stop-joined becomes joins dialogue stamp a p b q c new (stop.Offers offer) h k = record {
+  goes = goes-joined becomes joins stamp a p b q c (offering dialogue new offer) h k.goes;
+  last = end-joined h.events k.goes.events (call.Put new.id offer.part (putting.Full offer.part)) k.last;
+}
+
+pub wait-joined : {S D T : Type 0} (becomes : D → List Event → D → Type 0) → ((a b c : D) (es fs : List Event) → becomes a es b → becomes b fs c → becomes a (es ++ fs) c) →
+    (dialogue : S → Dialogue T) (waits : (s : S) → Waiting (dialogue s)) (stamp : Stamp) (a : D) (p : Place T) (b : D) (q : Place T) (c : D) (new : Running S T) →
+    Goes becomes stamp a p b q → Waits becomes dialogue waits stamp b q c new → Waits becomes dialogue waits stamp a p c new
+wait-joined becomes joins dialogue waits stamp a p b q c new h k = record {
+  reads = record { goes = goes-joined becomes joins stamp a p b q c (meaning dialogue new) h k.reads.goes; reads = k.reads.reads };
+  empty = k.empty;
+  last = end-joined h.events k.reads.goes.events (call.Take new.id (Ok taking.Empty)) k.last;
+}
+
+-- what a poll of a running command came to
+abbrev pub Came : {S D T : Type 0} → (D → List Event → D → Type 0) → (dialogue : S → Dialogue T) → ((s : S) → Waiting (dialogue s)) → Stamp → D → Place T → D → Running S T → Poll (Stop T) → Type 0
+Came becomes dialogue waits stamp a p b new r = MatchPoll r (λ s. Stops becomes dialogue stamp a p b new s) (Waits becomes dialogue waits stamp a p b new)
+
+pub came-joined : {S D T : Type 0} (becomes : D → List Event → D → Type 0) → ((a b c : D) (es fs : List Event) → becomes a es b → becomes b fs c → becomes a (es ++ fs) c) →
+    (dialogue : S → Dialogue T) (waits : (s : S) → Waiting (dialogue s)) (stamp : Stamp) (a : D) (p : Place T) (b : D) (q : Place T) (c : D) (new : Running S T) (r : Poll (Stop T)) →
+    Goes becomes stamp a p b q → Came becomes dialogue waits stamp b q c new r → Came becomes dialogue waits stamp a p c new r
+came-joined becomes joins dialogue waits stamp a p b q c new (Ready s) h k = stop-joined becomes joins dialogue stamp a p b q c new s h k
+came-joined becomes joins dialogue waits stamp a p b q c new Pending h k = wait-joined becomes joins dialogue waits stamp a p b q c new h k
 
 pub goes-nowhere : {D T : Type 0} (becomes : D → List Event → D → Type 0) → ((a : D) → becomes a [] a) → (stamp : Stamp) (a : D) (p : Place T) → Goes becomes stamp a p a p
 goes-nowhere becomes stays stamp a p = record { events = []; became = stays a; walked = (refl, refl) }
@@ -223,6 +292,7 @@ last-drops ms (want.Answer r) d refused h = feed-answer ms r
 last-drops ms want.Read d refused h = absurd h
 last-drops ms (want.Act (act.Ask copying part)) d refused h = absurd h
 last-drops ms (want.Act (act.Send part)) d refused h = absurd h
+last-drops ms (want.Act (act.Put offer)) d refused h = absurd h
 last-drops ms (want.Act (act.Finish part)) d refused h = absurd h
 last-drops ms (want.Act (act.Close part)) d refused h = feed-close ms part d ∙ ap (λ (x : Dialogue _). Close part x) (deaf ms d h)
 last-drops ms (want.Act act.HangUp) d refused h = feed-hang-up ms d

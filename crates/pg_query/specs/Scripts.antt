@@ -15,6 +15,11 @@ abbrev pub IsRead : {T : Type 0} → Dialogue T → Type 0
 IsRead (Read cleanup decides next) = Unit {0}
 IsRead _ = ⊥
 
+-- a part is put here
+abbrev pub IsPut : {T : Type 0} → Dialogue T → Type 0
+IsPut (Put cleanup part d) = Unit {0}
+IsPut _ = ⊥
+
 -- a reply is heard here
 abbrev pub IsHear : {T : Type 0} → Dialogue T → Type 0
 IsHear (Hear next) = Unit {0}
@@ -78,6 +83,7 @@ abbrev pub wanting : {T : Type 0} → Want T → Dialogue T → (Error → Dialo
 wanting (want.Answer r) d refused = Answer r
 wanting (want.Act (act.Ask copying part)) d refused = Ask copying part d
 wanting (want.Act (act.Send part)) d refused = Send part refused d
+wanting (want.Act (act.Put offer)) d refused = Put offer.cleanup.items offer.part d
 wanting (want.Act (act.Finish part)) d refused = Finish part d
 wanting (want.Act (act.Close part)) d refused = Close part d
 wanting (want.Act act.HangUp) d refused = HangUp d

@@ -2,15 +2,17 @@
 
 ghost use Rattle.std.specs.Prelude.{◌≡◌, ◌≤◌, ◌<◌, [], length, MatchResult, MatchOption, IfOk, IfNone};
 ghost use Rattle.pg_query.specs.Faults.{of_fault};
-ghost use Rattle.pg_query.specs.Meaning.{meaning, meaning_at, Goes, GoesToAnswer, Reads, Waits, MatchPoll, Pulls, Leaves};
+ghost use Rattle.pg_query.specs.Meaning.{meaning, meaning_at, Goes, GoesToAnswer, Reads, Waits, Stops, MatchPoll, Pulls, Leaves};
 ghost use Rattle.pg_query.specs.Scripts.{ReadsAt, HearsAt, IsWanted, heard, GoesOn, Falls};
 ghost use Rattle.pg_query.specs.declared.script.Want.TheVariants.{Act};
 ghost use Rattle.pg_query.specs.declared.script.Action.TheVariants.{Ask, Send, Finish, Close, HangUp, Call};
+ghost use Rattle.pg_query.specs.declared.script.Action.TheVariants as act;
 
 use crate::asking::ask_desk;
 use crate::desk_call::{DeskCall, Reply};
 use crate::fault::{error_of, is_want_of_memory};
-use crate::script::{Action, Script, Want};
+use crate::script::{Action, Offer, Script, Want};
+use crate::stop::Stop;
 use bytes::Bytes;
 use futures::task::Poll;
 use pg_desk::{Desk, DeskFault, Put, Stamp, Take};
@@ -237,6 +239,36 @@ impl<S: Script> Running<S> {
         }
     }
 
+    fn put<D: Desk>(
+        &mut self,
+        alloc: Global,
+        desk: &mut D,
+        stamp: Stamp,
+        offer: Offer,
+    ) -> Result<Want<S::Output>, Stop<S::Output>>
+        ensures goes { MatchResult result
+            (λ want. Goes D.becomes stamp desk.old (meaning_at S.dialogue S.refuses self.old (Act (act.Put offer))) desk.new (meaning_at S.dialogue S.refuses self.new want))
+            (λ stop. Stops D.becomes S.dialogue stamp desk.old (meaning_at S.dialogue S.refuses self.old (Act (act.Put offer))) desk.new self.new stop) }
+        ensures wanted { IfOk result (λ want. IsWanted S.dialogue S.waits want self.new.script) }
+        ensures falls { IfOk result (λ want. Falls want (S.steps self.old.script) (S.steps self.new.script)) }
+        ensures count { D.undelivered desk.new ≤ D.undelivered desk.old }
+        ensures batch { length self.new.batch ≤ length self.old.batch }
+    {
+        let Offer { part, cleanup } = offer;
+        match desk.put(alloc, self.id, part) {
+            Put::Took => match self.next(alloc) {
+                Ok(want) => Ok(want),
+                Err(error) => Err(Stop::Answers(Err(error))),
+            },
+            Put::Full(back) => Err(Stop::Offers(Offer {
+                part: back,
+                cleanup,
+            })),
+            Put::Gone(_) => Err(Stop::Answers(Err(self.leave(desk)))),
+            Put::OutOfMemory(_) => Err(Stop::Answers(Err(Error::OutOfMemory))),
+        }
+    }
+
     /// Does one thing that the script wants.
     fn act<D: Desk>(
         &mut self,
@@ -244,79 +276,81 @@ impl<S: Script> Running<S> {
         desk: &mut D,
         stamp: Stamp,
         action: Action,
-    ) -> Result<Want<S::Output>, Error>
+    ) -> Result<Want<S::Output>, Stop<S::Output>>
         requires { IsWanted S.dialogue S.waits (Act action) self.old.script }
         ensures goes { MatchResult result
             (λ want. Goes D.becomes stamp desk.old (meaning_at S.dialogue S.refuses self.old (Act action)) desk.new (meaning_at S.dialogue S.refuses self.new want))
-            (λ e. GoesToAnswer D.becomes stamp desk.old (meaning_at S.dialogue S.refuses self.old (Act action)) desk.new (Err e)) }
+            (λ stop. Stops D.becomes S.dialogue stamp desk.old (meaning_at S.dialogue S.refuses self.old (Act action)) desk.new self.new stop) }
         ensures wanted { IfOk result (λ want. IsWanted S.dialogue S.waits want self.new.script) }
         ensures falls { IfOk result (λ want. Falls want (S.steps self.old.script) (S.steps self.new.script)) }
         ensures count { D.undelivered desk.new ≤ D.undelivered desk.old }
         ensures batch { length self.new.batch ≤ length self.old.batch }
     {
         match action {
-            Action::Ask(copying, part) => self.ask(alloc, desk, stamp, copying, part),
-            Action::Send(part) => self.send(alloc, desk, stamp, part),
-            Action::Finish(part) => self.finish(alloc, desk, stamp, part),
-            Action::Close(part) => self.close(alloc, desk, stamp, part),
-            Action::HangUp => self.hang_up_own(alloc, desk, stamp),
-            Action::Call(desk_call) => self.call(alloc, desk, stamp, desk_call),
+            Action::Ask(copying, part) => Ok(self.ask(alloc, desk, stamp, copying, part)?),
+            Action::Send(part) => Ok(self.send(alloc, desk, stamp, part)?),
+            Action::Put(offer) => self.put(alloc, desk, stamp, offer),
+            Action::Finish(part) => Ok(self.finish(alloc, desk, stamp, part)?),
+            Action::Close(part) => Ok(self.close(alloc, desk, stamp, part)?),
+            Action::HangUp => Ok(self.hang_up_own(alloc, desk, stamp)?),
+            Action::Call(desk_call) => Ok(self.call(alloc, desk, stamp, desk_call)?),
         }
     }
 
-    /// Does what the script wants, until it reads or answers.
+    /// Does what the script wants, until it reads, answers, or offers a part for which there is no room.
     fn settle<D: Desk>(
         &mut self,
         alloc: Global,
         desk: &mut D,
         stamp: Stamp,
         want: Want<S::Output>,
-    ) -> Option<Result<S::Output, Error>>
+    ) -> Option<Stop<S::Output>>
         requires { IsWanted S.dialogue S.waits want self.old.script }
         ensures goes { MatchOption result
             (Reads D.becomes S.dialogue S.waits stamp desk.old (meaning_at S.dialogue S.refuses self.old want) desk.new self.new)
-            (λ r. GoesToAnswer D.becomes stamp desk.old (meaning_at S.dialogue S.refuses self.old want) desk.new r) }
+            (λ stop. Stops D.becomes S.dialogue stamp desk.old (meaning_at S.dialogue S.refuses self.old want) desk.new self.new stop) }
         ensures count { D.undelivered desk.new ≤ D.undelivered desk.old }
         ensures batch { length self.new.batch ≤ length self.old.batch }
     {
         let mut want = want;
         loop {
             match want {
-                Want::Answer(answer) => return Some(answer),
+                Want::Answer(answer) => return Some(Stop::Answers(answer)),
                 Want::Read => return None,
                 Want::Act(action) => match self.act(alloc, desk, stamp, action) {
                     Ok(next) => want = next,
-                    Err(error) => return Some(Err(error)),
+                    Err(stop) => return Some(stop),
                 },
             }
         }
     }
 
-    /// Gives the script the messages that came, until it answers or none is left.
+    /// Gives the script the messages that came, until it stops or none is left.
     fn read<D: Desk>(
         &mut self,
         alloc: Global,
         desk: &mut D,
         stamp: Stamp,
-    ) -> Option<Result<S::Output, Error>>
+    ) -> Option<Stop<S::Output>>
         requires { ReadsAt S.dialogue S.waits self.old.script }
         ensures goes { MatchOption result
             (Reads D.becomes S.dialogue S.waits stamp desk.old (meaning S.dialogue self.old) desk.new self.new)
-            (λ r. GoesToAnswer D.becomes stamp desk.old (meaning S.dialogue self.old) desk.new r) }
+            (λ stop. Stops D.becomes S.dialogue stamp desk.old (meaning S.dialogue self.old) desk.new self.new stop) }
         ensures empty { IfNone result (self.new.batch ≡ []) }
         ensures count { D.undelivered desk.new ≤ D.undelivered desk.old }
     {
         loop {
             match self.pull(alloc) {
                 Ok(None) => return None,
-                // Most messages want another, and nothing is done for that.
+                // Most messages want another, and nothing is done for that or for an answer.
                 Ok(Some(Want::Read)) => {}
+                Ok(Some(Want::Answer(answer))) => return Some(Stop::Answers(answer)),
                 Ok(Some(want)) => {
-                    if let Some(answer) = self.settle(alloc, desk, stamp, want) {
-                        return Some(answer);
+                    if let Some(stop) = self.settle(alloc, desk, stamp, want) {
+                        return Some(stop);
                     }
                 }
-                Err(error) => return Some(Err(error)),
+                Err(error) => return Some(Stop::Answers(Err(error))),
             }
         }
     }
@@ -339,29 +373,48 @@ impl<S: Script> Running<S> {
         Error::Closed
     }
 
-    /// Takes batches and reads them, until the script answers or its mailbox is empty.
+    /// Takes batches and reads them, until the script stops or its mailbox is empty.
     pub(crate) fn go_on<D: Desk>(
         &mut self,
         alloc: Global,
         desk: &mut D,
         stamp: Stamp,
-    ) -> Poll<Result<S::Output, Error>>
+    ) -> Poll<Stop<S::Output>>
         requires { ReadsAt S.dialogue S.waits self.old.script }
         ensures { MatchPoll result
-            (λ r. GoesToAnswer D.becomes stamp desk.old (meaning S.dialogue self.old) desk.new r)
-            (Waits D.becomes S.dialogue S.waits stamp desk.old self.old desk.new self.new) }
+            (λ stop. Stops D.becomes S.dialogue stamp desk.old (meaning S.dialogue self.old) desk.new self.new stop)
+            (Waits D.becomes S.dialogue S.waits stamp desk.old (meaning S.dialogue self.old) desk.new self.new) }
     {
         loop {
-            if let Some(answer) = self.read(alloc, desk, stamp) {
-                return Poll::Ready(answer);
+            if let Some(stop) = self.read(alloc, desk, stamp) {
+                return Poll::Ready(stop);
             }
             match desk.take(self.id) {
                 Ok(Take::Batch(batch)) => self.refill(batch),
                 Ok(Take::Empty) => return Poll::Pending,
-                Ok(Take::Over) => return Poll::Ready(Err(Error::Closed)),
-                Ok(Take::Gone) => return Poll::Ready(Err(self.leave(desk))),
-                Err(fault) => return Poll::Ready(Err(error_of(fault))),
+                Ok(Take::Over) => return Poll::Ready(Stop::Answers(Err(Error::Closed))),
+                Ok(Take::Gone) => return Poll::Ready(Stop::Answers(Err(self.leave(desk)))),
+                Err(fault) => return Poll::Ready(Stop::Answers(Err(error_of(fault)))),
             }
+        }
+    }
+
+    /// Goes on where this is wanted.
+    pub(crate) fn run<D: Desk>(
+        &mut self,
+        alloc: Global,
+        desk: &mut D,
+        stamp: Stamp,
+        want: Want<S::Output>,
+    ) -> Poll<Stop<S::Output>>
+        requires { IsWanted S.dialogue S.waits want self.old.script }
+        ensures { MatchPoll result
+            (λ stop. Stops D.becomes S.dialogue stamp desk.old (meaning_at S.dialogue S.refuses self.old want) desk.new self.new stop)
+            (Waits D.becomes S.dialogue S.waits stamp desk.old (meaning_at S.dialogue S.refuses self.old want) desk.new self.new) }
+    {
+        match self.settle(alloc, desk, stamp, want) {
+            Some(stop) => Poll::Ready(stop),
+            None => self.go_on(alloc, desk, stamp),
         }
     }
 
@@ -371,14 +424,14 @@ impl<S: Script> Running<S> {
         alloc: Global,
         desk: &mut D,
         stamp: Stamp,
-    ) -> Option<Result<S::Output, Error>>
-        ensures goes { MatchOption result
-            (Reads D.becomes S.dialogue S.waits stamp desk.old (meaning S.dialogue self.old) desk.new self.new)
-            (λ r. GoesToAnswer D.becomes stamp desk.old (meaning S.dialogue self.old) desk.new r) }
+    ) -> Poll<Stop<S::Output>>
+        ensures { MatchPoll result
+            (λ stop. Stops D.becomes S.dialogue stamp desk.old (meaning S.dialogue self.old) desk.new self.new stop)
+            (Waits D.becomes S.dialogue S.waits stamp desk.old (meaning S.dialogue self.old) desk.new self.new) }
     {
         match self.next(alloc) {
-            Ok(want) => self.settle(alloc, desk, stamp, want),
-            Err(error) => Some(Err(error)),
+            Ok(want) => self.run(alloc, desk, stamp, want),
+            Err(error) => Poll::Ready(Stop::Answers(Err(error))),
         }
     }
 }

@@ -14,6 +14,14 @@ use pg_wire::{Message, WireFault};
 use std::alloc::{AllocError, Global};
 use std::collections::VecDeque;
 
+/// A part of a copy that is offered to the desk, and what is left to do where the command is given up
+/// before the desk took it.
+#[derive(Drop)]
+pub struct Offer {
+    pub part: Bytes,
+    pub cleanup: VecDeque<Cleanup>,
+}
+
 /// What is done at the desk.
 #[derive(Drop)]
 pub enum Action {
@@ -21,6 +29,8 @@ pub enum Action {
     Ask(bool, Bytes),
     /// Books a request and hangs it up.
     Send(Bytes),
+    /// Puts a part to the copy that is read, once the desk has room for it.
+    Put(Offer),
     /// Ends the copy that is read by its last part, and goes on with its reply.
     Finish(Bytes),
     /// Ends the copy that is read by this part, if it hasn't ended.
