@@ -1,15 +1,30 @@
 -- One command behind another is a command that the core takes.
-use Rattle.std.proofs.Common.{◌≡◌, List, Bool, true, false, Result, Err}
+use Rattle.std.proofs.Common.{◌≡◌, List, [], ◌∷◌, ◌++◌, Bool, true, false, Result, Err}
 use Rattle.pg_faults.specs.declared.error.Error.{Error}
 use Rattle.pg_faults.specs.declared.error.Error.TheVariants.{OutOfMemory}
 use Rattle.pg_query.specs.Dialogue.{Dialogue, Answer, Ask, Send, Leave, Read, Put, Finish, Close, HangUp, Call, Hear}
 use Rattle.pg_core.specs.Behind.{behind}
 use Rattle.pg_query.specs.declared.desk_call.Cleanup.{Cleanup}
+use Rattle.pg_query.specs.declared.desk_call.Cleanup.TheVariants.{Close as CloseFirst, Post, Release}
 use Rattle.pg_core.specs.Runs.{AddsNone, AddsTo, IsTidy, ReadsNothing}
-use Rattle.pg_core.specs.Times.{ReadsNo, IsSane, IsInTime, IsCommand, LacksMemory, IsFaithful}
+use Rattle.pg_core.specs.Times.{EndsFirst, EndsNone, ReadsNo, IsSane, IsInTime, IsCommand, LacksMemory, IsFaithful}
 use Rattle.pg_core.proofs.Gone.{no-reads}
 
-module _ {A T : Type 0} (extra : List Cleanup) (f : Result A Error → Dialogue T) (later : (r : Result A Error) → IsCommand (f r)) where
+-- what is left to do, with more behind it that ends no copy
+ends-none-behind : (cs more : List Cleanup) → EndsNone more → EndsNone cs → EndsNone (cs ++ more)
+ends-none-behind [] more m h = m
+ends-none-behind (CloseFirst part ∷ cs) more m h = absurd h
+ends-none-behind (Release ∷ cs) more m h = ends-none-behind cs more m h
+ends-none-behind (Post part ∷ cs) more m h = ends-none-behind cs more m h
+
+ends-first-behind : (opened : Bool) (cs more : List Cleanup) → EndsNone more → EndsFirst opened cs → EndsFirst opened (cs ++ more)
+ends-first-behind true [] more m h = absurd h
+ends-first-behind true (CloseFirst part ∷ cs) more m h = ends-none-behind cs more m h
+ends-first-behind true (Release ∷ cs) more m h = absurd h
+ends-first-behind true (Post part ∷ cs) more m h = absurd h
+ends-first-behind false cs more m h = ends-none-behind cs more m h
+
+module _ {A T : Type 0} (extra : List Cleanup) (none : EndsNone extra) (f : Result A Error → Dialogue T) (later : (r : Result A Error) → IsCommand (f r)) where
   nothing-behind : (d : Dialogue A) → ReadsNothing d → ReadsNothing (behind extra d f)
   nothing-behind (Answer r) h = (later r).nothing
   nothing-behind (Ask c p d) h = tt
@@ -85,10 +100,10 @@ module _ {A T : Type 0} (extra : List Cleanup) (f : Result A Error → Dialogue 
   sane-behind opened (Ask c p d) h = (h.0, sane-behind c d h.1)
   sane-behind opened (Send p refused d) h = (λ e. sane-behind opened (refused e) (h.0 e), sane-behind opened d h.1)
   sane-behind opened (Leave k d) h = absurd h
-  sane-behind opened (Read cleanup decides next) h = λ ms e. sane-behind opened (next ms) (h ms e)
-  sane-behind opened (Put cleanup p d) h = (h.0, sane-behind true d h.1)
+  sane-behind opened (Read cleanup decides next) h = (ends-first-behind opened cleanup extra none h.0, λ ms e. sane-behind opened (next ms) (h.1 ms e))
+  sane-behind opened (Put cleanup p d) h = (h.0, ends-first-behind true cleanup extra none h.1, sane-behind true d h.2)
   sane-behind opened (Finish p d) h = (h.0, sane-behind false d h.1)
-  sane-behind opened (Close p d) h = (h.0, sane-behind false d h.1)
+  sane-behind opened (Close p d) h = (h.0, no-behind d h.1, sane-behind false d h.2)
   sane-behind opened (HangUp d) h = (h.0, no-behind d h.1, sane-behind false d h.2)
   sane-behind opened (Call q refused next) h = (λ e. sane-behind opened (refused e) (h.0 e), λ r fit. sane-behind opened (next r) (h.1 r fit))
   sane-behind opened (Hear next) h = tt

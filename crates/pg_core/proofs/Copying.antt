@@ -1,10 +1,11 @@
 -- A copy is a command that the core takes.
-use Rattle.std.proofs.Common.{◌≡◌, ℕ, List, [], ◌∷◌, true, Option, Some, None, is_some, Result, Ok, Err, refl}
+use Rattle.std.proofs.Common.{◌≡◌, ℕ, List, [], ◌∷◌, length, true, Option, Some, None, is_some, Result, Ok, Err, refl}
 use Rattle.std.specs.List.{list_any}
 use Rattle.pg_spec.specs.RawMessages.{RawMessage, is_ready, ends_in}
 use Rattle.pg_faults.specs.declared.error.Error.{Error}
 use Rattle.pg_query.specs.Dialogue.{Finish}
 use Rattle.pg_query.specs.Reading.{reads}
+use Rattle.pg_course.specs.Dialogues.{decided_after}
 use Rattle.pg_core.specs.Copying.{copies, once_opened, puts}
 use Rattle.pg_core.specs.Runs.{IsTidy}
 use Rattle.pg_core.specs.Times.{IsCommand, IsFaithful, IsInTime, IsSane, ReadsNo}
@@ -17,7 +18,7 @@ module _ {T : Type 0} (failing ending : List ℕ) (parts : List (List ℕ)) (rea
 
   sane-puts : (ps : List (List ℕ)) → IsSane true (puts failing ps (Finish ending (reads true reading)))
   sane-puts [] = (tt, (reads-so true reading decides).sane)
-  sane-puts (p ∷ ps) = (tt, sane-puts ps)
+  sane-puts (p ∷ ps) = (tt, tt, sane-puts ps)
 
   time-puts : (ps : List (List ℕ)) → IsInTime (puts failing ps (Finish ending (reads true reading)))
   time-puts [] = (reads-so true reading decides).in_time
@@ -34,8 +35,8 @@ module _ {T : Type 0} (failing ending : List ℕ) (parts : List (List ℕ)) (rea
 
   sane-opened : (o : Option (Result (Unit {0}) Error)) → IsSane true (once_opened failing ending parts reading o)
   sane-opened (Some (Ok x)) = sane-puts parts
-  sane-opened (Some (Err e)) = (tt, (tt, tt, tt))
-  sane-opened None = (tt, (tt, tt, tt))
+  sane-opened (Some (Err e)) = (tt, tt, (tt, tt, tt))
+  sane-opened None = (tt, tt, (tt, tt, tt))
 
   time-opened : (o : Option (Result (Unit {0}) Error)) → IsInTime (once_opened failing ending parts reading o)
   time-opened (Some (Ok x)) = time-puts parts
@@ -53,11 +54,12 @@ module _ {T : Type 0} (failing ending : List ℕ) (parts : List (List ℕ)) (rea
   refused-reads None not = tt
 
   pub copy-so : (opening : List ℕ) (opened : List RawMessage → Option (Result (Unit {0}) Error)) → ((ms : List RawMessage) → ends_in is_ready ms ≡ true → is_some (opened ms) ≡ true) →
-      ((ms : List RawMessage) (x : Unit {0}) → list_any is_ready ms ≡ true → opened ms ≡ Some (Ok x) → ⊥) → IsCommand (copies opening failing ending parts opened reading)
+      ((ms : List RawMessage) (x : Unit {0}) → decided_after (λ l. is_some (opened l)) ms ≡ Some (length ms) → list_any is_ready ms ≡ true → opened ms ≡ Some (Ok x) → ⊥) →
+      IsCommand (copies opening failing ending parts opened reading)
   copy-so opening opened opens closed = record {
     tidy = (tt, λ ms e. tidy-opened (opened ms));
     nothing = tt;
-    sane = (tt, λ ms e. sane-opened (opened ms));
-    in_time = (in-time-by (λ ms. is_some (opened ms)) opens, λ ms e. (λ any. refused-reads (opened ms) (λ x is. closed ms x any is), time-opened (opened ms)));
+    sane = (tt, (tt, λ ms e. sane-opened (opened ms)));
+    in_time = (in-time-by (λ ms. is_some (opened ms)) opens, λ ms e. (λ any. refused-reads (opened ms) (λ x is. closed ms x e any is), time-opened (opened ms)));
     faithful = λ ms. faithful-opened (opened ms);
   }

@@ -17,7 +17,7 @@ use Rattle.pg_faults.specs.declared.error.Error.TheVariants.{Closed, OutOfMemory
 use Rattle.pg_query.specs.Faults.{of_fault}
 use Rattle.pg_query.specs.Dialogue.{Dialogue, Answer, Ask, Send, Leave, Read, Put, Finish, Close, HangUp, Call, Hear, feed, fits, Told, question_of}
 use Rattle.pg_query.specs.Lives.{Deed, Leads}
-use Rattle.pg_query.specs.Scripts.{IsRead}
+use Rattle.pg_query.specs.Scripts.{IsRead, IsPut}
 use Rattle.pg_query.specs.declared.desk_call.Cleanup.{Cleanup}
 use Rattle.pg_query.specs.declared.desk_call.DeskCall.{DeskCall}
 use Rattle.pg_query.specs.declared.desk_call.DeskCall.TheVariants as desk_call
@@ -29,7 +29,7 @@ use Rattle.pg_query.specs.Requests.{IsBehind, Refuses}
 use Rattle.pg_query.proofs.LeavingLaws.{told-fits}
 use Rattle.pg_query.proofs.RequestLaws.{moved, stays-answered}
 use Rattle.pg_core.specs.Deeds.{Addition, booked_by, bookings_in, copied_by, copies_in, added_by, additions_in, added_in, parts_with, parts_of, whole_with, whole_in, told_as, told_by, answers_in, granted, taken_from, got_after, Serves, EndsRefused}
-use Rattle.pg_core.specs.Runs.{MayWait, Ran, of_request, stays, add_first, ask_first, run, AddsNone, AddsTo, ReadsNothing, IsTidy, At, Holds, IsPut, Ends, Answered, Waits, HoldsBack, Stands, Gave, Rests, Refused, Comes}
+use Rattle.pg_core.specs.Runs.{MayWait, Ran, of_request, stays, add_first, ask_first, run, AddsNone, AddsTo, ReadsNothing, IsTidy, At, Holds, Ends, Answered, Waits, HoldsBack, Stands, Gave, Rests, Refused, Comes}
 use Rattle.pg_core.proofs.Fed.{feed-answer, feed-ask, feed-send, feed-leave, feed-put, feed-finish, feed-close, feed-hang-up, feed-call, feed-hear, feed-joined, fed, read_so, still-decides, front-decides}
 use Rattle.pg_core.proofs.Fitting.{AreFitting, first-asked, told-fitting}
 use Rattle.pg_core.specs.Trails.{IsSettled}

@@ -13,7 +13,7 @@ use Rattle.pg_course.specs.Courses.{Asked, Request, Who, numbered, requests_of}
 use Rattle.pg_course.specs.Dialogues.{decided_after}
 use Rattle.pg_core.specs.Deeds.{Addition}
 use Rattle.pg_core.specs.Runs.{Ran, of_request, stays, if_gone, add_first, with_more, run}
-use Rattle.pg_core.specs.Trails.{AreNumbered, HoldsRequests, IsBookedAt, Moment, goes_on, ran_by, to_request, with_all, with_part}
+use Rattle.pg_core.specs.Trails.{AreNumbered, HasNone, HasNoneOf, HoldsRequests, IsBookedAt, Moment, goes_on, ran_by, to_request, with_all, with_part}
 use Rattle.pg_core.proofs.Owned.{own-requests}
 
 -- ---- parts in a book
@@ -268,15 +268,6 @@ requests-part k part book owner command =
     let e : 0 + k ≡ k = omega arith in
     ap (filter (λ r. is_of owner command r.booking)) (numbered-part k 0 part book ∙ ap (λ (j : ℕ). map (more_of (record { request = j; part = part })) (numbered 0 book)) e)
     ∙ filter-more (record { request = k; part = part }) owner command (numbered 0 book)
-
--- none of these requests has this number
-abbrev pub HasNone : ℕ → List Request → Type 0
-HasNone k [] = Unit {0}
-HasNone k (r ∷ rs) = (r.number ≢ k) × HasNone k rs
-
-abbrev pub HasNoneOf : List Addition → List Request → Type 0
-HasNoneOf [] rs = Unit {0}
-HasNoneOf (a ∷ xs) rs = HasNone a.request rs × HasNoneOf xs rs
 
 none-more : (a : Addition) (rs : List Request) → HasNone a.request rs → map (more_of a) rs ≡ rs
 none-more a [] h = refl

@@ -22,7 +22,7 @@ use Rattle.pg_query.specs.Dialogue as code
 use Rattle.pg_query.specs.Dialogue.{Dialogue, Answer, feed, feed_one, after_reply, question_of, as_reply, reply_of, Told, Steps}
 use Rattle.pg_query.specs.Lives.{Deed, Leads}
 use Rattle.pg_query.specs.Meaning.{Place}
-use Rattle.pg_query.specs.Scripts.{IsRead}
+use Rattle.pg_query.specs.Scripts.{IsRead, IsPut}
 use Rattle.pg_query.specs.declared.desk_call.DeskCall.{DeskCall}
 use Rattle.pg_query.specs.declared.desk_call.DeskCall.TheVariants as desk_call
 use Rattle.pg_query.specs.declared.desk_call.Reply.{Reply}
@@ -30,7 +30,6 @@ use Rattle.pg_query.specs.declared.desk_call.Reply.TheVariants as reply
 use Rattle.pg_core.specs.Deeds.{booked_by, bookings_in, added_by, additions_in, told_as, told_by, answers_in, AreGranted}
 use Rattle.pg_core.specs.Lists.{events_of}
 use Rattle.pg_core.specs.Times.{LacksMemory, IsFaithful}
-use Rattle.pg_core.specs.Runs.{IsPut}
 use Rattle.pg_core.specs.Trails.{PollEnds, Gave, Pauses, HoldsBack}
 use Rattle.pg_core.proofs.Gone.{IsNotGone, NoneGone}
 use Rattle.pg_core.proofs.Granted.{granted-joined}

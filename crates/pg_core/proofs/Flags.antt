@@ -40,15 +40,21 @@ copying-new zero (x ∷ cs) c e = absurd (omega (arith, e))
 copying-new (suc k) (x ∷ cs) c e = copying-new k cs c (omega (arith, e))
 
 -- it stays where another is booked
-pub copying-more : (k : ℕ) (cs : List Bool) (c : Bool) → is_copying k cs ≡ true → is_copying k (cs ++ c ∷ []) ≡ true
-copying-more k [] c h = absurd cc
-copying-more zero (x ∷ cs) c h = h
-copying-more (suc k) (x ∷ cs) c h = copying-more k cs c h
+pub copying-more : (k : ℕ) (cs : List Bool) (c : Bool) → k < length cs → is_copying k (cs ++ c ∷ []) ≡ is_copying k cs
+copying-more k [] c lt = absurd (omega (arith, lt))
+copying-more zero (x ∷ cs) c lt = refl
+copying-more (suc k) (x ∷ cs) c lt = copying-more k cs c (omega (arith, lt))
 
 -- and where another copy is ended
-pub copying-other : (k id : ℕ) (cs : List Bool) → id ≢ k → is_copying k cs ≡ true → is_copying k (slice_set cs id false) ≡ true
-copying-other k id [] apart h = absurd cc
-copying-other zero zero (x ∷ cs) apart h = absurd (apart refl)
-copying-other zero (suc id) (x ∷ cs) apart h = h
-copying-other (suc k) zero (x ∷ cs) apart h = h
-copying-other (suc k) (suc id) (x ∷ cs) apart h = copying-other k id cs (λ same. apart (ap suc same)) h
+pub copying-other : (k id : ℕ) (cs : List Bool) → id ≢ k → is_copying k (slice_set cs id false) ≡ is_copying k cs
+copying-other k id [] apart = refl
+copying-other zero zero (x ∷ cs) apart = absurd (apart refl)
+copying-other zero (suc id) (x ∷ cs) apart = refl
+copying-other (suc k) zero (x ∷ cs) apart = refl
+copying-other (suc k) (suc id) (x ∷ cs) apart = copying-other k id cs (λ same. apart (ap suc same))
+
+-- a copy that is ended is open no more
+pub copying-ended : (k : ℕ) (cs : List Bool) → is_copying k (slice_set cs k false) ≡ false
+copying-ended k [] = refl
+copying-ended zero (x ∷ cs) = refl
+copying-ended (suc k) (x ∷ cs) = copying-ended k cs

@@ -1,5 +1,5 @@
 -- A command that hangs up last never asks for a request that is gone.
-use Rattle.std.proofs.Common.{◌≡◌, ◌≢◌, ◌⊎◌, inl, inr, ℕ, suc, ◌+◌, ◌<◌, ◌==◌, ◌||◌, ◌&&◌, not, ◌≤◌, nat_lt, List, [], ◌∷◌, ◌++◌, length, Bool, true, false, if◌then◌else◌, Some, option_map, Result, Ok, Err, refl, sym, ap, subst, ◌∙◌, arith}
+use Rattle.std.proofs.Common.{◌≡◌, ◌≢◌, ◌⊎◌, inl, inr, ℕ, suc, ◌+◌, ◌<◌, ◌==◌, ◌||◌, ◌&&◌, not, ◌≤◌, nat_lt, List, [], ◌∷◌, ◌++◌, length, slice_set, Bool, true, false, if◌then◌else◌, Some, option_map, Result, Ok, Err, refl, sym, ap, subst, ◌∙◌, arith}
 use Rattle.std.proofs.lemmas.Bool.Decides.{nat_tests}
 use Rattle.std.proofs.lemmas.List.{length-append}
 use Rattle.pg_spec.specs.RawMessages.{RawMessage}
@@ -26,7 +26,7 @@ use Rattle.pg_query.proofs.Questions.{told-asks}
 use Rattle.pg_course.specs.Dialogues.{decided_after}
 use Rattle.pg_core.specs.Lists.{events_of, IsReached}
 use Rattle.pg_core.specs.Runs.{ReadsNothing}
-use Rattle.pg_core.proofs.Flags.{AreFlagged, flagged, flagged-one, copying-new, copying-more, copying-other}
+use Rattle.pg_core.proofs.Flags.{AreFlagged, flagged, flagged-one, copying-ended, copying-new, copying-more, copying-other}
 use Rattle.pg_core.specs.Times.{ReadsNo, IsOpen, IsSane, IsThere, IsKept, IsKeptBeside, Fits, IsNoHangUp, HangsUpNone}
 
 -- only requests that are booked are hung up
@@ -86,14 +86,14 @@ sane-one m opened (code.Answer r) h = h
 sane-one m opened (code.Ask c p d) h = h
 sane-one m opened (code.Send p refused d) h = (λ e. sane-one m opened (refused e) (h.0 e), sane-one m opened d h.1)
 sane-one m opened (code.Leave k d) h = absurd h
-sane-one {T} m opened (code.Read cleanup decides next) h = by (decides (m ∷ [])) refl
+sane-one {T} m opened (code.Read cleanup decides next) (first, h) = by (decides (m ∷ [])) refl
   where
     by : (b : Bool) → decides (m ∷ []) ≡ b → IsSane opened (if b then next (m ∷ []) else code.Read cleanup (λ ms. decides (m ∷ ms)) (λ ms. next (m ∷ ms)))
     by true e = h (m ∷ []) (ap (λ (b : Bool). if b then Some 1 else option_map (λ n. n + 1) (decided_after (λ l. decides (m ∷ l)) [])) e)
-    by false e = λ ms decided. h (m ∷ ms) (behind-one decides m ms e decided)
-sane-one m opened (code.Put cleanup p d) h = (h.0, sane-one m true d h.1)
+    by false e = (first, λ ms decided. h (m ∷ ms) (behind-one decides m ms e decided))
+sane-one m opened (code.Put cleanup p d) h = (h.0, h.1, sane-one m true d h.2)
 sane-one m opened (code.Finish p d) h = (h.0, sane-one m false d h.1)
-sane-one m opened (code.Close p d) h = (h.0, sane-one m false d h.1)
+sane-one m opened (code.Close p d) h = (h.0, reads-no-one m d h.1, sane-one m false d h.2)
 sane-one m opened (code.HangUp d) h = h
 sane-one m opened (code.Call q refused next) h = (λ e. sane-one m opened (refused e) (h.0 e), λ r fit. sane-one m opened (next r) (h.1 r fit))
 sane-one m opened (code.Hear next) h = tt
@@ -115,44 +115,41 @@ fits-so s opened (code.Ask c p d) id sane kept = sane.1
 fits-so s opened (code.Send p refused d) id sane kept = (opened, sane, kept)
 fits-so s opened (code.Leave k d) id sane kept = absurd sane
 fits-so s opened (code.Read cleanup decides next) id sane kept = (opened, sane, kept)
-fits-so s opened (code.Put cleanup p d) id sane kept = (sane.1, kept-open s id opened (code.Put cleanup p d) sane.0 kept)
+fits-so s opened (code.Put cleanup p d) id sane kept = (sane.1, sane.2, kept-open s id opened (code.Put cleanup p d) sane.0 kept)
 fits-so s opened (code.Finish p d) id sane kept = (sane.1, kept-open s id opened (code.Finish p d) sane.0 kept)
-fits-so s opened (code.Close p d) id sane kept = (sane.1, kept-open s id opened (code.Close p d) sane.0 kept)
+fits-so s opened (code.Close p d) id sane kept = (sane.2, kept-open s id opened (code.Close p d) sane.0 kept)
 fits-so s opened (code.HangUp d) id sane kept = (sane.1, sane.2)
 fits-so s opened (code.Call q refused next) id sane kept = (opened, sane, kept)
 fits-so s opened (code.Hear next) id sane kept = tt
 
-pub fits-there : {T : Type 0} (s : State) (d : Dialogue T) (id : ℕ) → IsSane false d → IsThere s id → Fits s d id
-fits-there s d id sane there = fits-so s false d id sane (inr there)
-
 pub fits-none : {T : Type 0} (s : State) (d : Dialogue T) (id : ℕ) → IsSane false d → ReadsNo d → Fits s d id
 fits-none s d id sane none = fits-so s false d id sane (inl none)
 
--- where it is there and open still, it is kept
-kept-move : {T : Type 0} (s t : State) (id : ℕ) (opened : Bool) (x y : Dialogue T) → (IsThere s id → IsThere t id) → (is_copying id s.copying ≡ true → is_copying id t.copying ≡ true) → (ReadsNo x → ReadsNo y) →
+-- where it is there and open still, or not, it is kept
+kept-move : {T : Type 0} (s t : State) (id : ℕ) (opened : Bool) (x y : Dialogue T) → (IsThere s id → IsThere t id) → (IsThere s id → is_copying id t.copying ≡ is_copying id s.copying) → (ReadsNo x → ReadsNo y) →
     IsKept s id opened x → IsKept t id opened y
-kept-move s t id true x y there copying reads (h, c) = (there h, copying c)
+kept-move s t id true x y there copying reads (h, c) = (there h, copying h ∙ c)
 kept-move s t id false x y there copying reads (inl h) = inl (reads h)
-kept-move s t id false x y there copying reads (inr h) = inr (there h)
+kept-move s t id false x y there copying reads (inr (h, c)) = inr (there h, copying h ∙ c)
 
-kept-beside : {T : Type 0} (s t : State) (id sent : ℕ) (opened : Bool) (x y : Dialogue T) → (IsThere s id → IsThere t id) → (is_copying id s.copying ≡ true → is_copying id t.copying ≡ true) → (ReadsNo x → ReadsNo y) →
+kept-beside : {T : Type 0} (s t : State) (id sent : ℕ) (opened : Bool) (x y : Dialogue T) → (IsThere s id → IsThere t id) → (IsThere s id → is_copying id t.copying ≡ is_copying id s.copying) → (ReadsNo x → ReadsNo y) →
     (IsThere s id → sent ≢ id) → IsKept s id opened x → IsKeptBeside t id sent opened y
-kept-beside s t id sent true x y there copying reads apart (h, c) = (there h, copying c, apart h)
+kept-beside s t id sent true x y there copying reads apart (h, c) = (there h, copying h ∙ c, apart h)
 kept-beside s t id sent false x y there copying reads apart (inl h) = inl (reads h)
-kept-beside s t id sent false x y there copying reads apart (inr h) = inr (there h, apart h)
+kept-beside s t id sent false x y there copying reads apart (inr (h, c)) = inr (there h, copying h ∙ c, apart h)
 
 -- where another was hung up
-kept-left : {T : Type 0} (s t : State) (id sent : ℕ) (opened : Bool) (x : Dialogue T) → (sent ≢ id → IsThere s id → IsThere t id) → (is_copying id s.copying ≡ true → is_copying id t.copying ≡ true) →
+kept-left : {T : Type 0} (s t : State) (id sent : ℕ) (opened : Bool) (x : Dialogue T) → (sent ≢ id → IsThere s id → IsThere t id) → (is_copying id t.copying ≡ is_copying id s.copying) →
     IsKeptBeside s id sent opened x → IsKept t id opened x
-kept-left s t id sent true x there copying (h, c, apart) = (there apart h, copying c)
+kept-left s t id sent true x there copying (h, c, apart) = (there apart h, copying ∙ c)
 kept-left s t id sent false x there copying (inl h) = inl h
-kept-left s t id sent false x there copying (inr (h, apart)) = inr (there apart h)
+kept-left s t id sent false x there copying (inr (h, c, apart)) = inr (there apart h, copying ∙ c)
 
 -- a request that is read is there
 kept-there : {T : Type 0} (s : State) (id : ℕ) (opened : Bool) (x : Dialogue T) → (ReadsNo x → ⊥) → IsKept s id opened x → IsThere s id
 kept-there s id true x reads (h, c) = h
 kept-there s id false x reads (inl h) = absurd (reads h)
-kept-there s id false x reads (inr h) = h
+kept-there s id false x reads (inr (h, c)) = h
 
 -- ---- requests that were hung up
 
@@ -203,7 +200,7 @@ there-new s stamp part copying new is none = record {
 
 kept-new : {T : Type 0} (s : State) (stamp : Stamp) (part : List ℕ) (copying opened : Bool) (new : ℕ) (d : Dialogue T) → copying ≡ opened → new ≡ length s.book → NoneHungAhead s → AreFlagged s → IsKept (after s (Book stamp part copying (Ok new))) new opened d
 kept-new s stamp part copying true new d same is none flags = (there-new s stamp part copying new is none, copying-new new s.copying copying (is ∙ sym flags) ∙ same)
-kept-new s stamp part copying false new d same is none flags = inr (there-new s stamp part copying new is none)
+kept-new s stamp part copying false new d same is none flags = inr (there-new s stamp part copying new is none, copying-new new s.copying copying (is ∙ sym flags) ∙ same)
 
 -- a part more
 there-extended : (s t : State) (which id : ℕ) (part : List ℕ) → t.book ≡ extended which part s.book → t.hung_up ≡ s.hung_up → IsThere s id → IsThere t id
@@ -218,6 +215,10 @@ runs s id which same whole there copying (inl failed) = let e : true ≡ false =
 runs s id which same whole there copying (inr off) =
     let on : is_running s id ≡ true = ap (λ (b : Bool). b && not (is_hung_up s id)) copying ∙ ap (λ (b : Bool). true && not b) there.kept_up in
     let e : true ≡ false = sym on ∙ ap (is_running s) (sym same) ∙ off in absurd cc
+
+-- a copy that is ended there is open no more
+ended-there : (which id : ℕ) (cs : List Bool) → which ≡ id → is_copying id (slice_set cs which false) ≡ false
+ended-there which id cs same = ap (λ (k : ℕ). is_copying id (slice_set cs k false)) same ∙ copying-ended id cs
 
 there-hung : (s : State) (which id : ℕ) → which ≢ id → IsThere s id → IsThere (after s (HangUp which (Ok tt))) id
 there-hung s which id apart h = record { booked = h.booked; kept_up = in-other-if (may_let_go s which) id which s.hung_up (λ e same. apart (sym same)) ∙ h.kept_up }
@@ -272,10 +273,10 @@ call-kept : {T : Type 0} (s : State) (q : DeskCall) (refused : Error → Dialogu
 call-kept s q refused next id e (Ok r) d' id' told (opened, sane, keeps) whole (Quiet there flags failed not) is same =
     let fit = told-fits q e r told in
     kept-as s e (next r) d' id id' is same
-    (fits-so (after s e) opened (next r) id (sane.1 r fit) (kept-move s (after s e) id opened (code.Call q refused next) (next r) (there id) (λ c. ap (is_copying id) flags ∙ c) (λ h. h.1 r fit) keeps)) (failed ∙ whole) not
+    (fits-so (after s e) opened (next r) id (sane.1 r fit) (kept-move s (after s e) id opened (code.Call q refused next) (next r) (there id) (λ h. ap (is_copying id) flags) (λ h. h.1 r fit) keeps)) (failed ∙ whole) not
 call-kept s q refused next id e (Err f) d' id' told (opened, sane, keeps) whole (Quiet there flags failed not) is same =
     kept-as s e (refused (of_fault f)) d' id id' is same
-    (fits-so (after s e) opened (refused (of_fault f)) id (sane.0 (of_fault f)) (kept-move s (after s e) id opened (code.Call q refused next) (refused (of_fault f)) (there id) (λ c. ap (is_copying id) flags ∙ c) (λ h. h.0 (of_fault f)) keeps)) (failed ∙ whole) not
+    (fits-so (after s e) opened (refused (of_fault f)) id (sane.0 (of_fault f)) (kept-move s (after s e) id opened (code.Call q refused next) (refused (of_fault f)) (there id) (λ h. ap (is_copying id) flags) (λ h. h.0 (of_fault f)) keeps)) (failed ∙ whole) not
 
 kept : {T : Type 0} (s : State) (stamp : Stamp) (d : Dialogue T) (id : ℕ) (e : Event) (d' : Dialogue T) (id' : ℕ) → Fits s d id → NoneHungAhead s → AreFlagged s → s.failed ≡ false → Allows s e → Steps stamp d id e d' id' → Kept s e d' id'
 kept s stamp (code.Answer r) id e d' id' fits hung flags whole a st = absurd st
@@ -287,44 +288,44 @@ kept s stamp (code.Send p refused d) id (Book given part copying (Ok new)) d' id
     kept-as s (Book given part copying (Ok new)) (code.Leave new d) d' id id' st.3 st.4 (
       opened,
       sane.1,
-      kept-beside s (after s (Book given part copying (Ok new))) id new opened (code.Send p refused d) d (there-booked s given part copying new id) (copying-more id s.copying copying) (λ h. h.1)
+      kept-beside s (after s (Book given part copying (Ok new))) id new opened (code.Send p refused d) d (there-booked s given part copying new id) (λ h. copying-more id s.copying copying (subst (λ (n : ℕ). id < n) (sym flags) h.booked)) (λ h. h.1)
           (λ there same. (let is : new ≡ id = same in let number : new ≡ length s.book = a.1 in let lt = there.booked in omega (arith, is, number, lt))) keeps,
     ) whole tt
 kept s stamp (code.Send p refused d) id (Book given part copying (Err f)) d' id' (opened, sane, keeps) hung flags whole a st =
     kept-as s (Book given part copying (Err f)) (refused (of_fault f)) d' id id' st.3 st.4
-    (fits-so _ opened (refused (of_fault f)) id (sane.0 (of_fault f)) (kept-move s s id opened (code.Send p refused d) (refused (of_fault f)) (λ h. h) (λ c. c) (λ h. h.0 (of_fault f)) keeps)) whole tt
+    (fits-so _ opened (refused (of_fault f)) id (sane.0 (of_fault f)) (kept-move s s id opened (code.Send p refused d) (refused (of_fault f)) (λ h. h) (λ h. refl) (λ h. h.0 (of_fault f)) keeps)) whole tt
 kept s stamp (code.Send p refused d) id e d' id' fits hung flags whole a st = absurd st
 kept s stamp (code.Leave sent d) id (HangUp which (Ok x)) d' id' (opened, sane, keeps) hung flags whole a st =
     kept-as s (HangUp which (Ok x)) d d' id id' st.1 st.2
-    (fits-so _ opened d id sane (kept-left s (after s (HangUp which (Ok x))) id sent opened d (λ apart there. there-hung s which id (λ same. apart (sym st.0 ∙ same)) there) (λ c. c) keeps)) whole tt
+    (fits-so _ opened d id sane (kept-left s (after s (HangUp which (Ok x))) id sent opened d (λ apart there. there-hung s which id (λ same. apart (sym st.0 ∙ same)) there) refl keeps)) whole tt
 kept s stamp (code.Leave sent d) id (HangUp which (Err f)) d' id' fits hung flags whole a st = kept-as s (HangUp which (Err f)) (Answer _) d' id id' st.1 st.2 tt whole tt
 kept s stamp (code.Leave sent d) id e d' id' fits hung flags whole a st = absurd st
 kept s stamp (code.Read cleanup decides next) id (TakeEvent which (Ok (taking.Batch ms))) d' id' (opened, sane, keeps) hung flags whole a st =
     kept-as s (TakeEvent which (Ok (taking.Batch ms))) (feed ms (code.Read cleanup decides next)) d' id id' st.1 st.2
     (fits-so _ opened (feed ms (code.Read cleanup decides next)) id (sane-fed ms opened (code.Read cleanup decides next) sane)
-    (kept-move s (after s (TakeEvent which (Ok (taking.Batch ms)))) id opened (code.Read cleanup decides next) (feed ms (code.Read cleanup decides next)) (λ there. record { booked = there.booked; kept_up = there.kept_up }) (λ c. c) (λ h. absurd h) keeps)) whole tt
+    (kept-move s (after s (TakeEvent which (Ok (taking.Batch ms)))) id opened (code.Read cleanup decides next) (feed ms (code.Read cleanup decides next)) (λ there. record { booked = there.booked; kept_up = there.kept_up }) (λ h. refl) (λ h. absurd h) keeps)) whole tt
 kept s stamp (code.Read cleanup decides next) id (TakeEvent which (Ok taking.Empty)) d' id' fits hung flags whole a st = kept-as s (TakeEvent which (Ok taking.Empty)) (code.Read cleanup decides next) d' id id' st.1 st.2 fits whole tt
 kept s stamp (code.Read cleanup decides next) id (TakeEvent which (Ok taking.Over)) d' id' fits hung flags whole a st = kept-as s (TakeEvent which (Ok taking.Over)) (Answer _) d' id id' st.1 st.2 tt whole tt
 kept s stamp (code.Read cleanup decides next) id (TakeEvent which (Ok taking.Gone)) d' id' (opened, sane, keeps) hung flags whole a st =
     absurd (never-gone s id (a ∙ ap (take_answer s) st.0) (kept-there s id opened (code.Read cleanup decides next) (λ h. h) keeps) whole)
 kept s stamp (code.Read cleanup decides next) id (TakeEvent which (Err f)) d' id' fits hung flags whole a st = kept-as s (TakeEvent which (Err f)) (Answer _) d' id id' st.1 st.2 tt whole tt
 kept s stamp (code.Read cleanup decides next) id e d' id' fits hung flags whole a st = absurd st
-kept s stamp (code.Put cleanup p d) id (PutEvent which part putting.Took) d' id' (sane, keeps) hung flags whole a st =
+kept s stamp (code.Put cleanup p d) id (PutEvent which part putting.Took) d' id' (first, sane, keeps) hung flags whole a st =
     kept-as s (PutEvent which part putting.Took) d d' id id' st.2 st.3
     (fits-so _ true d id sane (there-extended s (after s (PutEvent which part putting.Took)) which id part refl refl keeps.0, keeps.1)) whole tt
 kept s stamp (code.Put cleanup p d) id (PutEvent which part (putting.Full back)) d' id' fits hung flags whole a st = kept-as s (PutEvent which part (putting.Full back)) (code.Put cleanup p d) d' id id' st.2 st.3 fits whole tt
-kept s stamp (code.Put cleanup p d) id (PutEvent which part (putting.Gone back)) d' id' (sane, keeps) hung flags whole a st = absurd (runs s id which st.0 whole keeps.0 keeps.1 a.1)
+kept s stamp (code.Put cleanup p d) id (PutEvent which part (putting.Gone back)) d' id' (first, sane, keeps) hung flags whole a st = absurd (runs s id which st.0 whole keeps.0 keeps.1 a.1)
 kept s stamp (code.Put cleanup p d) id (PutEvent which part (putting.OutOfMemory back)) d' id' fits hung flags whole a st = kept-as s (PutEvent which part (putting.OutOfMemory back)) (Answer _) d' id id' st.2 st.3 tt whole tt
 kept s stamp (code.Put cleanup p d) id e d' id' fits hung flags whole a st = absurd st
 kept s stamp (code.Finish p d) id (EndCopy which part putting.Took) d' id' (sane, keeps) hung flags whole a st =
     kept-as s (EndCopy which part putting.Took) d d' id id' st.2 st.3
-    (fits-so _ false d id sane (inr (there-extended s (after s (EndCopy which part putting.Took)) which id part refl refl keeps.0))) whole tt
+    (fits-so _ false d id sane (inr (there-extended s (after s (EndCopy which part putting.Took)) which id part refl refl keeps.0, ended-there which id s.copying st.0))) whole tt
 kept s stamp (code.Finish p d) id (EndCopy which part (putting.Gone back)) d' id' (sane, keeps) hung flags whole a st = absurd (runs s id which st.0 whole keeps.0 keeps.1 a.1)
 kept s stamp (code.Finish p d) id (EndCopy which part (putting.OutOfMemory back)) d' id' fits hung flags whole a st = kept-as s (EndCopy which part (putting.OutOfMemory back)) (Answer _) d' id id' st.2 st.3 tt whole tt
 kept s stamp (code.Finish p d) id e d' id' fits hung flags whole a st = absurd st
 kept s stamp (code.Close p d) id (EndCopy which part putting.Took) d' id' (sane, keeps) hung flags whole a st =
     kept-as s (EndCopy which part putting.Took) d d' id id' st.2 st.3
-    (fits-so _ false d id sane (inr (there-extended s (after s (EndCopy which part putting.Took)) which id part refl refl keeps.0))) whole tt
+    (fits-so _ false d id sane (inr (there-extended s (after s (EndCopy which part putting.Took)) which id part refl refl keeps.0, ended-there which id s.copying st.0))) whole tt
 kept s stamp (code.Close p d) id (EndCopy which part (putting.Gone back)) d' id' (sane, keeps) hung flags whole a st = absurd (runs s id which st.0 whole keeps.0 keeps.1 a.1)
 kept s stamp (code.Close p d) id (EndCopy which part (putting.OutOfMemory back)) d' id' fits hung flags whole a st = kept-as s (EndCopy which part (putting.OutOfMemory back)) (Answer _) d' id id' st.2 st.3 tt whole tt
 kept s stamp (code.Close p d) id e d' id' fits hung flags whole a st = absurd st
@@ -376,42 +377,45 @@ pub there-on : (s : State) (k : ℕ) (L : List Deed) → HangsUpNone k L → IsT
 there-on s k [] none h = h
 there-on s k (a ∷ L) none h = there-on (after s a.event) k L none.1 (there-one s k a.event none.0 h)
 
-copying-one : (s : State) (k : ℕ) (e : Event) → IsNoHangUp k e → is_copying k s.copying ≡ true → is_copying k (after s e).copying ≡ true
-copying-one s k (Book given part copying (Ok id)) none h = copying-more k s.copying copying h
-copying-one s k (PutEvent id part putting.Took) none h = h
-copying-one s k (EndCopy id part putting.Took) none h = copying-other k id s.copying none h
-copying-one s k (TakeEvent id (Ok (taking.Batch ms))) none h = h
-copying-one s k (HangUp id (Ok x)) none h = h
-copying-one s k (NextStatement (Ok n)) none h = h
-copying-one s k (NextPortal (Ok n)) none h = h
-copying-one s k (CatalogEvent call) none h = h
-copying-one s k (NextOut (Ok (out.Part part))) none h = h
-copying-one s k (DeliverEvent batch complete delivering.Taken) none h = h
-copying-one s k (CloseRequests (Ok x)) none h = h
-copying-one s k (Fail (Ok x)) none h = h
-copying-one s k e none h = h
+copying-one : (s : State) (k : ℕ) (e : Event) → AreFlagged s → k < length s.book → IsNoHangUp k e → is_copying k (after s e).copying ≡ is_copying k s.copying
+copying-one s k (Book given part copying (Ok id)) flags lt none = copying-more k s.copying copying (subst (λ (n : ℕ). k < n) (sym flags) lt)
+copying-one s k (PutEvent id part putting.Took) flags lt none = refl
+copying-one s k (EndCopy id part putting.Took) flags lt none = copying-other k id s.copying none
+copying-one s k (TakeEvent id (Ok (taking.Batch ms))) flags lt none = refl
+copying-one s k (HangUp id (Ok x)) flags lt none = refl
+copying-one s k (NextStatement (Ok n)) flags lt none = refl
+copying-one s k (NextPortal (Ok n)) flags lt none = refl
+copying-one s k (CatalogEvent call) flags lt none = refl
+copying-one s k (NextOut (Ok (out.Part part))) flags lt none = refl
+copying-one s k (DeliverEvent batch complete delivering.Taken) flags lt none = refl
+copying-one s k (CloseRequests (Ok x)) flags lt none = refl
+copying-one s k (Fail (Ok x)) flags lt none = refl
+copying-one s k e flags lt none = refl
 
-copying-on : (s : State) (k : ℕ) (L : List Deed) → HangsUpNone k L → is_copying k s.copying ≡ true → is_copying k (after_all s (events_of L)).copying ≡ true
-copying-on s k [] none h = h
-copying-on s k (a ∷ L) none h = copying-on (after s a.event) k L none.1 (copying-one s k a.event none.0 h)
+copying-on : (s : State) (k : ℕ) (L : List Deed) → AreFlagged s → HangsUpNone k L → IsThere s k → is_copying k (after_all s (events_of L)).copying ≡ is_copying k s.copying
+copying-on s k [] flags none h = refl
+copying-on s k (a ∷ L) flags none h = copying-on (after s a.event) k L (flagged-one s a.event flags) none.1 (there-one s k a.event none.0 h) ∙ copying-one s k a.event flags h.booked none.0
 
-kept-on : {T : Type 0} (s : State) (id : ℕ) (L : List Deed) (opened : Bool) (x : Dialogue T) → HangsUpNone id L → IsKept s id opened x → IsKept (after_all s (events_of L)) id opened x
-kept-on s id L opened x none h = kept-move s (after_all s (events_of L)) id opened x x (there-on s id L none) (copying-on s id L none) (λ h. h) h
+kept-on : {T : Type 0} (s : State) (id : ℕ) (L : List Deed) (opened : Bool) (x : Dialogue T) → AreFlagged s → HangsUpNone id L → IsKept s id opened x → IsKept (after_all s (events_of L)) id opened x
+kept-on s id L opened x flags none h = kept-move s (after_all s (events_of L)) id opened x x (there-on s id L none) (copying-on s id L flags none) (λ h. h) h
 
-kept-beside-on : {T : Type 0} (s : State) (id sent : ℕ) (L : List Deed) (opened : Bool) (x : Dialogue T) → HangsUpNone id L → IsKeptBeside s id sent opened x → IsKeptBeside (after_all s (events_of L)) id sent opened x
-kept-beside-on s id sent L true x none (h, c, apart) = (there-on s id L none h, copying-on s id L none c, apart)
-kept-beside-on s id sent L false x none (inl h) = inl h
-kept-beside-on s id sent L false x none (inr (h, apart)) = inr (there-on s id L none h, apart)
+kept-beside-on : {T : Type 0} (s : State) (id sent : ℕ) (L : List Deed) (opened : Bool) (x : Dialogue T) → AreFlagged s → HangsUpNone id L → IsKeptBeside s id sent opened x → IsKeptBeside (after_all s (events_of L)) id sent opened x
+kept-beside-on s id sent L true x flags none (h, c, apart) = (there-on s id L none h, copying-on s id L flags none h ∙ c, apart)
+kept-beside-on s id sent L false x flags none (inl h) = inl h
+kept-beside-on s id sent L false x flags none (inr (h, c, apart)) = inr (there-on s id L none h, copying-on s id L flags none h ∙ c, apart)
 
-pub fits-on : {T : Type 0} (s : State) (d : Dialogue T) (id : ℕ) (L : List Deed) → HangsUpNone id L → Fits s d id → Fits (after_all s (events_of L)) d id
-fits-on s (code.Leave sent d) id L none (opened, sane, h) = (opened, sane, kept-beside-on s id sent L opened d none h)
-fits-on s (code.Answer r) id L none h = tt
-fits-on s (code.Ask c p d) id L none h = h
-fits-on s (code.Send p refused d) id L none (opened, sane, h) = (opened, sane, kept-on s id L opened (code.Send p refused d) none h)
-fits-on s (code.Read cleanup decides next) id L none (opened, sane, h) = (opened, sane, kept-on s id L opened (code.Read cleanup decides next) none h)
-fits-on s (code.Put cleanup p d) id L none (sane, h) = (sane, kept-on s id L true d none h)
-fits-on s (code.Finish p d) id L none (sane, h) = (sane, kept-on s id L true d none h)
-fits-on s (code.Close p d) id L none (sane, h) = (sane, kept-on s id L true d none h)
-fits-on s (code.HangUp d) id L none h = h
-fits-on s (code.Call q refused next) id L none (opened, sane, h) = (opened, sane, kept-on s id L opened (code.Call q refused next) none h)
-fits-on s (code.Hear next) id L none h = tt
+fits-flagged : {T : Type 0} (s : State) (d : Dialogue T) (id : ℕ) (L : List Deed) → AreFlagged s → HangsUpNone id L → Fits s d id → Fits (after_all s (events_of L)) d id
+fits-flagged s (code.Leave sent d) id L flags none (opened, sane, h) = (opened, sane, kept-beside-on s id sent L opened d flags none h)
+fits-flagged s (code.Answer r) id L flags none h = tt
+fits-flagged s (code.Ask c p d) id L flags none h = h
+fits-flagged s (code.Send p refused d) id L flags none (opened, sane, h) = (opened, sane, kept-on s id L opened (code.Send p refused d) flags none h)
+fits-flagged s (code.Read cleanup decides next) id L flags none (opened, sane, h) = (opened, sane, kept-on s id L opened (code.Read cleanup decides next) flags none h)
+fits-flagged s (code.Put cleanup p d) id L flags none (first, sane, h) = (first, sane, kept-on s id L true d flags none h)
+fits-flagged s (code.Finish p d) id L flags none (sane, h) = (sane, kept-on s id L true d flags none h)
+fits-flagged s (code.Close p d) id L flags none (sane, h) = (sane, kept-on s id L true d flags none h)
+fits-flagged s (code.HangUp d) id L flags none h = h
+fits-flagged s (code.Call q refused next) id L flags none (opened, sane, h) = (opened, sane, kept-on s id L opened (code.Call q refused next) flags none h)
+fits-flagged s (code.Hear next) id L flags none h = tt
+
+pub fits-on : {T : Type 0} (s : State) (d : Dialogue T) (id : ℕ) (L : List Deed) → IsReached s → HangsUpNone id L → Fits s d id → Fits (after_all s (events_of L)) d id
+fits-on s d id L reached none h = fits-flagged s d id L (flagged s reached) none h

@@ -9,6 +9,7 @@ pub mod Core
 pub mod Itself
 pub mod Later
 pub mod Outcome
+pub mod Begun
 pub mod Goes
 pub mod Trail
 pub mod Lists
@@ -21,11 +22,13 @@ pub mod Refused
 pub mod Flags
 pub mod Gone
 pub mod Upright
+pub mod Opened
 pub mod Requests
 pub mod Copying
 pub mod Glued
 pub mod Owned
 pub mod Extended
 pub mod Polls
+pub mod Waiting
 pub mod Behind
 pub mod Off

@@ -14,14 +14,14 @@ use Rattle.pg_desk.specs.declared.event.Event.TheVariants as call
 use Rattle.pg_query.specs.Dialogue.{Dialogue, Answer, Ask, Send, Leave, Read, Put, Finish, Close, HangUp, Call, Hear, fits, question_of, reply_of}
 use Rattle.pg_query.specs.Lives.{Deed, Turn, Leads, Lives, deeds}
 use Rattle.pg_query.specs.Meaning.{Place}
-use Rattle.pg_query.specs.Scripts.{IsRead}
+use Rattle.pg_query.specs.Scripts.{IsRead, IsPut}
 use Rattle.pg_query.specs.declared.desk_call.DeskCall.{DeskCall}
 use Rattle.pg_query.specs.declared.desk_call.Reply.{Reply}
 use Rattle.pg_course.specs.Courses.{Asked, Request, Met, Outcome, outcome, nothing_yet, past_reply, with_request, with_sent, with_part, with_question as with_query}
 use Rattle.pg_course.specs.Dialogues.{decided_after}
 use Rattle.pg_query.proofs.RequestLaws.{lives-lead}
 use Rattle.pg_core.specs.Deeds.{Addition, booked_by, bookings_in, added_by, additions_in, told_as, told_by, answers_in, granted, AreGranted, requests_in, added_in, whole_in, copies_in, asked_in, taken_from, Serves, EndsRefused}
-use Rattle.pg_core.specs.Runs.{AddsNone, AddsTo, IsPut, MayWait, Ran, of_request, stays, run, ReadsNothing, IsTidy, Holds, Answered, Stands, Gave, Rests, Refused, Comes}
+use Rattle.pg_core.specs.Runs.{AddsNone, AddsTo, MayWait, Ran, of_request, stays, run, ReadsNothing, IsTidy, Holds, Answered, Stands, Gave, Rests, Refused, Comes}
 use Rattle.pg_core.specs.Outcomes.{asked, met_by, parts_in, questions_in, IsOutcome, IsBegun, AreBegun, IsUnderWay, is_granted, unrefused, AnswersSo, LivesSo}
 use Rattle.pg_core.proofs.Core.{adds-none, comes}
 use Rattle.pg_core.proofs.Fed.{still-decides, front-decides}

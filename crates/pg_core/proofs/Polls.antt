@@ -5,7 +5,7 @@ use Rattle.pg_desk.specs.declared.event.Event.{Event}
 use Rattle.pg_faults.specs.declared.error.Error.{Error}
 use Rattle.pg_faults.specs.declared.error.Error.TheVariants.{OutOfMemory}
 use Rattle.pg_query.specs.Dialogue.{Dialogue, Answer, Walks}
-use Rattle.pg_query.specs.Meaning.{Place, Goes, GoesToAnswer, Pauses}
+use Rattle.pg_query.specs.Meaning.{ForMessage, ForRoom, Place, Goes, GoesToAnswer, Pauses, WaitsAt}
 use Rattle.pg_query.specs.Lives.{Deed, Leads}
 use Rattle.pg_core.specs.Lists.{events_of}
 use Rattle.pg_core.specs.Trails.{AllUnder, PollEnds, Gave}
@@ -41,7 +41,11 @@ poll-is becomes stamp a p b q goes = record {
 }
 
 pub pause-ends : {D T : Type 0} (becomes : D → List Event → D → Type 0) (stamp : Stamp) (a : D) (p : Place T) (b : D) (q : Place T) (h : Pauses becomes stamp a p b q) → PollEnds (under_stamp stamp h.goes.events) q
-pause-ends becomes stamp a p b q h = trails.Pauses h.reads (record { before = h.before; last = their-events stamp h.goes.events ∙ h.last })
+pause-ends {D} {T} becomes stamp a p b q h = by h.waits
+  where
+    by : WaitsAt q h.goes.events → PollEnds (under_stamp stamp h.goes.events) q
+    by (ForMessage reads none) = trails.Pauses reads (record { before = none.before; last = their-events stamp h.goes.events ∙ none.are })
+    by (ForRoom puts part full) = trails.HoldsBack puts (record { before = full.before; part = part; last = their-events stamp h.goes.events ∙ full.are })
 
 pub answer-ends : {D T : Type 0} (becomes : D → List Event → D → Type 0) (stamp : Stamp) (a : D) (p : Place T) (b : D) (r : Result T Error) (h : GoesToAnswer becomes stamp a p b r) →
     PollEnds (under_stamp stamp h.goes.events) h.last ⊎ (r ≡ Err OutOfMemory)

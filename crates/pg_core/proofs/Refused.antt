@@ -21,11 +21,11 @@ use Rattle.pg_query.specs.Dialogue.{Dialogue, Answer, Steps, feed}
 use Rattle.pg_query.specs.Lives.{Deed, Leads}
 use Rattle.pg_query.specs.Meaning.{Place}
 use Rattle.pg_query.specs.Requests.{IsBehind, Refuses, IsRefused}
-use Rattle.pg_query.specs.Scripts.{IsRead}
+use Rattle.pg_query.specs.Scripts.{IsRead, IsPut}
 use Rattle.pg_query.proofs.Questions.{told-asks}
 use Rattle.pg_core.specs.Deeds.{Serves, EndsRefused, additions_in, answers_in, bookings_in, got_after}
 use Rattle.pg_core.specs.Lists.{events_of, came_of, got_of, state_behind, IsReached}
-use Rattle.pg_core.specs.Runs.{Ran, of_request, At, Waits, ReadsNothing, IsPut}
+use Rattle.pg_core.specs.Runs.{Ran, of_request, At, Waits, ReadsNothing}
 use Rattle.pg_core.specs.Times.{IsTimely}
 use Rattle.pg_core.specs.Trails.{Moment, ran_by, goes_on, IsRunning, moment_of, LedTo, Waiting, Answering, Refusing, PollsOn}
 use Rattle.pg_core.proofs.Steps.{all-taken, firm, poll-served, reached-on, taken-within}

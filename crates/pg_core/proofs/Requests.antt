@@ -48,7 +48,7 @@ pub record ReadsSo {T : Type 0} (d : Dialogue T) : Type 0 where
 pub reads-so : {T : Type 0} (stops : Bool) (reading : List RawMessage → Option (Result T Error)) → ((ms : List RawMessage) → ends_in is_ready ms ≡ true → is_some (reading ms) ≡ true) → ReadsSo (reads stops reading)
 reads-so stops reading h = record {
   tidy = λ ms e. (ends-so stops (reading ms)).tidy;
-  sane = λ ms e. (ends-so stops (reading ms)).sane;
+  sane = (tt, λ ms e. (ends-so stops (reading ms)).sane);
   in_time = (in-time-by (λ ms. is_some (reading ms)) h, λ ms e. (λ any. (ends-so stops (reading ms)).reads_no, (ends-so stops (reading ms)).in_time));
   faithful = λ ms. (ends-so stops (reading ms)).faithful;
 }

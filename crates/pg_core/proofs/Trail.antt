@@ -10,7 +10,7 @@ use Rattle.pg_query.specs.Dialogue as code
 use Rattle.pg_query.specs.Dialogue.{feed}
 use Rattle.pg_query.specs.Lives.{Deed, Leads}
 use Rattle.pg_query.specs.Meaning.{Place}
-use Rattle.pg_query.specs.Scripts.{IsRead}
+use Rattle.pg_query.specs.Scripts.{IsRead, IsPut}
 use Rattle.pg_query.specs.declared.desk_call.DeskCall.{DeskCall}
 use Rattle.pg_query.specs.declared.desk_call.Reply.{Reply}
 use Rattle.pg_course.specs.Courses.{Asked, Course, Request, Point, Given, Unfolds, begun_in, nowhere, delivered_to, Who}
@@ -19,7 +19,7 @@ use Rattle.pg_core.proofs.Walk.{Step, is_delivered, may_read, with_parts}
 use Rattle.pg_core.proofs.Living.{Went, went}
 use Rattle.pg_core.specs.Deeds.{Serves, bookings_in, answers_in, additions_in, got_after, granted}
 use Rattle.pg_core.specs.Runs as runs
-use Rattle.pg_core.specs.Runs.{Ran, of_request, run, ReadsNothing, IsTidy, At, Holds, Ends, Answered, Stands, Comes, IsPut, MayWait}
+use Rattle.pg_core.specs.Runs.{Ran, of_request, run, ReadsNothing, IsTidy, At, Holds, Ends, Answered, Stands, Comes, MayWait}
 use Rattle.pg_core.specs.Outcomes.{asked}
 use Rattle.pg_core.specs.Trails.{point_of, Moment, then_ran, goes_on, ran_by, AreMet, IsRunning, moment_of, LedTo, Waiting, Answering, Refusing, PollsOn, NoneBetween, IsTurnOf, AreTurnsOf, begun_at}
 use Rattle.pg_core.proofs.Core.{comes}

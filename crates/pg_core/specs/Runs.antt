@@ -5,7 +5,7 @@ use Rattle.pg_faults.specs.declared.error.Error.{Error}
 use Rattle.pg_faults.specs.declared.error.Error.TheVariants.{Closed}
 use Rattle.pg_query.specs.Dialogue.{Dialogue, Answer, Ask, Send, Leave, Read, Put, Finish, Close, HangUp, Call, Hear, feed, fits}
 use Rattle.pg_query.specs.Lives.{Deed}
-use Rattle.pg_query.specs.Scripts.{IsRead}
+use Rattle.pg_query.specs.Scripts.{IsPut, IsRead}
 use Rattle.pg_query.specs.declared.desk_call.DeskCall.{DeskCall}
 use Rattle.pg_query.specs.declared.desk_call.Reply.{Reply}
 use Rattle.pg_course.specs.Courses.{Asked, Request}
@@ -205,11 +205,6 @@ pub record Holds (came got : ℕ → List RawMessage) (at : Option ℕ) (n : ℕ
   pub took : of_request got at ≡ read ++ left
   pub more : List RawMessage
   pub all : read ++ (left ++ more) ≡ of_request came at
-
--- a part is put here
-abbrev pub IsPut : {T : Type 0} → Dialogue T → Type 0
-IsPut (Put cleanup part d) = Unit {0}
-IsPut _ = ⊥
 
 -- a message is read here, or a part is put: a command may wait
 abbrev pub MayWait : {T : Type 0} → Dialogue T → Type 0

@@ -8,6 +8,8 @@ use Rattle.pg_desk.specs.declared.event.Event.{Event}
 use Rattle.pg_desk.specs.declared.event.Event.TheVariants as call
 use Rattle.pg_query.specs.Dialogue.{Dialogue, Answer, Ask, Send, Leave, Read, Put, Finish, Close, HangUp, Call, Hear, fits}
 use Rattle.pg_query.specs.Lives.{Deed}
+use Rattle.pg_query.specs.declared.desk_call.Cleanup.{Cleanup}
+use Rattle.pg_query.specs.declared.desk_call.Cleanup.TheVariants.{Close as CloseFirst}
 use Rattle.pg_query.specs.declared.desk_call.Reply.{Reply}
 use Rattle.pg_course.specs.Dialogues.{decided_after}
 use Rattle.pg_faults.specs.declared.error.Error.{Error}
@@ -63,18 +65,30 @@ abbrev pub IsEnded : Bool → Type 0
 IsEnded true = ⊥
 IsEnded false = Unit {0}
 
+-- no copy is ended by it
+abbrev pub EndsNone : List Cleanup → Type 0
+EndsNone [] = Unit {0}
+EndsNone (CloseFirst part ∷ cs) = ⊥
+EndsNone (c ∷ cs) = EndsNone cs
+
+-- What is left to do where it is given up: an open copy is ended first, and no other is.
+abbrev pub EndsFirst : (opened : Bool) → List Cleanup → Type 0
+EndsFirst true (CloseFirst part ∷ cs) = EndsNone cs
+EndsFirst true _ = ⊥
+EndsFirst false cs = EndsNone cs
+
 -- From here on, where the request that is read is a copy that is open, or isn't: parts are added to an open copy alone, and it is ended
--- before it is hung up, before another request is read and before the answer. Behind a hang-up nothing is read before the next request. No
--- `Leave` stands in it (a walk comes to one behind a request that it sent).
+-- before it is hung up, before another request is read, before the answer, and first of all where the command is given up. Behind a hang-up,
+-- and behind an end at which what is left of the reply isn't wanted (`Close`), nothing is read before the next request. No `Leave` stands in it (a walk comes to one behind a request that it sent).
 abbrev pub IsSane : {T : Type 0} → (opened : Bool) → Dialogue T → Type 0
 IsSane opened (Answer r) = IsEnded opened
 IsSane opened (Ask copying part d) = IsEnded opened × IsSane copying d
 IsSane opened (Send part refused d) = ((e : Error) → IsSane opened (refused e)) × IsSane opened d
 IsSane opened (Leave id d) = ⊥
-IsSane opened (Read cleanup decides next) = (ms : List RawMessage) → decided_after decides ms ≡ Some (length ms) → IsSane opened (next ms)
-IsSane opened (Put cleanup part d) = IsOpen opened × IsSane true d
+IsSane opened (Read cleanup decides next) = EndsFirst opened cleanup × ((ms : List RawMessage) → decided_after decides ms ≡ Some (length ms) → IsSane opened (next ms))
+IsSane opened (Put cleanup part d) = IsOpen opened × EndsFirst true cleanup × IsSane true d
 IsSane opened (Finish part d) = IsOpen opened × IsSane false d
-IsSane opened (Close part d) = IsOpen opened × IsSane false d
+IsSane opened (Close part d) = IsOpen opened × ReadsNo d × IsSane false d
 IsSane opened (HangUp d) = IsEnded opened × ReadsNo d × IsSane false d
 IsSane opened (Call q refused next) = ((e : Error) → IsSane opened (refused e)) × ((r : Reply) → fits q r ≡ true → IsSane opened (next r))
 IsSane opened (Hear next) = Unit {0}
@@ -84,15 +98,15 @@ pub record IsThere (s : State) (id : ℕ) : Type 0 where
   pub booked : id < length s.book
   pub kept_up : is_hung_up s id ≡ false
 
--- The request that is read is there where this is read or added to; an open copy is one that takes parts.
+-- The request that is read is there where this is read or added to. Its copy is open where the desk's takes parts, and only there.
 abbrev pub IsKept : {T : Type 0} → State → (id : ℕ) → (opened : Bool) → Dialogue T → Type 0
 IsKept s id true d = IsThere s id × (is_copying id s.copying ≡ true)
-IsKept s id false d = ReadsNo d ⊎ IsThere s id
+IsKept s id false d = ReadsNo d ⊎ (IsThere s id × (is_copying id s.copying ≡ false))
 
 -- the same where another request is hung up
 abbrev pub IsKeptBeside : {T : Type 0} → State → (id sent : ℕ) → (opened : Bool) → Dialogue T → Type 0
 IsKeptBeside s id sent true d = IsThere s id × (is_copying id s.copying ≡ true) × (sent ≢ id)
-IsKeptBeside s id sent false d = ReadsNo d ⊎ (IsThere s id × (sent ≢ id))
+IsKeptBeside s id sent false d = ReadsNo d ⊎ (IsThere s id × (is_copying id s.copying ≡ false) × (sent ≢ id))
 
 -- where a walk stands: it reads nothing, or its request is there
 abbrev pub Fits : {T : Type 0} → State → Dialogue T → ℕ → Type 0
@@ -101,7 +115,7 @@ Fits s (Answer r) id = Unit {0}
 Fits s (Ask copying part d) id = IsSane copying d
 Fits s (Send part refused d) id = (opened : Bool) × IsSane opened (Send part refused d) × IsKept s id opened (Send part refused d)
 Fits s (Read cleanup decides next) id = (opened : Bool) × IsSane opened (Read cleanup decides next) × IsKept s id opened (Read cleanup decides next)
-Fits s (Put cleanup part d) id = IsSane true d × IsKept s id true d
+Fits s (Put cleanup part d) id = EndsFirst true cleanup × IsSane true d × IsKept s id true d
 Fits s (Finish part d) id = IsSane false d × IsKept s id true d
 Fits s (Close part d) id = IsSane false d × IsKept s id true d
 Fits s (HangUp d) id = ReadsNo d × IsSane false d

@@ -1,12 +1,12 @@
 -- A command turn by turn: what it did in each of its handle's turns, as equations.
-use Rattle.std.specs.Prelude.{◌≡◌, ◌⊎◌, ℕ, zero, suc, ◌+◌, ◌<◌, ◌≤◌, List, [], ◌∷◌, ◌++◌, length, map, take, drop, Option, Some, None, Result}
+use Rattle.std.specs.Prelude.{◌≡◌, ◌≢◌, ◌⊎◌, ℕ, zero, suc, ◌+◌, ◌<◌, ◌≤◌, List, [], ◌∷◌, ◌++◌, length, map, take, drop, Option, Some, None, Result}
 use Rattle.pg_spec.specs.RawMessages.{RawMessage}
 use Rattle.pg_spec.specs.Turns.{IsOwnTurn, turn_of}
 use Rattle.pg_faults.specs.declared.error.Error.{Error}
 use Rattle.pg_query.specs.Dialogue as code
 use Rattle.pg_query.specs.Dialogue.{feed}
 use Rattle.pg_query.specs.Meaning.{Place}
-use Rattle.pg_query.specs.Scripts.{IsRead}
+use Rattle.pg_query.specs.Scripts.{IsRead, IsPut}
 use Rattle.pg_query.specs.declared.desk_call.DeskCall.{DeskCall}
 use Rattle.pg_query.specs.declared.desk_call.Reply.{Reply}
 use Rattle.pg_course.specs.Courses.{Asked, Course, Request, Point, Who, stamp_of, reply_to, requests_of, delivered_to}
@@ -17,7 +17,7 @@ use Rattle.pg_spec.specs.declared.stamps.Stamp.{Stamp}
 use Rattle.pg_core.specs.Deeds.{Addition, bookings_in, additions_in, answers_in, requests_in, added_in, granted, AreGranted, got_after, EndsRefused}
 use Rattle.pg_desk.specs.History.{State}
 use Rattle.pg_core.specs.Lists.{EndsEmpty, EndsFull, came_of, got_of, state_behind}
-use Rattle.pg_core.specs.Runs.{Ran, of_request, stays, run, IsTidy, At, Ends, IsPut, MayWait}
+use Rattle.pg_core.specs.Runs.{Ran, of_request, stays, run, IsTidy, At, Ends, MayWait}
 
 -- where it stands in this turn
 abbrev pub point_of : {T : Type 0} → (turn : ℕ) → Ran T → Point
@@ -173,6 +173,16 @@ with_part (suc k) part (b ∷ bs) = b ∷ with_part k part bs
 abbrev pub with_all : List Addition → List said.Booking → List said.Booking
 with_all [] bs = bs
 with_all (a ∷ more) bs = with_all more (with_part a.request a.part bs)
+
+-- none of these requests has this number
+abbrev pub HasNone : ℕ → List Request → Type 0
+HasNone k [] = Unit {0}
+HasNone k (r ∷ rs) = (r.number ≢ k) × HasNone k rs
+
+-- these parts go to none of these requests
+abbrev pub HasNoneOf : List Addition → List Request → Type 0
+HasNoneOf [] rs = Unit {0}
+HasNoneOf (a ∷ more) rs = HasNone a.request rs × HasNoneOf more rs
 
 -- parts that come to the request that is read
 abbrev pub to_request : Option ℕ → List (List ℕ) → List Addition

@@ -5,22 +5,25 @@ ghost use Rattle.std.specs.Prelude.{◌≡◌, ◌<◌, ◌≤◌, ◌⊎◌, �
 ghost use Rattle.std.specs.List.{list_any};
 ghost use Rattle.pg_core.specs.Copying.{copies};
 ghost use Rattle.pg_core.specs.Counters.{Counts, ToldSo, tells};
-ghost use Rattle.pg_core.specs.Deeds.{Serves, IsNew, got_after, additions_in, bookings_in, answers_in};
+ghost use Rattle.pg_core.specs.Deeds.{Addition, Serves, IsNew, got_after, additions_in, bookings_in, answers_in};
 ghost use Rattle.pg_core.specs.Lists.{IsApart, IsReached, SparesAll, came_of, events_of, got_of, state_behind};
-ghost use Rattle.pg_core.specs.Outcomes.{LivesSo, asked};
-ghost use Rattle.pg_core.specs.Runs.{At, Holds, IsTidy, ReadsNothing, Comes, of_request, run};
-ghost use Rattle.pg_core.specs.Times.{HangsUpNone, IsCommand, IsOff, IsUpright, LacksMemory, TurnedWell};
-ghost use Rattle.pg_core.specs.Trails.{AllUnder, AreMet, AreNumbered, AreToldIn, AreTurnsOf, BooksSo, CameBy, HoldsRequests, IsNext, IsRunning, IsTurnOf, Moment, OwnTurn, PollEnds, PollsOn, begun_at, goes_on, moment_of, point_of, ran_by, with_all};
+ghost use Rattle.pg_core.specs.Outcomes.{AreBegun, LivesSo, asked};
+ghost use Rattle.pg_core.specs.Runs.{At, Holds, IsTidy, MayWait, ReadsNothing, Comes, of_request, run};
+ghost use Rattle.pg_core.specs.Times.{EndsFirst, EndsNone, HangsUpNone, IsCommand, IsOff, IsSane, IsUpright, LacksMemory, TurnedWell};
+ghost use Rattle.pg_core.specs.Trails.{AllUnder, AreMet, AreNumbered, AreToldIn, AreTurnsOf, BooksSo, CameBy, HasNoneOf, HoldsRequests, IsNext, IsRunning, IsTurnOf, Moment, OwnTurn, PollEnds, PollsOn, begun_at, goes_on, moment_of, point_of, ran_by, with_all};
+ghost use Rattle.pg_course.specs.Dialogues.{decided_after};
 ghost use Rattle.pg_course.specs.Courses.{Asked, Course, Request, Unfolds, begun_in, nowhere, questions_of, requests_of, Who, stamp_of};
-ghost use Rattle.pg_desk.specs.History.{IsFrontOf, IsLegal, IsSound, State, after_all, ended, kept, received, reply, start};
+ghost use Rattle.pg_desk.specs.History.{IsFrontOf, IsLegal, IsSound, State, after_all, ended, is_copying, kept, received, reply, start};
 ghost use Rattle.pg_faults.specs.declared.error.Error.{Error};
 ghost use Rattle.pg_faults.specs.declared.error.Error.TheVariants.{OutOfMemory};
 ghost use Rattle.pg_core.specs.Behind.{behind};
-ghost use Rattle.pg_query.specs.Dialogue.{Dialogue, Answer, Ask, Finish, HangUp, Put, feed};
+ghost use Rattle.pg_query.specs.Dialogue.{Dialogue, Answer, Ask, Finish, HangUp, Put, Read, feed};
 ghost use Rattle.pg_query.specs.Lives.{Deed, Turn, Leads, Lives, deeds};
 ghost use Rattle.pg_query.specs.Meaning.{Place};
 ghost use Rattle.pg_query.specs.Requests.{asks};
+ghost use Rattle.pg_query.specs.Scripts.{cleanup_of};
 ghost use Rattle.pg_query.specs.declared.desk_call.Cleanup.{Cleanup};
+ghost use Rattle.pg_query.specs.declared.desk_call.Cleanup.TheVariants.{Release};
 ghost use Rattle.pg_query.specs.declared.desk_call.DeskCall.{DeskCall};
 ghost use Rattle.pg_query.specs.declared.desk_call.Reply.{Reply};
 ghost use Rattle.pg_spec.specs.Book.{Booking};
@@ -78,6 +81,11 @@ pub fn a_legal_list_serves()
         Serves (came_of (state_behind (start n m) L)) (λ k. []) (filter own L) }
 {}
 
+/// Requests as far as they were booked, none of which is a copy, are the first ones, each whole.
+pub fn requests_without_copies_are_whole()
+    ensures { (copies : List Bool) (begun all : List (List (List ℕ))) → list_any (λ c. c) copies ≡ false → AreBegun copies begun all → IsFrontOf begun all }
+{}
+
 /// A life among the deeds of a legal list: the same, on the server's replies to its own requests, as far as they came.
 pub fn outcome_in_a_legal_list<T>()
     ensures { (mine : ℕ → Bool) (own : Deed → Bool) (n m : ℕ) (L : List Deed) (p : Place T) (ts : List Turn) (q : Place T) (r : Result T Error) → IsLegal (start n m) (kept (events_of L)) → IsApart mine own L →
@@ -123,23 +131,31 @@ pub fn a_request_is_a_command<T>()
 {}
 
 /// A copy is one that the core takes, whatever its parts are, where its opening and its answer are decided at their ReadyForQuery, and
-/// the server doesn't open it behind one.
+/// the messages by which it is opened hold none.
 pub fn a_copy_is_a_command<T>()
     ensures { (opening failing ending : List ℕ) (parts : List (List ℕ)) (opened : List RawMessage → Option (Result (Unit {0}) Error)) (reading : List RawMessage → Option (Result T Error)) →
-        ((ms : List RawMessage) → ends_in is_ready ms ≡ true → is_some (opened ms) ≡ true) → ((ms : List RawMessage) (x : Unit {0}) → list_any is_ready ms ≡ true → opened ms ≡ Some (Ok x) → ⊥) →
+        ((ms : List RawMessage) → ends_in is_ready ms ≡ true → is_some (opened ms) ≡ true) → ((ms : List RawMessage) (x : Unit {0}) → decided_after (λ l. is_some (opened l)) ms ≡ Some (length ms) → list_any is_ready ms ≡ true → opened ms ≡ Some (Ok x) → ⊥) →
         ((ms : List RawMessage) → ends_in is_ready ms ≡ true → is_some (reading ms) ≡ true) → IsCommand (copies opening failing ending parts opened reading) }
 {}
 
-/// What is no command: a copy that is hung up or answers before it is ended, and one that gets a part behind its end.
+/// What is no command: a copy that is hung up or answers before it is ended, one that gets a part behind its end, and one that is hung up
+/// before it is ended where it is given up.
 pub fn what_no_copy_does<T>()
     ensures hung_up { (part : List ℕ) (d : Dialogue T) → IsCommand (Ask true part (HangUp d)) → ⊥ }
     ensures answered { (part : List ℕ) (r : Result T Error) → IsCommand (Ask true part (Answer r)) → ⊥ }
     ensures behind_its_end { (part ending more : List ℕ) (left : List Cleanup) (d : Dialogue T) → IsCommand (Ask true part (Finish ending (Put left more d))) → ⊥ }
+    ensures given_up_open { (part : List ℕ) (left : List Cleanup) (decides : List RawMessage → Bool) (next : List RawMessage → Dialogue T) → IsCommand (Ask true part (Read (Release ∷ left) decides next)) → ⊥ }
 {}
 
 /// A command begins upright.
 pub fn a_command_begins_upright<T>()
     ensures { (d : Dialogue T) (s : State) (p : Place T) → IsCommand d → p.dialogue ≡ d → IsReached s → IsUpright d [] s p }
+{}
+
+/// Where an upright command waits, its copy is open exactly where the desk's is, and what is left to do there ends it first.
+pub fn its_copy_is_open_at_the_desk<T>()
+    ensures { (d : Dialogue T) (trail : List Moment) (s : State) (p : Place T) → IsUpright d trail s p → MayWait p.dialogue →
+        (opened : Bool) × IsSane opened p.dialogue × (is_copying p.reads s.copying ≡ opened) × EndsFirst opened (cleanup_of p.dialogue) }
 {}
 
 /// A turn of its own, in a legal list of an open hub: it waits and stays upright, or it answers as its equations say, or memory lacked.
@@ -178,6 +194,12 @@ pub fn own_requests_have_their_parts<T>()
         HoldsRequests who (with_all (goes_on (ran_by d before) m).added (book ++ map (λ r. r.booking) (goes_on (ran_by d before) m).requests)) (ran_by d (m ∷ before)) }
 {}
 
+/// Parts that go to requests of others leave a command's requests, and their parts, as they are.
+pub fn others_requests_keep_their_parts()
+    ensures { (who : Who) (added : List Addition) (book : List Booking) → HasNoneOf added (requests_of book who.handle who.command) →
+        requests_of (with_all added book) who.handle who.command ≡ requests_of book who.handle who.command }
+{}
+
 /// Bookings of another command leave a command's requests as they are.
 pub fn others_requests_are_none()
     ensures { (who other : Who) (turn : ℕ) (book : List Booking) (rs : List Request) → ((other.handle == who.handle) && (other.command == who.command)) ≡ false →
@@ -197,9 +219,9 @@ pub fn own_questions_grow()
         questions_of (asked ++ qs) who.handle who.command ≡ questions_of asked who.handle who.command ++ qs }
 {}
 
-/// A command behind the answer of another is one that the core takes.
+/// A command behind the answer of another is one that the core takes, where what is left to do behind the first ends no copy.
 pub fn a_command_behind_another<A, T>()
-    ensures { (extra : List Cleanup) (f : Result A Error → Dialogue T) → ((r : Result A Error) → IsCommand (f r)) →
+    ensures { (extra : List Cleanup) (f : Result A Error → Dialogue T) → EndsNone extra → ((r : Result A Error) → IsCommand (f r)) →
         ((r : Result A Error) → r ≡ Err OutOfMemory → LacksMemory (f r)) → (d : Dialogue A) → IsCommand d → IsCommand (behind extra d f) }
 {}
 

@@ -8,3 +8,6 @@ returns-clause-answered g c part r h = h.sane.1
 
 pub returns-clause-behind_its_end : goal.returns-clause-behind_its_end
 returns-clause-behind_its_end g c part ending more left d h = h.sane.1.1.0
+
+pub returns-clause-given_up_open : goal.returns-clause-given_up_open
+returns-clause-given_up_open g c part left decides next h = h.sane.1.0
