@@ -13,6 +13,7 @@ module _ {S B T : Type 0} (dialogue : B → Dialogue T) (refuses : B → Error �
   wanted-forward (want.Answer r) s h = tt
   wanted-forward (want.Act (act.Ask copying part)) s h = tt
   wanted-forward (want.Act (act.Send part)) s h = tt
+  wanted-forward (want.Act (act.Put offer)) s h = tt
   wanted-forward (want.Act (act.Finish part)) s h = tt
   wanted-forward (want.Act (act.Close part)) s h = tt
   wanted-forward (want.Act act.HangUp) s h = tt

@@ -30,6 +30,7 @@ wanted-simple : (w : Want (List SimpleMessage)) (one : One) → IsWanted dialogu
 wanted-simple (want.Answer r) one h = tt
 wanted-simple (want.Act (act.Ask copying part)) one h = tt
 wanted-simple (want.Act (act.Send part)) one h = tt
+wanted-simple (want.Act (act.Put offer)) one h = tt
 wanted-simple (want.Act (act.Finish part)) one h = tt
 wanted-simple (want.Act (act.Close part)) one h = tt
 wanted-simple (want.Act act.HangUp) one h = tt
@@ -60,6 +61,7 @@ wanted-done : (w : Want (Unit {0})) (one : Done) → IsWanted dialogue_of_end (�
 wanted-done (want.Answer r) one h = tt
 wanted-done (want.Act (act.Ask copying part)) one h = tt
 wanted-done (want.Act (act.Send part)) one h = tt
+wanted-done (want.Act (act.Put offer)) one h = tt
 wanted-done (want.Act (act.Finish part)) one h = tt
 wanted-done (want.Act (act.Close part)) one h = tt
 wanted-done (want.Act act.HangUp) one h = tt

@@ -27,7 +27,7 @@ use Rattle.pg_query.specs.declared.desk_call.DeskCall.TheVariants as desk_call
 use Rattle.pg_query.specs.declared.desk_call.Reply.{Reply}
 use Rattle.pg_query.specs.declared.desk_call.Reply.TheVariants as reply
 use Rattle.pg_core.specs.Behind.{behind}
-use Rattle.pg_core.specs.Times.{IsCommand, LacksMemory}
+use Rattle.pg_core.specs.Times.{EndsNone, IsCommand, LacksMemory}
 use Rattle.pg_core.proofs.Behind.{command-behind}
 use Rattle.pg_core.proofs.Requests.{request-so}
 use Rattle.pg_scripts.specs.Numbers.{draws, number_told}
@@ -69,10 +69,10 @@ asks q told h = record {
   whole = (λ e. tt, λ r fit. (h r fit).whole);
 }
 
-pub behinds : {A T : Type 0} (extra : List Cleanup) (d : Dialogue A) (f : Result A Error → Dialogue T) → IsTaken d → ((r : Result A Error) → IsTaken (f r)) → ((r : Result A Error) → r ≡ Err OutOfMemory → LacksMemory (f r)) →
+pub behinds : {A T : Type 0} (extra : List Cleanup) → EndsNone extra → (d : Dialogue A) (f : Result A Error → Dialogue T) → IsTaken d → ((r : Result A Error) → IsTaken (f r)) → ((r : Result A Error) → r ≡ Err OutOfMemory → LacksMemory (f r)) →
     IsTaken (behind extra d f)
-behinds extra d f h later lacks = record {
-  command = command-behind extra f (λ r. (later r).command) lacks d h.command;
+behinds extra none d f h later lacks = record {
+  command = command-behind extra none f (λ r. (later r).command) lacks d h.command;
   lets_go = lets-behind extra f (λ r. (later r).lets_go) Nothing d h.lets_go;
   whole = whole-behind extra f (λ r. (later r).whole) d h.whole;
 }
@@ -85,7 +85,7 @@ or-lacks : {A T : Type 0} (f : A → Dialogue T) (r : Result A Error) → r ≡ 
 or-lacks {A} {T} f r is = subst (λ (x : Result A Error). LacksMemory (or_answer f x)) (sym is) refl
 
 pub thens : {A T : Type 0} (d : Dialogue A) (f : A → Dialogue T) → IsTaken d → ((x : A) → IsTaken (f x)) → IsTaken (then_do d f)
-thens d f h later = behinds [] d (or_answer f) h (or-answers f later) (or-lacks f)
+thens d f h later = behinds [] tt d (or_answer f) h (or-answers f later) (or-lacks f)
 
 ends-whole : {T : Type 0} (stops : Bool) (o : Option (Result T Error)) → BooksWhole (ends stops o)
 ends-whole true (Some (Ok x)) = tt
@@ -195,7 +195,7 @@ lacks-second Composite = refl
 or-prepared : (which : Lookup) (r : Reply) → IsTaken (or_prepared which r)
 or-prepared which (reply.Statement (Some s)) = answers _
 or-prepared which (reply.Statement None) =
-    behinds [] (prepared which true) (or_second which) (preparing-lookup which true) (or-second which)
+    behinds [] tt (prepared which true) (or_second which) (preparing-lookup which true) (or-second which)
     (λ r is. subst (λ (x : Result Statement Error). LacksMemory (or_second which x)) (sym is) (lacks-second which))
 or-prepared which (reply.Number n) = answers _
 or-prepared which reply.Spent = answers _

@@ -16,7 +16,7 @@ use Rattle.pg_query.specs.Scripts.{Waiting, Nothing, AMessage, AReply, IsMessage
 use Rattle.pg_core.specs.Behind.{behind}
 use Rattle.pg_scripts.specs.declared.then.Then.{Then}
 use Rattle.pg_scripts.specs.declared.then.Then.TheVariants.{First, Second}
-use Rattle.pg_scripts.specs.Thens.{then_dialogue, then_refuses, waits_through, then_waits, read_through, hear_through, is_end}
+use Rattle.pg_scripts.specs.Thens.{then_dialogue, then_refuses, waits_through, then_waits, read_through, hear_through, is_end, IsThrough}
 
 -- One dialogue behind another.
 module _ {X T : Type 0} (extra : List Cleanup) (f : Result X Error → Dialogue T) where
@@ -106,6 +106,7 @@ ends-there (Err e) (want.Answer r) d h = tt
 ends-there (Err e) (want.Act act.HangUp) d h = tt
 ends-there (Err e) (want.Act (act.Ask copying part)) d h = absurd cc
 ends-there (Err e) (want.Act (act.Send part)) d h = absurd cc
+ends-there (Err e) (want.Act (act.Put offer)) d h = absurd cc
 ends-there (Err e) (want.Act (act.Finish part)) d h = absurd cc
 ends-there (Err e) (want.Act (act.Close part)) d h = absurd cc
 ends-there (Err e) (want.Act (act.Call q)) d h = absurd cc
@@ -115,20 +116,27 @@ ends-there (Err e) want.Read d h = absurd cc
 module _ {A X K B T : Type 0} (first : A → Dialogue X) (first_refuses : A → Error → Dialogue X) (first_waits : (a : A) → Waiting (first a)) (extra : K → List Cleanup) (goes : K → Result X Error → Dialogue T)
     (second : B → Dialogue T) (second_refuses : B → Error → Dialogue T) (second_waits : (b : B) → Waiting (second b)) where
   -- what the first part wants, but an answer
-  pub acts-through : (a : A) (k : K) (d : Dialogue X) (x : Action) → GoesOn first first_refuses first_waits d (want.Act x) a →
-      GoesOn (then_dialogue first extra goes second) (then_refuses first_refuses extra goes second_refuses) (then_waits first first_waits extra goes second second_waits) (behind (extra k) d (goes k)) (want.Act x) (First a k)
-  acts-through a k d (act.Ask copying part) h = record { is = ap (λ (c : Dialogue X). behind (extra k) c (goes k)) h.is; wanted = tt }
-  acts-through a k d (act.Send part) h = record { is = ap (λ (c : Dialogue X). behind (extra k) c (goes k)) h.is; wanted = tt }
-  acts-through a k d (act.Finish part) h = record { is = ap (λ (c : Dialogue X). behind (extra k) c (goes k)) h.is; wanted = tt }
-  acts-through a k d (act.Close part) h = record { is = ap (λ (c : Dialogue X). behind (extra k) c (goes k)) h.is; wanted = tt }
-  acts-through a k d act.HangUp h = record { is = ap (λ (c : Dialogue X). behind (extra k) c (goes k)) h.is; wanted = tt }
-  acts-through a k d (act.Call q) h = record {
+  abbrev ActsSo : (a : A) (k : K) (d : Dialogue X) → Action → Type 0
+  ActsSo a k d x = GoesOn (then_dialogue first extra goes second) (then_refuses first_refuses extra goes second_refuses) (then_waits first first_waits extra goes second second_waits) (behind (extra k) d (goes k)) (want.Act x) (First a k)
+
+  call-so : (a : A) (k : K) (d : Dialogue X) (q : DeskCall) → GoesOn first first_refuses first_waits d (want.Act (act.Call q)) a → ActsSo a k d (act.Call q)
+  call-so a k d q h = record {
     is = call-through (extra k) (goes k) q d (first a) (first_refuses a) h.wanted.there h.is;
     wanted = record {
       waiting = reply-waits (extra k) (goes k) (first a) (first_waits a) h.wanted.waiting;
       there = hear_through (extra k) (goes k) (first a) h.wanted.there;
     };
   }
+
+  pub acts-through : (a : A) (k : K) (d : Dialogue X) (x y : Action) → IsThrough (extra k) x y → GoesOn first first_refuses first_waits d (want.Act x) a → ActsSo a k d y
+  acts-through a k d (act.Put offer) y t h = subst (λ (z : Action). ActsSo a k d z) (sym t.1)
+      (record { is = (λ i. Put (t.3 i) (t.2 i) (behind (extra k) (first a) (goes k))) ∙ ap (λ (c : Dialogue X). behind (extra k) c (goes k)) h.is; wanted = tt })
+  acts-through a k d (act.Ask copying part) y t h = subst (λ (z : Action). ActsSo a k d z) (sym t) (record { is = ap (λ (c : Dialogue X). behind (extra k) c (goes k)) h.is; wanted = tt })
+  acts-through a k d (act.Send part) y t h = subst (λ (z : Action). ActsSo a k d z) (sym t) (record { is = ap (λ (c : Dialogue X). behind (extra k) c (goes k)) h.is; wanted = tt })
+  acts-through a k d (act.Finish part) y t h = subst (λ (z : Action). ActsSo a k d z) (sym t) (record { is = ap (λ (c : Dialogue X). behind (extra k) c (goes k)) h.is; wanted = tt })
+  acts-through a k d (act.Close part) y t h = subst (λ (z : Action). ActsSo a k d z) (sym t) (record { is = ap (λ (c : Dialogue X). behind (extra k) c (goes k)) h.is; wanted = tt })
+  acts-through a k d act.HangUp y t h = subst (λ (z : Action). ActsSo a k d z) (sym t) (record { is = ap (λ (c : Dialogue X). behind (extra k) c (goes k)) h.is; wanted = tt })
+  acts-through a k d (act.Call q) y t h = subst (λ (z : Action). ActsSo a k d z) (sym t) (call-so a k d q h)
 
   pub reads-through : (a : A) (k : K) (d : Dialogue X) → GoesOn first first_refuses first_waits d want.Read a →
       GoesOn (then_dialogue first extra goes second) (then_refuses first_refuses extra goes second_refuses) (then_waits first first_waits extra goes second second_waits) (behind (extra k) d (goes k)) want.Read (First a k)
@@ -144,6 +152,7 @@ module _ {A X K B T : Type 0} (first : A → Dialogue X) (first_refuses : A → 
   wanted-second (want.Answer r) b h = tt
   wanted-second (want.Act (act.Ask copying part)) b h = tt
   wanted-second (want.Act (act.Send part)) b h = tt
+  wanted-second (want.Act (act.Put offer)) b h = tt
   wanted-second (want.Act (act.Finish part)) b h = tt
   wanted-second (want.Act (act.Close part)) b h = tt
   wanted-second (want.Act act.HangUp) b h = tt

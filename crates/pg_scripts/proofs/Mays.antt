@@ -16,6 +16,7 @@ module _ {T B : Type 0} (goes : B → Dialogue T) (refuses : B → Error → Dia
   wanted-goes (want.Answer r) b h = tt
   wanted-goes (want.Act (act.Ask copying part)) b h = tt
   wanted-goes (want.Act (act.Send part)) b h = tt
+  wanted-goes (want.Act (act.Put offer)) b h = tt
   wanted-goes (want.Act (act.Finish part)) b h = tt
   wanted-goes (want.Act (act.Close part)) b h = tt
   wanted-goes (want.Act act.HangUp) b h = tt

@@ -1,11 +1,13 @@
 -- Where a script of two parts stands.
-use Rattle.std.specs.Prelude.{ℕ, ◌+◌, List, Bool, true, false, Result, Err}
+use Rattle.std.specs.Prelude.{◌≡◌, ℕ, ◌+◌, List, ◌++◌, Bool, true, false, Result, Err}
 use Rattle.pg_faults.specs.declared.error.Error.{Error}
 use Rattle.pg_faults.specs.declared.error.Error.TheVariants.{Closed}
 use Rattle.pg_query.specs.declared.desk_call.Cleanup.{Cleanup}
 use Rattle.pg_query.specs.declared.script.Want.{Want}
 use Rattle.pg_query.specs.declared.script.Want.TheVariants as want
+use Rattle.pg_query.specs.declared.script.Action.{Action}
 use Rattle.pg_query.specs.declared.script.Action.TheVariants as act
+use Rattle.pg_query.specs.declared.script.Offer.{Offer}
 use Rattle.pg_query.specs.Dialogue.{Dialogue, Answer, Ask, Send, Leave, Read, Put, Finish, Close, HangUp, Call, Hear}
 use Rattle.pg_query.specs.Scripts.{Waiting, Nothing, AMessage, AReply, IsRead, IsHear}
 use Rattle.pg_core.specs.Behind.{behind}
@@ -70,6 +72,11 @@ abbrev pub then_steps : {A K B : Type 0} → (A → ℕ) → (K → ℕ) → (B 
 then_steps first most second (First a k) = first a + most k
 then_steps first most second (Second b) = second b
 then_steps first most second Spent = 0
+
+-- an action of the first part, as the whole does it: more is left to do where its part is given up
+abbrev pub IsThrough : List Cleanup → Action → Action → Type 0
+IsThrough extra (act.Put offer) whole = (left : Offer) × (whole ≡ act.Put left) × (left.part ≡ offer.part) × (left.cleanup.items ≡ offer.cleanup.items ++ extra)
+IsThrough extra action whole = whole ≡ action
 
 -- it is an answer, or hangs the request up that is read
 abbrev pub is_end : {T : Type 0} → Want T → Bool

@@ -4,11 +4,11 @@ ghost use Rattle.std.specs.Prelude.{◌≡◌, ◌≤◌, ◌+◌, ℕ, IfOk};
 ghost use Rattle.pg_query.specs.Dialogue.{Dialogue};
 ghost use Rattle.pg_query.specs.Scripts.{GoesOn, Falls};
 ghost use Rattle.pg_core.specs.Behind.{behind};
-ghost use Rattle.pg_scripts.specs.Thens.{then_dialogue, then_refuses, then_waits, then_steps, is_end};
+ghost use Rattle.pg_scripts.specs.Thens.{then_dialogue, then_refuses, then_waits, then_steps, is_end, IsThrough};
 
 use crate::follow::Follow;
 use pg_errors::Error;
-use pg_query::{Action, Cleanup, Reply, Script, Want};
+use pg_query::{Action, Cleanup, Offer, Reply, Script, Want};
 use pg_wire::{Message, WireFault};
 use std::alloc::{AllocError, Global};
 use std::collections::VecDeque;
@@ -21,6 +21,21 @@ pub enum Then<A, K, B> {
     Second(B),
     /// Memory lacked.
     Spent,
+}
+
+/// What the first script does, as the whole does it: what is left to do where a part is given up is
+/// followed by what is left behind it.
+fn through<K: Follow>(alloc: Global, follow: &K, action: Action) -> Result<Action, AllocError>
+    ensures { IfOk result (λ whole. IsThrough (K.extra follow.now) action whole) }
+{
+    match action {
+        Action::Put(offer) => {
+            let Offer { part, mut cleanup } = offer;
+            follow.leave(alloc, &mut cleanup)?;
+            Ok(Action::Put(Offer { part, cleanup }))
+        }
+        other => Ok(other),
+    }
 }
 
 /// It is an answer, or hangs up.
@@ -52,6 +67,7 @@ impl<A: Script, K: Follow<Input = A::Output>> Then<A, K, K::Next> {
                 Ok(want)
             }
             Want::Act(action) => {
+                let action = through(alloc, &follow, action)?;
                 *self = Then::First(first, follow);
                 Ok(Want::Act(action))
             }

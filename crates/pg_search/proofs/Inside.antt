@@ -1,7 +1,8 @@
 -- What a script inside a search wants, hears and reads is so in the search.
-use Rattle.std.proofs.Common.{◌≡◌, [], ◌∷◌, Bool, true, false, if◌then◌else◌, Result, refl, sym, ◌∙◌, ap, subst, append-nil}
+use Rattle.std.proofs.Common.{◌≡◌, List, [], ◌∷◌, Bool, true, false, if◌then◌else◌, Result, refl, sym, ◌∙◌, ap, subst, append-nil}
 use Rattle.pg_spec.specs.RawMessages.{RawMessage}
 use Rattle.pg_faults.specs.declared.error.Error.{Error}
+use Rattle.pg_query.specs.declared.desk_call.Cleanup.{Cleanup}
 use Rattle.pg_query.specs.declared.desk_call.DeskCall.{DeskCall}
 use Rattle.pg_query.specs.declared.desk_call.Reply.{Reply}
 use Rattle.pg_query.specs.declared.script.Want.TheVariants as want
@@ -123,6 +124,10 @@ module _ {A X S T : Type 0} (first : A → Dialogue X) (first_refuses : A → Er
   pub acts-held : (a : A) (f : Result X Error → Dialogue T) (s : S) → Holds a f s → (d : Dialogue X) (x : Action) → GoesOn first first_refuses first_waits d (want.Act x) a → GoesOn dialogue refuses waits (behind [] d f) (want.Act x) s
   acts-held a f s h d (act.Ask copying part) g = record { is = ap (Ask copying part) h.stands ∙ ap (λ (c : Dialogue X). behind [] c f) g.is; wanted = tt }
   acts-held a f s h d (act.Send part) g = record { is = (λ i. Send part (h.denied i) (h.stands i)) ∙ ap (λ (c : Dialogue X). behind [] c f) g.is; wanted = tt }
+  acts-held a f s h d (act.Put offer) g = record {
+    is = ap (Put offer.cleanup.items offer.part) h.stands ∙ ap (λ (c : List Cleanup). Put c offer.part (behind [] (first a) f)) (sym (append-nil offer.cleanup.items)) ∙ ap (λ (c : Dialogue X). behind [] c f) g.is;
+    wanted = tt;
+  }
   acts-held a f s h d (act.Finish part) g = record { is = ap (Finish part) h.stands ∙ ap (λ (c : Dialogue X). behind [] c f) g.is; wanted = tt }
   acts-held a f s h d (act.Close part) g = record { is = ap (Close part) h.stands ∙ ap (λ (c : Dialogue X). behind [] c f) g.is; wanted = tt }
   acts-held a f s h d act.HangUp g = record { is = ap HangUp h.stands ∙ ap (λ (c : Dialogue X). behind [] c f) g.is; wanted = tt }
