@@ -1,3 +1,4 @@
+pub mod Begun
 pub mod SentOrder
 pub mod NoFlush
 pub mod Kept

@@ -12,8 +12,9 @@ use Rattle.pg_course.specs.Courses.{Course, Met, Outcome, Request, met_in, nothi
 use Rattle.pg_course.specs.Dialogues.{Dialogue, Answers, behind, decided_after}
 use Rattle.pg_course.specs.Meanings.{Ending, Meaning}
 use Rattle.pg_course.specs.Simples.{AreSimple, asks_by, reads_unless, told_or}
+use Rattle.pg_failed.proofs.Begun.{one-begun}
 use Rattle.pg_failed.specs.Landed.{call_of}
-use Rattle.pg_failed.specs.Sent.{AskedInOrder, InScriptOrder, SentInOrder, goodbye, is_ended, outcome_in, parts_of}
+use Rattle.pg_failed.specs.Sent.{AreBegun, AskedInOrder, InScriptOrder, SentInOrder, are_ended, goodbye, is_ended, outcome_in, parts_of}
 use Rattle.pg_headline.specs.Landed.{simply}
 use Rattle.pg_promises.specs.Causes as landed
 use Rattle.pg_promises.specs.Promises as simple
@@ -194,6 +195,13 @@ asked-first text wanted script = by (query_frame text)
     by (Ok frame) = refl
     by (Err fault) = refl
 
+-- what was booked of one request of one part is it, or nothing
+first-of : (xs : List (List (List ℕ))) (f : Result (List ℕ) FrameFault) → AreBegun xs (one_of f) → (more : List (List (List ℕ))) × (xs ++ more ≡ one_of f)
+first-of [] f h = (one_of f, refl)
+first-of (x ∷ xs) (Err fault) h = absurd h
+first-of (x ∷ []) (Ok frame) h = ([], ap (λ (y : List (List ℕ)). y ∷ []) (one-begun (are_ended x) x frame h.0))
+first-of (x ∷ y ∷ xs) (Ok frame) h = absurd h.1
+
 module _ {E Q R : Type 0} (meaning : Meaning Command Answer E Q R) (are : AreSimple meaning simply) (course : Course Q R) (handle : ℕ) (bs : List Booking)
     (is : (p : ℕ) → parts_of course handle p ≡ parts (of_command p bs)) (sorted : Rises 0 bs) where
   -- those of a command and of the later ones
@@ -211,10 +219,12 @@ module _ {E Q R : Type 0} (meaning : Meaning Command Answer E Q R) (are : AreSim
       let none : from_command (p + 1) bs ≡ [] = none-from (p + 1) bs (λ q le.
       none-of-parts q bs (sym (is q) ∙ ap (λ (rs : List Request). map (λ (r : Request). r.booking.parts) rs) (way.none_later q (omega (arith, le))).0)) in
       let alone : parts (from_command p bs) ≡ parts_of course handle p =
-      parts-split p ∙ ap (λ (l : List Booking). parts_of course handle p ++ parts l) none ∙ append-nil (parts_of course handle p) in (
-        way.more ++ asked_by cs,
-        ap (λ (l : List (List (List ℕ))). l ++ (way.more ++ asked_by cs)) alone ∙ sym (append_assoc (parts_of course handle p) way.more (asked_by cs))
-            ∙ ap (λ (l : List (List (List ℕ))). l ++ asked_by cs) (way.requests ∙ asks-one meaning are course handle p own text wanted) ∙ sym (asked-first text wanted cs),
+      parts-split p ∙ ap (λ (l : List Booking). parts_of course handle p ++ parts l) none ∙ append-nil (parts_of course handle p) in
+      let first = first-of (parts_of course handle p) (query_frame text)
+      (subst (λ (all : List (List (List ℕ))). AreBegun (parts_of course handle p) all) (asks-one meaning are course handle p own text wanted) way.requests) in (
+        first.0 ++ asked_by cs,
+        ap (λ (l : List (List (List ℕ))). l ++ (first.0 ++ asked_by cs)) alone ∙ sym (append_assoc (parts_of course handle p) first.0 (asked_by cs))
+            ∙ ap (λ (l : List (List (List ℕ))). l ++ asked_by cs) first.1 ∙ sym (asked-first text wanted cs),
       )
   script-order whole p (Simple text wanted ∷ cs) own size within (inr (ending, ended, rest)) =
       let later = script-order whole (p + 1) cs ending.own (omega (arith, size)) within rest in (

@@ -1,5 +1,5 @@
 -- What a session of any commands sent where it failed (PostgreSQL documentation, "Message Flow").
-use Rattle.std.specs.Prelude.{◌≡◌, ℕ, ◌+◌, ◌<◌, ◌≤◌, ◌⊎◌, Bool, IsTrue, List, [], ◌∷◌, ◌++◌, length, map, filter, Some, slice_get, ◌==◌, All, IsSome, if◌then◌else◌}
+use Rattle.std.specs.Prelude.{◌≡◌, ℕ, ◌+◌, ◌<◌, ◌≤◌, ◌⊎◌, Bool, true, false, IsTrue, List, [], ◌∷◌, ◌++◌, length, map, filter, Some, slice_get, ◌==◌, All, IsSome, if◌then◌else◌}
 use Rattle.std.specs.List.{concat, list_all}
 use Rattle.std.specs.List.Sorted.{IsNonDecreasingBy}
 use Rattle.pg_course.specs.Courses.{Asked, Course, Outcome, outcome_of, met_in, requests_of, questions_of}
@@ -30,11 +30,32 @@ parts_of course handle place = map (λ r. r.booking.parts) (requests_of course.b
 abbrev pub asked_of : {Q R : Type 0} → Course Q R → (handle place : ℕ) → List Q
 asked_of course handle place = map (λ a. a.question) (questions_of course.asked handle place)
 
--- A command that is under way: of the requests that come of it these are the first ones, each whole, and this is all that it asked;
--- nothing is asked for a later command of its script.
+-- these parts of a request end in Query or Sync, as those of a copy that is open don't (PostgreSQL documentation, "Simple Query", "Extended
+-- Query")
+abbrev pub are_ended : List (List ℕ) → Bool
+are_ended parts = ends_in ends_unit (messages (concat parts))
+
+-- A request as far as it was booked: all of it where it is ended, and else the first of its parts, as of a copy that is open.
+abbrev pub IsBegun : (ended : Bool) → (begun all : List (List ℕ)) → Type 0
+IsBegun true begun all = begun ≡ all
+IsBegun false [] all = ⊥
+IsBegun false (part ∷ begun) all = (more : List (List ℕ)) × (part ∷ (begun ++ more) ≡ all)
+
+-- each of these requests is the one at its place, as far as it was booked
+abbrev pub AreBegun : (begun all : List (List (List ℕ))) → Type 0
+AreBegun [] all = Unit {0}
+AreBegun (x ∷ xs) [] = ⊥
+AreBegun (x ∷ xs) (y ∷ ys) = IsBegun (are_ended x) x y × AreBegun xs ys
+
+-- each of these requests is ended
+abbrev pub AllEnded : List (List (List ℕ)) → Type 0
+AllEnded [] = Unit {0}
+AllEnded (x ∷ xs) = IsTrue (are_ended x) × AllEnded xs
+
+-- A command that is under way: of the requests that come of it these are the first ones, each whole, or as far as a copy that is open was
+-- booked, and this is all that it asked; nothing is asked for a later command of its script.
 pub record IsUnderWay {Q R A : Type 0} (course : Course Q R) (handle place : ℕ) (o : Outcome Q A) : Type 0 where
-  pub more : List (List (List ℕ))
-  pub requests : parts_of course handle place ++ more ≡ o.requests
+  pub requests : AreBegun (parts_of course handle place) o.requests
   pub asked : asked_of course handle place ≡ o.asked
   pub none_later : (later : ℕ) → place < later → (requests_of course.book handle later ≡ []) × (questions_of course.asked handle later ≡ [])
 
@@ -57,9 +78,9 @@ AskedInOrder {C} {A} {E} {Q} {R} meaning course handle place own (c ∷ cs) =
 
 -- ---- all commands
 
--- a request that ends in Query or Sync, as a copy that is open doesn't (PostgreSQL documentation, "Simple Query", "Extended Query")
+-- a request that ends so
 abbrev pub is_ended : Booking → Bool
-is_ended booking = ends_in ends_unit (messages (concat booking.parts))
+is_ended booking = are_ended booking.parts
 
 -- each but the last is ended: behind a copy that is open nothing else goes out (PostgreSQL documentation, "COPY Operations")
 abbrev pub AllButLastEnded : List Booking → Type 0

@@ -1,6 +1,6 @@
 //! Laws over the definitions. Each body does nothing.
 
-ghost use Rattle.std.specs.Prelude.{◌≡◌, ℕ, IsFalse, List, Result, Some};
+ghost use Rattle.std.specs.Prelude.{◌≡◌, ◌++◌, ℕ, IsFalse, List, Result, Some};
 ghost use Rattle.std.specs.List.{concat};
 ghost use Rattle.pg_course.specs.Meanings.{Meaning};
 ghost use Rattle.pg_course.specs.Simples.{AreSimple};
@@ -8,7 +8,7 @@ ghost use Rattle.pg_failed.specs.Causes.{HasCause};
 ghost use Rattle.pg_failed.specs.Completeness.{AnswersAll, MustEndWell};
 ghost use Rattle.pg_failed.specs.Kept.{NoneKeptBack};
 ghost use Rattle.pg_failed.specs.Landed.{TookNoFlush, call_of, has_flush};
-ghost use Rattle.pg_failed.specs.Sent.{SentInOrder};
+ghost use Rattle.pg_failed.specs.Sent.{AllEnded, AreBegun, SentInOrder};
 ghost use Rattle.pg_headline.specs.Landed.{simply};
 ghost use Rattle.pg_promises.specs.Causes as causes;
 ghost use Rattle.pg_promises.specs.Causes.{Call};
@@ -17,6 +17,11 @@ ghost use Rattle.pg_spec.specs.Faults.{Failure};
 ghost use Rattle.pg_spec.specs.Links.{Plan};
 ghost use Rattle.pg_spec.specs.Report.{Answer, Command, Report};
 ghost use Rattle.pg_spec.specs.Settings.{Settings};
+
+/// Requests as far as they were booked, each of which is ended, are the first ones, each whole.
+pub fn ended_requests_are_whole()
+    ensures { (begun all : List (List (List ℕ))) → AllEnded begun → AreBegun begun all → (more : List (List (List ℕ))) × (begun ++ more ≡ all) }
+{}
 
 /// What a session of simple queries alone sent where it failed, in order by the definition over any commands, is so by the one on
 /// simple queries.

@@ -4,6 +4,6 @@
 mod laws;
 
 pub use laws::{
-    causes_of_simple_queries, none_kept_back_of_simple_queries, plans_of_simple_queries,
-    sent_of_simple_queries, simple_queries_must_end_well,
+    causes_of_simple_queries, ended_requests_are_whole, none_kept_back_of_simple_queries,
+    plans_of_simple_queries, sent_of_simple_queries, simple_queries_must_end_well,
 };

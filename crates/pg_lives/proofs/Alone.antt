@@ -20,10 +20,10 @@ fits-waits s (Read cleanup decides next) id (opened, sane, kept) (inl reads) = (
     by : (b : Bool) → IsKept s id b (Read cleanup decides next) → IsThere s id
     by true h = h.0
     by false (inl h) = absurd h
-    by false (inr h) = h
+    by false (inr h) = h.0
 fits-waits s (Read cleanup decides next) id fits (inr puts) = absurd puts
 fits-waits s (Put cleanup part d) id fits (inl reads) = absurd reads
-fits-waits s (Put cleanup part d) id (sane, kept) (inr puts) = ((true, (tt, sane)), kept.0)
+fits-waits s (Put cleanup part d) id (first, sane, kept) (inr puts) = ((true, (tt, first, sane)), kept.0)
 fits-waits s (Answer r) id fits (inl h) = absurd h
 fits-waits s (Answer r) id fits (inr h) = absurd h
 fits-waits s (Ask copying part d) id fits (inl h) = absurd h

@@ -13,7 +13,6 @@ use Rattle.pg_faults.specs.declared.error.Error.TheVariants.{OutOfMemory}
 use Rattle.pg_query.specs.Dialogue.{Dialogue, Answer}
 use Rattle.pg_query.specs.Lives.{Deed, Leads}
 use Rattle.pg_query.specs.Meaning.{Place}
-use Rattle.pg_query.specs.Scripts.{IsRead}
 use Rattle.pg_core.specs.Runs.{MayWait}
 use Rattle.pg_query.specs.declared.desk_call.DeskCall.{DeskCall}
 use Rattle.pg_query.specs.declared.desk_call.Reply.{Reply}
@@ -24,6 +23,7 @@ use Rattle.pg_core.specs.Lists.{events_of}
 use Rattle.pg_core.specs.Outcomes.{asked}
 use Rattle.pg_core.specs.Trails.{PollEnds, point_of, ran_by}
 use Rattle.pg_core.proofs.Polls.{IsPoll, answer-ends, pause-ends, poll-is, under_stamp}
+use Rattle.pg_core.proofs.Waiting.{may-wait}
 use Rattle.pg_turns.proofs.Lists.{get-cases, one-more}
 use Rattle.pg_turns.specs.Speeches.{AreCommands, Speech}
 use Rattle.pg_turns.specs.Handles.{HandleState}
@@ -125,11 +125,15 @@ module _ {C T A E : Type 0} (speech : Speech C T A E) (course : Course DeskCall 
       as_stamped : stamp ≡ stamp_of (record { handle = handle; command = length past }) now.turns
       as_stamped = stamped ∙ ap (λ (n : ℕ). let x : Stamp = record { owner = handle; command = n; turn = now.turns } in x) many
 
+      none-waits : MayWait {T = T} (Answer (Err OutOfMemory)) → ⊥
+      none-waits (inl reads) = reads
+      none-waits (inr puts) = puts
+
       by : Started speech course script handle now old past h.from ⊎ (h.from.dialogue ≡ Answer (Err OutOfMemory)) → TurnSo speech course script handle now old new b (under_stamp stamp h.pauses.goes.events) 0
       by (inr lacks) =
           let gone = stays-answered (Err OutOfMemory) h.from.reads (under_stamp stamp h.pauses.goes.events) h.to.dialogue h.to.reads
           (subst (λ (d : Dialogue T). Leads d h.from.reads (under_stamp stamp h.pauses.goes.events) h.to.dialogue h.to.reads) lacks poll.leads) in
-          absurd (subst IsRead gone.1 h.pauses.reads)
+          absurd (none-waits (subst (λ (x : Dialogue T). MayWait x) gone.1 (may-wait h.to h.pauses.goes.events h.pauses.waits)))
       by (inl st) =
           let who : Who = record { handle = handle; command = length past } in
           let p = polled-so speech course script handle now later old past h.from stamp (under_stamp stamp h.pauses.goes.events) h.to at st as_stamped poll.under poll.leads legal
@@ -144,7 +148,7 @@ module _ {C T A E : Type 0} (speech : Speech C T A E) (course : Course DeskCall 
             known = inr (st.command, st.stands);
             spares = λ n lt other. st.spares (under_stamp stamp h.pauses.goes.events) h.to.dialogue h.to.reads n legal poll.leads lt other;
             past = past;
-            kept = waits-kept h.from stamp (under_stamp stamp h.pauses.goes.events) h.to st p (inl h.pauses.reads) g;
+            kept = waits-kept h.from stamp (under_stamp stamp h.pauses.goes.events) h.to st p (may-wait h.to h.pauses.goes.events h.pauses.waits) g;
             grew = omega arith;
             room = (let w = within in omega (arith, w, many));
           })

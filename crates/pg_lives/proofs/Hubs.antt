@@ -40,9 +40,7 @@ waits-state speech script stamp s a old b new begins f h = record {
   to = h.to;
   pauses = record {
     goes = record { events = h.pauses.goes.events; became = ((becomes s a b h.pauses.goes.events f h.pauses.goes.became).legal, refl); walked = h.pauses.goes.walked };
-    reads = h.pauses.reads;
-    before = h.pauses.before;
-    last = h.pauses.last;
+    waits = h.pauses.waits;
   };
   handle = h.handle;
 }

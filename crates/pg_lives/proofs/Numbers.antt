@@ -14,8 +14,8 @@ use Rattle.pg_course.specs.Courses.{Asked, Course, Request, Who, numbered, reque
 use Rattle.pg_course.specs.Dialogues.{decided_after}
 use Rattle.pg_core.specs.Deeds.{Addition}
 use Rattle.pg_core.specs.Runs.{At, MayWait, Ran, ReadsNothing, add_first, if_gone, of_request, run, stays}
-use Rattle.pg_core.specs.Trails.{AreNumbered, HoldsRequests, Moment, goes_on, ran_by, with_all, with_part}
-use Rattle.pg_core.proofs.Extended.{HasNone, HasNoneOf, holds-now, others-parts}
+use Rattle.pg_core.specs.Trails.{AreNumbered, HasNone, HasNoneOf, HoldsRequests, Moment, goes_on, ran_by, with_all, with_part}
+use Rattle.pg_core.proofs.Extended.{holds-now, others-parts}
 use Rattle.pg_core.proofs.Owned.{others-requests-apart}
 use Rattle.pg_lives.specs.Kept.{IsReady, Now, book_of}
 

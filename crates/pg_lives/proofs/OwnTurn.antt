@@ -12,7 +12,7 @@ use Rattle.pg_faults.specs.declared.error.Error.TheVariants.{OutOfMemory}
 use Rattle.pg_query.specs.Dialogue.{Dialogue, Answer}
 use Rattle.pg_query.specs.Lives.{Deed, Leads}
 use Rattle.pg_query.specs.Meaning.{Place}
-use Rattle.pg_query.specs.Scripts.{IsRead}
+use Rattle.pg_query.specs.Scripts.{IsRead, IsPut}
 use Rattle.pg_query.specs.declared.desk_call.DeskCall.{DeskCall}
 use Rattle.pg_query.specs.declared.desk_call.Reply.{Reply}
 use Rattle.pg_course.specs.Courses.{Asked, Course, Request, Unfolds, Who, begun_in, nowhere, questions_of, requests_of, stamp_of}
@@ -21,7 +21,7 @@ use Rattle.pg_core.specs.Deeds.{Addition, added_in, asked_in, requests_in}
 use Rattle.pg_core.specs.Lists.{came_of, events_of, state_behind}
 use Rattle.pg_core.specs.Outcomes.{asked}
 use Rattle.pg_core.specs.Times.{AnsweredWell, IsUpright, LackedMemory, StaysUpright, TurnedWell}
-use Rattle.pg_core.specs.Runs.{IsPut, MayWait}
+use Rattle.pg_core.specs.Runs.{MayWait}
 use Rattle.pg_core.specs.Trails.{AllUnder, AreNumbered, AreToldIn, AreTurnsOf, BooksSo, CameBy, HoldsRequests, IsNext, IsTurnOf, Moment, OwnTurn, PollEnds, begun_at, goes_on, moment_of, point_of, ran_by, said_booking, with_all}
 use Rattle.pg_core.proofs.Booked.{books-so}
 use Rattle.pg_core.proofs.Counted.{told-so}

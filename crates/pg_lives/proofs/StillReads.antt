@@ -5,7 +5,7 @@ use Rattle.pg_spec.specs.RawMessages.{RawMessage}
 use Rattle.pg_desk.specs.History.{IsFrontOf}
 use Rattle.pg_faults.specs.declared.error.Error.{Error}
 use Rattle.pg_query.specs.Dialogue.{Dialogue, Answer, Ask, Send, Leave, Read, Put, Finish, Close, HangUp, Call, Hear, feed}
-use Rattle.pg_query.specs.Scripts.{IsRead}
+use Rattle.pg_query.specs.Scripts.{IsRead, IsPut}
 use Rattle.pg_query.specs.declared.desk_call.Cleanup.{Cleanup}
 use Rattle.pg_course.specs.Dialogues.{decided_after}
 use Rattle.pg_desk.specs.History.{State}
@@ -15,7 +15,7 @@ use Rattle.pg_query.specs.declared.desk_call.Reply.{Reply}
 use Rattle.pg_course.specs.Courses.{Asked, Request}
 use Rattle.pg_core.specs.Lists.{IsReached, came_of, got_of}
 use Rattle.pg_core.specs.Deeds.{Addition}
-use Rattle.pg_core.specs.Runs.{IsPut, MayWait, of_request, run}
+use Rattle.pg_core.specs.Runs.{MayWait, of_request, run}
 use Rattle.pg_core.specs.Trails.{IsRunning, Moment, ran_by}
 use Rattle.pg_core.proofs.Fed.{fed, feed-put, read_so, still-decides}
 use Rattle.pg_core.proofs.Steps.{taken-within}

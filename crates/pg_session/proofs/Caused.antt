@@ -43,6 +43,7 @@ use Rattle.pg_session.proofs.Caused.Bytes.{Fails, cause-of}
 use Rattle.pg_session.proofs.LimitsKept.{HoldsLimit, holds-paused, holds-polled}
 use Rattle.pg_turns.proofs.Order.{makes_all_then}
 use Rattle.pg_session.proofs.Quiet.Handles.{stays-makes}
+use Rattle.pg_session.proofs.Nearer.Puts.{whole-put-none}
 use Rattle.pg_session.proofs.Quiet.{quiet-round}
 use Rattle.pg_session.proofs.Stalled.{stalled-round}
 use Rattle.pg_turns.specs.Speeches.{BookWhole, LetGo, Speech}
@@ -99,7 +100,7 @@ module _ {C T A E : Type 0} (speech : Speech C T A E) (lets : LetGo speech) (who
           b.no_tls done-last
           (open-last out.turns out.state out.link out.before).keeps (open-last turns out.last out.passed all-made).keeps
           (calm_then call.before b.link out.passed b.calm out.calm).no_lull (stood-last turns out.last out.passed all-made) (asks-last turns out.last out.passed all-made)
-          (quiet-round speech lets scripts out.turns b.new b.link out.state out.link out.last out.passed b.is_new out.before out.round) out.promised fails
+          (quiet-round speech lets (whole-put-none speech whole) scripts out.turns b.new b.link out.state out.link out.last out.passed b.is_new out.before out.round) out.promised fails
       pause-cause _ fails = absurd fails
 
     -- ---- a turn that fails

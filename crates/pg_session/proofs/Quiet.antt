@@ -1,5 +1,6 @@
 -- A whole round of turns in which nothing moved: each handle's, and then the connection's.
 pub mod Handles
+pub mod Held
 pub mod Polls
 use Rattle.std.proofs.Common.{◌≡◌, ℕ, zero, suc, ◌+◌, ◌<◌, ◌≤◌, List, [], ◌∷◌, ◌++◌, length, true, false, Option, Some, Result, refl, sym, ap, ◌∙◌, subst, arith, inl, inr, ◌⊎◌, slice_get}
 use Rattle.std.proofs.lemmas.Bool.{cases_lt}
@@ -19,7 +20,10 @@ use Rattle.pg_faults.specs.declared.error.Error.{Error}
 use Rattle.pg_hub.specs.Fits.{Fits, HubBecomes}
 use Rattle.pg_hub.specs.Standing.{Standing}
 use Rattle.pg_session.proofs.Quiet.Handles.{IsQuiet, StillTurns, still-turns, stays-makes, LastStays, last-stays}
-use Rattle.pg_session.proofs.Quiet.Polls.{AllQuiet, IsAwaited, awaited-or-done, fits-behind, not-full}
+use Rattle.pg_session.proofs.Quiet.Held.{all-reads, none-held}
+use Rattle.pg_session.proofs.Quiet.Polls.{AllQuiet, IsAwaited, NoneHeld, awaited-or-done, fits-behind, not-full}
+use Rattle.pg_session.proofs.Nearer.{new-under-way}
+use Rattle.pg_session.specs.Measure.{PutNone}
 use Rattle.pg_session.proofs.Readers.{AllRead, read-new, read-turns}
 use Rattle.pg_session.proofs.Readers.Counted.{Counted, counted-new, counted-turns}
 use Rattle.pg_session.proofs.Readers.HubStates.{Reached, state_of}
@@ -75,8 +79,8 @@ module _ {C T A E : Type 0} (speech : Speech C T A E) where
       by (inr ge) = absurd (let lt = slice_get_within s.handles i g (sym (h.later i ge) ∙ at) in omega (arith, lt, ge, many))
 
   round-by : (scripts : List (List C)) (s : SessionState T A E) (l : LinkView) (t : SessionState T A E) (m : LinkView) (h : AllRead s) → Counted speech scripts s →
-      AllRead t → Counted speech scripts t → (last : LastStays speech scripts (numbers (length scripts)) (length scripts) s l t m) → QuietRound scripts s l t m
-  round-by scripts s l t m h counted read-t counted-t last = by last.now.0 last.now.1
+      AllRead t → Counted speech scripts t → (last : LastStays speech scripts (numbers (length scripts)) (length scripts) s l t m) → NoneHeld speech last.mid.handles → QuietRound scripts s l t m
+  round-by scripts s l t m h counted read-t counted-t last held = by last.now.0 last.now.1
     where
       st : State
       st = state_of h.reached
@@ -108,22 +112,24 @@ module _ {C T A E : Type 0} (speech : Speech C T A E) where
             polled = polled;
             unmoved = poll.unmoved;
             misses = subst (λ (x : LinkView). MissesFew x m) before.link made.misses;
-            not_full = not-full speech scripts last.mid.handles st last.mid.hub t.hub s.streams t.streams l m turn_end.Waits false before.fits before.are quiet-mid polled poll.unmoved;
+            not_full = not-full speech scripts last.mid.handles st last.mid.hub t.hub s.streams t.streams l m turn_end.Waits false before.fits before.are quiet-mid held polled poll.unmoved;
             quiet = quiet-t;
-            awaits = elim (awaited-or-done speech scripts t.handles st quiet-t) [
+            awaits = elim (awaited-or-done speech scripts t.handles st quiet-t (subst (λ (hs : List (HandleState T A E)). NoneHeld speech hs) (sym made.handles) held)) [
               | inl awaited ↦ inl awaited
               | inr none-left ↦ let none-t = counted-t.unanswered ∙ none-left in inr (none-t, read-t.closes none-t)
             ];
             counted = counted-t;
           }
 
-  pub quiet-round : LetGo speech → (scripts : List (List C)) (turns : List ℕ) (new : SessionState T A E) (first : LinkView) (s : SessionState T A E) (l : LinkView) (t : SessionState T A E) (m : LinkView) →
+  pub quiet-round : LetGo speech → PutNone speech → (scripts : List (List C)) (turns : List ℕ) (new : SessionState T A E) (first : LinkView) (s : SessionState T A E) (l : LinkView) (t : SessionState T A E) (m : LinkView) →
       IsNewSession speech scripts new → MakesAll speech scripts turns new first s l → StaysAll speech scripts (numbers (length scripts + 1)) s l t m → QuietRound scripts s l t m
-  quiet-round lets scripts turns new first s l t m is_new made stays =
+  quiet-round lets none scripts turns new first s l t m is_new made stays =
       let round = numbers (length scripts + 1) in
       let later = stays-makes speech scripts round s l t m stays in
       let counted = counted-turns speech scripts turns new first s l made (counted-new speech scripts new is_new) in
       let read = read-turns speech lets scripts turns new first s l made (read-new speech scripts new is_new) in
-      round-by scripts s l t m read counted (read-turns speech lets scripts round s l t m later read) (counted-turns speech scripts round s l t m later counted)
-      (last-stays speech scripts (numbers (length scripts)) (length scripts) s l t m
-      (subst (λ (ts : List ℕ). StaysAll speech scripts ts s l t m) (one-more-turn (length scripts)) stays))
+      let last = last-stays speech scripts (numbers (length scripts)) (length scripts) s l t m (subst (λ (ts : List ℕ). StaysAll speech scripts ts s l t m) (one-more-turn (length scripts)) stays) in
+      let before = stays-makes speech scripts (numbers (length scripts)) s l last.mid last.passed last.before in
+      let reads = all-reads speech none scripts turns new first s l made (new-under-way speech scripts new is_new).handles in
+      let held = none-held last.mid.handles (all-reads speech none scripts (numbers (length scripts)) s l last.mid last.passed before reads) in
+      round-by scripts s l t m read counted (read-turns speech lets scripts round s l t m later read) (counted-turns speech scripts round s l t m later counted) last held

@@ -1,6 +1,7 @@
 -- What was sent where a session failed.
 pub mod Outcomes
 pub mod UnderWay
+pub mod Parts
 pub mod Order
 pub mod Whole
 pub mod Broken
@@ -64,6 +65,7 @@ use Rattle.pg_session.proofs.Crossing.Hub.{Spent, no-more-spent, out-all, spent-
 use Rattle.pg_session.proofs.LivesLink.{CameSo}
 use Rattle.pg_session.proofs.Opening.{IsDone, at-front, ends-frames, is-started}
 use Rattle.pg_session.proofs.SentSoFar.Outcomes.{asks-nothing}
+use Rattle.pg_session.proofs.SentSoFar.Parts.{book-parts}
 use Rattle.pg_session.proofs.SentSoFar.Order.{all-but-last, in-script-order, so_far}
 use Rattle.pg_session.proofs.Stalled.Start.{rests-so, stands-at}
 
@@ -234,7 +236,7 @@ module _ {C T A E : Type 0} (speech : Speech C T A E) where
         let now : Now = record { turns = length s.trace; asked = asks; state = k.state } in
         let same : book_of now ≡ map said_booking s.hub.book = ap (map said_booking) (sym k.fits.book) in
         subst (λ (bs : List said.Booking). InScriptOrder (meaning_of speech) scripts (record { trace = []; book = bs; replies = groups (came.passed ++ others); asked = asks })) same
-        (in-script-order speech commands books scripts course now s.handles k.all k.many
+        (in-script-order speech commands (book-parts speech books) scripts course now s.handles k.all k.many
         (subst (λ (bs : List said.Booking). sent.AllButLastEnded bs) (sym same) (all-but-last (map said_booking s.hub.book) ended)))
 
     -- what was sent by then
@@ -265,8 +267,7 @@ module _ {C T A E : Type 0} (speech : Speech C T A E) where
       none-begun : (handle : ℕ) (script : List C) → AskedInOrder (meaning_of speech) (record { trace = []; book = []; replies = replies; asked = [] }) handle 0 speech.begins script
       none-begun handle [] = tt
       none-begun handle (c ∷ cs) = inl (record {
-        more = (sent.outcome_in (meaning_of speech) (record { trace = []; book = []; replies = replies; asked = [] }) handle 0 speech.begins c).requests;
-        requests = refl;
+        requests = tt;
         asked = sym (asks-nothing ((meaning_of speech).asks speech.begins c) [] []);
         none_later = λ later lt. (refl, refl);
       })

@@ -1,16 +1,19 @@
 -- What the walk of a command leaves in the hub.
-use Rattle.std.proofs.Common.{◌≡◌, ℕ, ◌+◌, ◌≤◌, List, [], ◌∷◌, false, Result, Ok, Err, refl, sym, subst, arith}
+use Rattle.std.proofs.Common.{◌≡◌, inl, inr, ℕ, ◌+◌, ◌<◌, ◌≤◌, List, [], ◌∷◌, false, Result, Ok, Err, refl, sym, subst, arith}
 use Rattle.pg_faults.specs.declared.error.Error.{Error}
 use Rattle.pg_desk.specs.Asking.{IsAsking}
 use Rattle.pg_desk.specs.declared.event.Event.{Event}
 use Rattle.pg_desk.specs.declared.event.Event.TheVariants.{Book, Put as PutEvent, EndCopy, Take as TakeEvent, HangUp as HangUpEvent, NextStatement, NextPortal, Catalog as CatalogEvent}
 use Rattle.pg_spec.specs.declared.stamps.Stamp.{Stamp}
+use Rattle.pg_desk.specs.declared.event.Put.TheVariants as putting
 use Rattle.pg_desk.specs.declared.event.Take.TheVariants as taking
 use Rattle.pg_desk.specs.History.{State, after, after_all, IsLegal}
 use Rattle.pg_hub.specs.Fits.{moves}
 use Rattle.pg_query.specs.Dialogue.{Dialogue, Answer, Ask, Send, Leave, Read, Put, Finish, Close, HangUp, Call, Hear, Steps, Walks}
-use Rattle.pg_query.specs.Scripts.{IsRead}
+use Rattle.pg_query.specs.Scripts.{IsPut, IsRead}
+use Rattle.pg_core.specs.Runs.{MayWait}
 use Rattle.pg_query.proofs.Questions.{told-asks}
+use Rattle.pg_session.proofs.Nearer.Puts.{puts_in}
 use Rattle.pg_session.proofs.Nearer.Hub.{batches_left, NoneGiven, IsHandleCall, AreHandleCalls, calls-add-none, take-left}
 
 -- ---- a walk makes a handle's calls
@@ -46,45 +49,65 @@ pub walk-calls : {T : Type 0} (stamp : Stamp) (d : Dialogue T) (id : ℕ) (es : 
 walk-calls stamp d id [] d' id' h = tt
 walk-calls stamp d id (e ∷ es) d' id' h = (step-calls stamp d id e h.0 h.1 h.2, walk-calls stamp h.0 h.1 es d' id' h.3)
 
--- ---- from a reading to a reading
+-- ---- from where it waits to where it waits
 
--- behind an answer nothing is read
-past-answer : {T : Type 0} (stamp : Stamp) (r : Result T Error) (id : ℕ) (es : List Event) (d' : Dialogue T) (id' : ℕ) → Walks stamp (Answer r) id es d' id' → IsRead d' → ⊥
-past-answer {T} stamp r id [] d' id' h reads = subst (λ (x : Dialogue T). IsRead x) h.0 reads
-past-answer stamp r id (e ∷ es) d' id' h reads = h.2
+pub no-wait : {T : Type 0} (r : Result T Error) → MayWait (Answer r) → ⊥
+no-wait r (inl reads) = reads
+no-wait r (inr puts) = puts
 
-past-answered : {T : Type 0} (stamp : Stamp) (d : Dialogue T) (r : Result T Error) (id : ℕ) (es : List Event) (d' : Dialogue T) (id' : ℕ) → d ≡ Answer r → Walks stamp d id es d' id' → IsRead d' → ⊥
-past-answered {T} stamp d r id es d' id' same h reads = past-answer stamp r id es d' id' (subst (λ (x : Dialogue T). Walks stamp x id es d' id') same h) reads
+-- behind an answer it waits for nothing
+past-answer : {T : Type 0} (stamp : Stamp) (r : Result T Error) (id : ℕ) (es : List Event) (d' : Dialogue T) (id' : ℕ) → Walks stamp (Answer r) id es d' id' → MayWait d' → ⊥
+past-answer {T} stamp r id [] d' id' h waits = no-wait r (subst (λ (x : Dialogue T). MayWait x) h.0 waits)
+past-answer stamp r id (e ∷ es) d' id' h waits = h.2
+
+past-answered : {T : Type 0} (stamp : Stamp) (d : Dialogue T) (r : Result T Error) (id : ℕ) (es : List Event) (d' : Dialogue T) (id' : ℕ) → d ≡ Answer r → Walks stamp d id es d' id' → MayWait d' → ⊥
+past-answered {T} stamp d r id es d' id' same h waits = past-answer stamp r id es d' id' (subst (λ (x : Dialogue T). Walks stamp x id es d' id') same h) waits
 
 -- nor where a request is gone: it is hung up, and that is the answer
-past-gone : {T : Type 0} (stamp : Stamp) (r : Result T Error) (id : ℕ) (es : List Event) (d' : Dialogue T) (id' : ℕ) → Walks stamp (HangUp (Answer r)) id es d' id' → IsRead d' → ⊥
-past-gone {T} stamp r id [] d' id' h reads = subst (λ (x : Dialogue T). IsRead x) h.0 reads
-past-gone stamp r id (HangUpEvent which (Ok x) ∷ es) d' id' h reads = past-answered stamp h.0 _ h.1 es d' id' h.2.1 h.3 reads
-past-gone stamp r id (HangUpEvent which (Err e) ∷ es) d' id' h reads = past-answered stamp h.0 _ h.1 es d' id' h.2.1 h.3 reads
-past-gone stamp r id (_ ∷ es) d' id' h reads = absurd h.2
+past-gone : {T : Type 0} (stamp : Stamp) (r : Result T Error) (id : ℕ) (es : List Event) (d' : Dialogue T) (id' : ℕ) → Walks stamp (HangUp (Answer r)) id es d' id' → MayWait d' → ⊥
+past-gone {T} stamp r id [] d' id' h (inl reads) = subst (λ (x : Dialogue T). IsRead x) h.0 reads
+past-gone {T} stamp r id [] d' id' h (inr puts) = subst (λ (x : Dialogue T). IsPut x) h.0 puts
+past-gone stamp r id (HangUpEvent which (Ok x) ∷ es) d' id' h waits = past-answered stamp h.0 _ h.1 es d' id' h.2.1 h.3 waits
+past-gone stamp r id (HangUpEvent which (Err e) ∷ es) d' id' h waits = past-answered stamp h.0 _ h.1 es d' id' h.2.1 h.3 waits
+past-gone stamp r id (_ ∷ es) d' id' h waits = absurd h.2
 
--- A walk from a reading to a reading took a batch, or found none and changed nothing.
-pub data ReadOn (s : State) (es : List Event) : Type 0 where
-  TookSome : batches_left (after_all s es) + 1 ≤ batches_left s → ReadOn s es
-  FoundNone : after_all s es ≡ s → moves s es ≡ false → ReadOn s es
+-- A walk from where a command waits to where it waits took a batch, or put a part, or found none and changed nothing.
+pub data WaitOn (s : State) (es : List Event) : Type 0 where
+  TookSome : batches_left (after_all s es) + 1 ≤ batches_left s → WaitOn s es
+  PutSome : 0 < puts_in es → WaitOn s es
+  FoundNone : after_all s es ≡ s → moves s es ≡ false → WaitOn s es
 
-pub reads-on : {T : Type 0} (stamp : Stamp) (s : State) (d : Dialogue T) (id : ℕ) (es : List Event) (d' : Dialogue T) (id' : ℕ) → Walks stamp d id es d' id' → IsRead d → IsRead d' →
-    IsLegal s es → NoneGiven s → ReadOn s es
-reads-on stamp s d id [] d' id' h from to legal none = FoundNone refl refl
-reads-on stamp s (Read cleanup decides next) id (TakeEvent which (Ok (taking.Batch ms)) ∷ es) d' id' h from to legal none =
+pub waits-on : {T : Type 0} (stamp : Stamp) (s : State) (d : Dialogue T) (id : ℕ) (es : List Event) (d' : Dialogue T) (id' : ℕ) → Walks stamp d id es d' id' → MayWait d → MayWait d' →
+    IsLegal s es → NoneGiven s → WaitOn s es
+waits-on stamp s d id [] d' id' h from to legal none = FoundNone refl refl
+waits-on stamp s (Read cleanup decides next) id (TakeEvent which (Ok (taking.Batch ms)) ∷ es) d' id' h from to legal none =
     let e = TakeEvent which (Ok (taking.Batch ms)) in
     let one = take-left s which ms legal.0 in
     let more = calls-add-none (after s e) es (walk-calls stamp h.0 h.1 es d' id' h.3) legal.1 none in
     TookSome (omega (arith, one, more.left))
-reads-on {T} stamp s (Read cleanup decides next) id (TakeEvent which (Ok taking.Empty) ∷ es) d' id' h from to legal none =
-    by (reads-on stamp s h.0 h.1 es d' id' h.3 (subst (λ (x : Dialogue T). IsRead x) (sym h.2.1) tt) to legal.1 none)
+waits-on {T} stamp s (Read cleanup decides next) id (TakeEvent which (Ok taking.Empty) ∷ es) d' id' h from to legal none =
+    by (waits-on stamp s h.0 h.1 es d' id' h.3 (subst (λ (x : Dialogue T). MayWait x) (sym h.2.1) (inl tt)) to legal.1 none)
   where
-    by : ReadOn s es → ReadOn s (TakeEvent which (Ok taking.Empty) ∷ es)
+    by : WaitOn s es → WaitOn s (TakeEvent which (Ok taking.Empty) ∷ es)
     by (TookSome less) = TookSome less
+    by (PutSome some) = PutSome (omega (arith, some))
     by (FoundNone same still) = FoundNone same still
-reads-on stamp s (Read cleanup decides next) id (TakeEvent which (Ok taking.Over) ∷ es) d' id' h from to legal none = absurd (past-answered stamp h.0 _ h.1 es d' id' h.2.1 h.3 to)
-reads-on {T} stamp s (Read cleanup decides next) id (TakeEvent which (Ok taking.Gone) ∷ es) d' id' h from to legal none =
+waits-on stamp s (Read cleanup decides next) id (TakeEvent which (Ok taking.Over) ∷ es) d' id' h from to legal none = absurd (past-answered stamp h.0 _ h.1 es d' id' h.2.1 h.3 to)
+waits-on {T} stamp s (Read cleanup decides next) id (TakeEvent which (Ok taking.Gone) ∷ es) d' id' h from to legal none =
     absurd (past-gone stamp _ h.1 es d' id' (subst (λ (x : Dialogue T). Walks stamp x h.1 es d' id') h.2.1 h.3) to)
-reads-on stamp s (Read cleanup decides next) id (TakeEvent which (Err e) ∷ es) d' id' h from to legal none = absurd (past-answered stamp h.0 _ h.1 es d' id' h.2.1 h.3 to)
-reads-on stamp s (Read cleanup decides next) id (_ ∷ es) d' id' h from to legal none = absurd h.2
-reads-on stamp s _ id (e ∷ es) d' id' h from to legal none = absurd from
+waits-on stamp s (Read cleanup decides next) id (TakeEvent which (Err e) ∷ es) d' id' h from to legal none = absurd (past-answered stamp h.0 _ h.1 es d' id' h.2.1 h.3 to)
+waits-on stamp s (Read cleanup decides next) id (_ ∷ es) d' id' h from to legal none = absurd h.2
+waits-on stamp s (Put cleanup part d) id (PutEvent which part' putting.Took ∷ es) d' id' h from to legal none = PutSome (omega arith)
+waits-on {T} stamp s (Put cleanup part d) id (PutEvent which part' (putting.Full back) ∷ es) d' id' h from to legal none =
+    by (waits-on stamp s h.0 h.1 es d' id' h.3 (subst (λ (x : Dialogue T). MayWait x) (sym h.2.2) (inr tt)) to legal.1 none)
+  where
+    by : WaitOn s es → WaitOn s (PutEvent which part' (putting.Full back) ∷ es)
+    by (TookSome less) = TookSome less
+    by (PutSome some) = PutSome (omega (arith, some))
+    by (FoundNone same still) = FoundNone same still
+waits-on {T} stamp s (Put cleanup part d) id (PutEvent which part' (putting.Gone back) ∷ es) d' id' h from to legal none =
+    absurd (past-gone stamp _ h.1 es d' id' (subst (λ (x : Dialogue T). Walks stamp x h.1 es d' id') h.2.2 h.3) to)
+waits-on stamp s (Put cleanup part d) id (PutEvent which part' (putting.OutOfMemory back) ∷ es) d' id' h from to legal none = absurd (past-answered stamp h.0 _ h.1 es d' id' h.2.2 h.3 to)
+waits-on stamp s (Put cleanup part d) id (_ ∷ es) d' id' h from to legal none = absurd h.2
+waits-on stamp s _ id (e ∷ es) d' id' h (inl reads) to legal none = absurd reads
+waits-on stamp s _ id (e ∷ es) d' id' h (inr puts) to legal none = absurd puts

@@ -7,7 +7,7 @@ use Rattle.pg_desk.specs.declared.event.Booking.{Booking}
 use Rattle.pg_desk.specs.History.{rest_flags, wire}
 use Rattle.pg_hub.specs.Rests.{rests, weight_in, weight_of}
 use Rattle.pg_hub.specs.Waiting.{undelivered_in}
-use Rattle.pg_session.specs.Measure.{script_left, scripts_left, RunReads, AllRead}
+use Rattle.pg_session.specs.Measure.{script_left, scripts_left, RunWaits, AllWait}
 use Rattle.pg_turns.specs.Handles.{HandleState}
 
 -- ---- sums over places
@@ -109,12 +109,12 @@ scripts-changed (x ∷ scripts) (h ∷ handles) (suc turn) script old new is at 
 
 -- ---- what runs
 
-pub read-at : {T A E : Type 0} (handles : List (HandleState T A E)) (i : ℕ) (h : HandleState T A E) → AllRead handles → slice_get handles i ≡ Some h → RunReads h.running
-read-at [] i h all e = absurd cc
-read-at {T} {A} {E} (x ∷ handles) zero h all e = let same : x ≡ h = cc in subst (λ (g : HandleState T A E). RunReads g.running) same all.0
-read-at (x ∷ handles) (suc i) h all e = read-at handles i h all.1 e
+pub waits-at : {T A E : Type 0} (handles : List (HandleState T A E)) (i : ℕ) (h : HandleState T A E) → AllWait handles → slice_get handles i ≡ Some h → RunWaits h.running
+waits-at [] i h all e = absurd cc
+waits-at {T} {A} {E} (x ∷ handles) zero h all e = let same : x ≡ h = cc in subst (λ (g : HandleState T A E). RunWaits g.running) same all.0
+waits-at (x ∷ handles) (suc i) h all e = waits-at handles i h all.1 e
 
-pub read-set : {T A E : Type 0} (handles : List (HandleState T A E)) (i : ℕ) (h : HandleState T A E) → AllRead handles → RunReads h.running → AllRead (slice_set handles i h)
-read-set [] i h all q = tt
-read-set (x ∷ handles) zero h all q = (q, all.1)
-read-set (x ∷ handles) (suc i) h all q = (all.0, read-set handles i h all.1 q)
+pub waits-set : {T A E : Type 0} (handles : List (HandleState T A E)) (i : ℕ) (h : HandleState T A E) → AllWait handles → RunWaits h.running → AllWait (slice_set handles i h)
+waits-set [] i h all q = tt
+waits-set (x ∷ handles) zero h all q = (q, all.1)
+waits-set (x ∷ handles) (suc i) h all q = (all.0, waits-set handles i h all.1 q)

@@ -6,15 +6,18 @@ use Rattle.pg_spec.specs.declared.stamps.Stamp.{Stamp}
 use Rattle.pg_desk.proofs.Soundness.{AllCut}
 use Rattle.pg_desk.specs.declared.event.Event.{Event}
 use Rattle.pg_desk.specs.declared.event.Event.TheVariants as call
+use Rattle.pg_desk.specs.declared.event.Put.TheVariants as putting
 use Rattle.pg_desk.specs.declared.event.Take.TheVariants as taking
-use Rattle.pg_desk.specs.History.{State, after_all, take_answer, IsExact}
+use Rattle.pg_desk.specs.History.{State, after_all, parts_waiting, take_answer, IsExact}
 use Rattle.pg_hub.specs.Becomes.{after-joined, fits-touched}
 use Rattle.pg_hub.specs.Fits.{Fits, HubBecomes, moves}
 use Rattle.pg_hub.specs.Standing.{Standing}
-use Rattle.pg_query.specs.Meaning.{Place}
+use Rattle.pg_core.proofs.Waiting.{may-wait}
+use Rattle.pg_query.specs.Meaning.{ForMessage, ForRoom, Place, WaitsAt}
+use Rattle.pg_query.specs.Scripts.{IsPut}
 use Rattle.pg_session.proofs.Readers.{AllRead}
 use Rattle.pg_session.proofs.Readers.LetGo.{stays-let-go}
-use Rattle.pg_session.proofs.Readers.Polls.{AreRead, RunsOn, Mine, Tends, read-then, tends-reads, runs-before}
+use Rattle.pg_session.proofs.Readers.Polls.{AreRead, RunsOn, Mine, Tends, read-then, tends-waits, runs-before}
 use Rattle.pg_session.proofs.Readers.HubStates.{state_of, exact-back, reached-cut}
 use Rattle.pg_session.proofs.Readers.Walks.{walk-lets, walk-still}
 use Rattle.pg_turns.proofs.Lists.{set-here, set-there}
@@ -46,16 +49,27 @@ last-empty st n es before exact same is =
     let mid : after_all st before ≡ st = sym (after-joined st before last) ∙ ap (after_all st) (sym is) ∙ same in
     told ∙ ap (λ (x : State). take_answer x n) mid
 
+-- and where it told that there is no room for a part, two of that copy wait
+last-full : (st : State) (n : ℕ) (part : List ℕ) (es before : List Event) → IsExact st es → after_all st es ≡ st → es ≡ before ++ call.Put n part (putting.Full part) ∷ [] →
+    2 ≤ parts_waiting st n
+last-full st n part es before exact same is =
+    let last = call.Put n part (putting.Full part) ∷ [] in
+    let told : 2 ≤ parts_waiting (after_all st before) n = (exact-back st before last (subst (λ (l : List Event). IsExact st l) is exact)).0.3 in
+    let mid : after_all st before ≡ st = sym (after-joined st before last) ∙ ap (after_all st) (sym is) ∙ same in
+    subst (λ (x : State). 2 ≤ parts_waiting x n) mid told
+
 set-same : {X : Type 0} (xs : List X) (i : ℕ) (x : X) → slice_get xs i ≡ Some x → set xs i x ≡ xs
 set-same [] i x e = absurd cc
 set-same {X} (y ∷ xs) zero x e = let same : y ≡ x = cc in ap (λ (z : X). z ∷ xs) (sym same)
 set-same {X} (y ∷ xs) (suc i) x e = ap (λ (l : List X). y ∷ l) (set-same xs i x e)
 
 module _ {C T A E : Type 0} (speech : Speech C T A E) where
-  -- a handle that answered its whole script, or whose command reads a request of which nothing has come that it hasn't taken
+  -- a handle that answered its whole script, or whose command reads a request of which nothing has come that it hasn't taken, or holds back
+  -- a part, where two parts of its copy wait
   pub data IsQuiet (script : List C) (s : State) (h : HandleState T A E) : Type 0 where
     Done : h.running ≡ None → length h.answers ≡ length script → IsQuiet script s h
     Awaits : (place : Place T) → h.running ≡ Some place → taking.Empty ≡ take_answer s place.reads → IsQuiet script s h
+    HoldsBack : (place : Place T) → h.running ≡ Some place → IsPut place.dialogue → 2 ≤ parts_waiting s place.reads → IsQuiet script s h
 
   -- ---- one turn
 
@@ -105,6 +119,10 @@ module _ {C T A E : Type 0} (speech : Speech C T A E) where
               (Done h.none_runs (omega (arith, le, ge, ap (λ (x : List C). length x) mine)));
         }
 
+    quiet-at : (script : List C) (h : HandleState T A E) (to : Place T) (es : List Event) → h.running ≡ Some to → IsExact st es → after_all st es ≡ st → WaitsAt to es → IsQuiet script st h
+    quiet-at script h to es runs exact same (ForMessage reads none) = Awaits to runs (last-empty st to.reads es none.before exact same none.are)
+    quiet-at script h to es runs exact same (ForRoom puts part full) = HoldsBack to runs puts (last-full st to.reads part es full.before exact same full.are)
+
     still-waits : (made : HandleMade speech scripts turn s t polling.Waits) → made.hub.touched ≡ false → StillTurn scripts turn s t st
     still-waits made quiet =
         let old = made.old in
@@ -117,14 +135,13 @@ module _ {C T A E : Type 0} (speech : Speech C T A E) where
         let runs : RunsOn (are.holds turn) h.from = are.running turn old h.from made.old_at h.starts in
         let became = goes.became.stands st fa in
         let none : moves st es ≡ false = sym (or-none (moves st es)) ∙ sym (goes.became.touched st fa) ∙ quiet in
-        let same : after_all st es ≡ st = walk-still stamp st h.from.dialogue h.from.reads es h.to.dialogue h.to.reads became.0 runs.reads h.pauses.reads none goes.walked in
+        let same : after_all st es ≡ st = walk-still stamp st h.from.dialogue h.from.reads es h.to.dialogue h.to.reads became.0 runs.waits (may-wait h.to es h.pauses.waits) none goes.walked in
         let mine = Mine (are.holds turn) st old in
         let tends : Tends mine (after_all st es) made.new =
-        tends-reads mine (after_all st es) made.new h.to (ap (λ (x : HandleState T A E). x.running) h.handle) h.pauses.reads
+        tends-waits mine (after_all st es) made.new h.to (ap (λ (x : HandleState T A E). x.running) h.handle) (may-wait h.to es h.pauses.waits)
         (walk-lets mine stamp st h.from.dialogue h.from.reads es h.to.dialogue h.to.reads cut became.0 (runs-before (are.holds turn) st old h.from h.starts runs) goes.walked) in
         let now : AreRead (set s.handles turn made.new) st =
         subst (λ (x : State). AreRead (set s.handles turn made.new) x) same (read-then s.handles turn st (after_all st es) old made.new made.old_at (stays-let-go st es) are tends) in
-        let empty : taking.Empty ≡ take_answer st h.to.reads = last-empty st h.to.reads es h.pauses.before became.0 same h.pauses.last in
         record {
           fits = subst (λ (x : Standing). Fits st x) (sym made.closes) (fits-touched st made.hub false (subst (λ (x : State). Fits x made.hub) same became.1));
           are = subst (λ (hs : List (HandleState T A E)). AreRead hs st) (sym made.handles) now;
@@ -133,7 +150,7 @@ module _ {C T A E : Type 0} (speech : Speech C T A E) where
           others = others-are scripts turn s t polling.Waits made;
           quiet = λ script g e at.
               let is : g ≡ made.new = here-is scripts turn s t polling.Waits made g at in
-              subst (λ (x : HandleState T A E). IsQuiet script st x) (sym is) (Awaits h.to (ap (λ (x : HandleState T A E). x.running) h.handle) empty);
+              subst (λ (x : HandleState T A E). IsQuiet script st x) (sym is) (quiet-at script made.new h.to es (ap (λ (x : HandleState T A E). x.running) h.handle) became.0 same h.pauses.waits);
         }
 
     still-turn : (did : Polling) (made : HandleMade speech scripts turn s t did) → moved_by did made.hub ≡ false → StillTurn scripts turn s t st

@@ -22,8 +22,9 @@ use Rattle.pg_hub.specs.Fits.{Fits, HubBecomes}
 use Rattle.pg_hub.specs.Standing.{Standing}
 use Rattle.pg_lives.specs.SessionKept.{left}
 use Rattle.pg_query.specs.Meaning.{Place}
+use Rattle.pg_query.specs.Scripts.{IsPut}
 use Rattle.pg_turns.proofs.Takes.{took-empty}
-use Rattle.pg_session.proofs.Quiet.Handles.{IsQuiet, Done, Awaits}
+use Rattle.pg_session.proofs.Quiet.Handles.{IsQuiet, Done, Awaits, HoldsBack}
 use Rattle.pg_session.proofs.Readers.LetGo.{IsLetGo}
 use Rattle.pg_session.proofs.Readers.Polls.{AreRead, IsReadIn, one-there, none-some}
 use Rattle.pg_turns.specs.Handles.{HandleState}
@@ -155,17 +156,22 @@ module _ {C T A E : Type 0} (speech : Speech C T A E) where
   AllQuiet scripts handles s = (i : ℕ) (h : HandleState T A E) → slice_get handles i ≡ Some h →
       (script : List C) × (slice_get scripts i ≡ Some script) × IsQuiet speech script s h
 
-  -- what the reader of an open request that runs takes is nothing
-  read-room : (s : State) (k : ℕ) (script : List C) (h : HandleState T A E) (place : Place T) → h.running ≡ Some place → place.reads ≡ k → IsQuiet speech script s h →
-      waiting s k ≡ []
-  read-room s k script h place runs reads (Done none whole) = absurd (none-some h.running place none runs)
-  read-room s k script h place runs reads (Awaits at e empty) =
+  -- no command holds back a part
+  abbrev pub NoneHeld : List (HandleState T A E) → Type 0
+  NoneHeld handles = (i : ℕ) (h : HandleState T A E) (place : Place T) → slice_get handles i ≡ Some h → h.running ≡ Some place → IsPut place.dialogue → ⊥
+
+  -- what the reader of an open request that runs takes is nothing, where it holds back no part
+  read-room : (s : State) (k : ℕ) (script : List C) (h : HandleState T A E) (place : Place T) → h.running ≡ Some place → place.reads ≡ k →
+      ((place : Place T) → h.running ≡ Some place → IsPut place.dialogue → ⊥) → IsQuiet speech script s h → waiting s k ≡ []
+  read-room s k script h place runs reads held (Done none whole) = absurd (none-some h.running place none runs)
+  read-room s k script h place runs reads held (HoldsBack at e puts two) = absurd (held at e puts)
+  read-room s k script h place runs reads held (Awaits at e empty) =
       let same : place ≡ at = one-there h.running at place e runs in
       let id : at.reads ≡ k = ap (λ (p : Place T). p.reads) (sym same) ∙ reads in
       took-empty s k (empty ∙ ap (take_answer s) id)
 
-  has-room : (scripts : List (List C)) (handles : List (HandleState T A E)) (s : State) (a : Standing) → Fits s a → AreRead handles s → AllQuiet scripts handles s → HasRoom s
-  has-room scripts handles s a f are quiet open_ there two = by (are.read (next_owner s) oldest.booked)
+  has-room : (scripts : List (List C)) (handles : List (HandleState T A E)) (s : State) (a : Standing) → Fits s a → AreRead handles s → AllQuiet scripts handles s → NoneHeld handles → HasRoom s
+  has-room scripts handles s a f are quiet held open_ there two = by (are.read (next_owner s) oldest.booked)
     where
       oldest : IsOldestOpen s (next_owner s)
       oldest = owner-is-oldest s open_
@@ -175,15 +181,15 @@ module _ {C T A E : Type 0} (speech : Speech C T A E) where
       by (inl (inr over)) = open-unended (has_begun s (next_owner s)) (has_ended (next_owner s) s.deliveries) oldest.open_ over
       by (inr r) =
           let q = quiet r.handle r.state r.at in
-          omega (arith, two, ap length (read-room s (next_owner s) q.0 r.state r.place r.runs r.reads q.2))
+          omega (arith, two, ap length (read-room s (next_owner s) q.0 r.state r.place r.runs r.reads (λ place e. held r.handle r.state place r.at e) q.2))
 
   -- no delivery of the poll met a full mailbox
   pub not-full : (scripts : List (List C)) (handles : List (HandleState T A E)) (s : State) (a b : Standing) (old new : Streams) (l m : LinkView) (end : TurnEnd) (over : Bool) →
-      Fits s a → AreRead handles s → AllQuiet scripts handles s → (polled : Turned HubBecomes a b old new l m end over) → new.moved ≡ false →
+      Fits s a → AreRead handles s → AllQuiet scripts handles s → NoneHeld handles → (polled : Turned HubBecomes a b old new l m end over) → new.moved ≡ false →
       some_is is_full polled.turns.goes.events ≡ false
-  not-full scripts handles s a b old new l m end over f are quiet polled unmoved =
+  not-full scripts handles s a b old new l m end over f are quiet held polled unmoved =
       let goes = polled.turns.goes in
-      full-none s goes.events (has-room scripts handles s a f are quiet) goes.calls (none-moved a b old new l m end over polled unmoved) (goes.became.stands s f).0
+      full-none s goes.events (has-room scripts handles s a f are quiet held) goes.calls (none-moved a b old new l m end over polled unmoved) (goes.became.stands s f).0
 
   -- ---- something is awaited, or all is done
 
@@ -223,9 +229,10 @@ module _ {C T A E : Type 0} (speech : Speech C T A E) where
           each zero h at = let same : g ≡ h = cc in ap (λ (x : HandleState T A E). x.running) (sym same) ∙ is
           each (suc i) h at = none i h at
 
-  awaited-by : (handles : List (HandleState T A E)) (s : State) (script : List C) (r : SomeRuns handles) → IsQuiet speech script s r.state → IsAwaited handles s
-  awaited-by handles s script r (Done none whole) = absurd (none-some r.state.running r.place none r.runs)
-  awaited-by handles s script r (Awaits place runs empty) =
+  awaited-by : (handles : List (HandleState T A E)) (s : State) (script : List C) (r : SomeRuns handles) → NoneHeld handles → IsQuiet speech script s r.state → IsAwaited handles s
+  awaited-by handles s script r held (Done none whole) = absurd (none-some r.state.running r.place none r.runs)
+  awaited-by handles s script r held (HoldsBack place runs puts two) = absurd (held r.handle r.state place r.at runs puts)
+  awaited-by handles s script r held (Awaits place runs empty) =
       let took = took-none s place.reads empty in
       record {
         handle = r.handle;
@@ -249,13 +256,14 @@ module _ {C T A E : Type 0} (speech : Speech C T A E) where
   whole-by : (script : List C) (s : State) (h : HandleState T A E) → h.running ≡ None → IsQuiet speech script s h → length h.answers ≡ length script
   whole-by script s h none (Done e whole) = whole
   whole-by script s h none (Awaits place runs empty) = absurd (none-some h.running place none runs)
+  whole-by script s h none (HoldsBack place runs puts two) = absurd (none-some h.running place none runs)
 
   -- a command awaits something of its request, or no command is left
-  pub awaited-or-done : (scripts : List (List C)) (handles : List (HandleState T A E)) (s : State) → AllQuiet scripts handles s → IsAwaited handles s ⊎ (left scripts handles ≡ 0)
-  awaited-or-done scripts handles s quiet = by (some-or-none handles)
+  pub awaited-or-done : (scripts : List (List C)) (handles : List (HandleState T A E)) (s : State) → AllQuiet scripts handles s → NoneHeld handles → IsAwaited handles s ⊎ (left scripts handles ≡ 0)
+  awaited-or-done scripts handles s quiet held = by (some-or-none handles)
     where
       by : SomeRuns handles ⊎ NoneRuns handles → IsAwaited handles s ⊎ (left scripts handles ≡ 0)
-      by (inl r) = let q = quiet r.handle r.state r.at in inl (awaited-by handles s q.0 r q.2)
+      by (inl r) = let q = quiet r.handle r.state r.at in inl (awaited-by handles s q.0 r held q.2)
       by (inr none) = inr (left-none scripts handles (λ i script h e f.
           let q = quiet i h f in
           let same : q.0 ≡ script = (let k : Some q.0 ≡ Some script = sym q.1 ∙ e in cc) in

@@ -13,7 +13,8 @@ use Rattle.pg_hub.specs.Standing.{Standing}
 use Rattle.pg_query.specs.Dialogue.{Dialogue, Answer}
 use Rattle.pg_query.specs.Leaving.{Holds, Nothing, IsHeld, LetsGo}
 use Rattle.pg_query.specs.Meaning.{Place}
-use Rattle.pg_query.specs.Scripts.{IsRead}
+use Rattle.pg_core.specs.Runs.{MayWait}
+use Rattle.pg_core.proofs.Waiting.{may-wait}
 use Rattle.pg_turns.proofs.Lists.{set-here, set-there}
 use Rattle.pg_turns.specs.Handles.{HandleState}
 use Rattle.pg_turns.specs.HandleTurns.{AsksCommand, Idles, Waits, Answers, StartsAt}
@@ -22,7 +23,7 @@ use Rattle.pg_turns.specs.Turns.{HandleTurns}
 use Rattle.pg_turns.specs.declared.handle_turn.Polling.{Polling}
 use Rattle.pg_turns.specs.declared.handle_turn.Polling.TheVariants as polling
 use Rattle.pg_session.proofs.Readers.LetGo.{IsLetGo, StaysLetGo}
-use Rattle.pg_session.proofs.Readers.Walks.{MayAnswer, Leads, Owes, answers-free, reads-on, reads-sent, walk-lets}
+use Rattle.pg_session.proofs.Readers.Walks.{MayAnswer, Leads, Owes, answers-free, waits-on, waits-sent, walk-lets}
 
 set-at : {X : Type 0} (xs : List X) (i : ℕ) (old new : X) → slice_get xs i ≡ Some old → slice_get (set xs i new) i ≡ Some new
 set-at [] i old new h = absurd cc
@@ -58,9 +59,9 @@ holds-this turn this others i same = pick-this (cases_eq i turn) this (others i)
 holds-other : (turn : ℕ) (this : Holds) (others : ℕ → Holds) (i : ℕ) → (i ≡ turn → ⊥) → holds_now turn this others i ≡ others i
 holds-other turn this others i other = pick-other (cases_eq i turn) this (others i) other
 
--- a command that runs reads, and lets go of what it reads
+-- a command that runs waits, and lets go of what it reads
 pub record RunsOn {T : Type 0} (holds : Holds) (place : Place T) : Type 0 where
-  pub reads : IsRead place.dialogue
+  pub waits : MayWait place.dialogue
   pub lets : LetsGo holds place.dialogue
 
 -- the command of this handle runs, and reads request k
@@ -167,20 +168,20 @@ tends-none {T} {A} {E} holds s old none = record {
     by k lt (inr (held, place, is, reads)) = absurd (none-some old.running place none is)
 
 -- it waits
-pub tends-reads : {T A E : Type 0} (mine : ℕ → Type 0) (t : State) (new : HandleState T A E) (to : Place T) → new.running ≡ Some to → IsRead to.dialogue → Leads mine t to.dialogue to.reads → Tends mine t new
-tends-reads {T} {A} {E} mine t new to is reads leads = record {
+pub tends-waits : {T A E : Type 0} (mine : ℕ → Type 0) (t : State) (new : HandleState T A E) (to : Place T) → new.running ≡ Some to → MayWait to.dialogue → Leads mine t to.dialogue to.reads → Tends mine t new
+tends-waits {T} {A} {E} mine t new to is waits leads = record {
   holds = w.holds;
-  now = λ place e. subst (λ (p : Place T). RunsOn w.holds p) (sym (one-there new.running to place is e)) (record { reads = reads; lets = w.lets });
+  now = λ place e. subst (λ (p : Place T). RunsOn w.holds p) (sym (one-there new.running to place is e)) (record { waits = waits; lets = w.lets });
   covers = λ k m lt. by k (w.covers k m lt);
 }
   where
     w : MayAnswer mine t to.dialogue to.reads
-    w = reads-on mine t to.dialogue to.reads reads leads
+    w = waits-on mine t to.dialogue to.reads waits leads
 
     by : (k : ℕ) → IsLetGo t k ⊎ Owes w.holds to.dialogue to.reads k → IsLetGo t k ⊎ Reads w.holds new k
     by k (inl gone) = inl gone
     by k (inr (inl owed)) = inr (owed.0, to, is, sym owed.1)
-    by k (inr (inr sent)) = absurd (reads-sent to.dialogue k reads sent)
+    by k (inr (inr sent)) = absurd (waits-sent to.dialogue k waits sent)
 
 -- it answers
 pub tends-answered : {T A E : Type 0} (mine : ℕ → Type 0) (t : State) (new : HandleState T A E) (last : Place T) (r : Result T Error) → new.running ≡ None → last.dialogue ≡ Answer r → (r ≡ Err OutOfMemory → ⊥) →
@@ -231,13 +232,13 @@ module _ {C T A E : Type 0} (speech : Speech C T A E) (lets : LetGo speech) wher
         subst (λ (x : HandleState T A E). PollTends a b s holds old x) (sym h.handle)
         (subst (λ (x : Standing). PollTends a x s holds old old) (sym h.desk) (record { events = []; became = stays a; tends = tends-none holds s old h.none_runs }))
 
-    tends-waits : (begins : Bool) (b : Standing) (new : HandleState T A E) → Waits HubBecomes speech script stamp a old b new begins → PollTends a b s holds old new
-    tends-waits begins b new h =
+    tends-pauses : (begins : Bool) (b : Standing) (new : HandleState T A E) → Waits HubBecomes speech script stamp a old b new begins → PollTends a b s holds old new
+    tends-pauses begins b new h =
         let goes = h.pauses.goes in
         record {
           events = goes.events;
           became = goes.became;
-          tends = tends-reads (Mine holds s old) (after_all s goes.events) new h.to (ap (λ (x : HandleState T A E). x.running) h.handle) h.pauses.reads
+          tends = tends-waits (Mine holds s old) (after_all s goes.events) new h.to (ap (λ (x : HandleState T A E). x.running) h.handle) (may-wait h.to goes.events h.pauses.waits)
               (walk-lets (Mine holds s old) stamp s h.from.dialogue h.from.reads goes.events h.to.dialogue h.to.reads cut (goes.became.stands s f).0 (starts-so begins h.from h.starts) goes.walked);
         }
 
@@ -257,6 +258,6 @@ module _ {C T A E : Type 0} (speech : Speech C T A E) (lets : LetGo speech) wher
 
     pub poll-tends : (b : Standing) (new : HandleState T A E) (did : Polling) → HandleTurns HubBecomes speech script stamp a old b new did → PollTends a b s holds old new
     poll-tends b new polling.Idle h = tends-idle b new h
-    poll-tends b new polling.Began h = tends-waits true b new h
-    poll-tends b new polling.Waits h = tends-waits false b new h
+    poll-tends b new polling.Began h = tends-pauses true b new h
+    poll-tends b new polling.Waits h = tends-pauses false b new h
     poll-tends b new polling.Answered h = tends-answers b new h

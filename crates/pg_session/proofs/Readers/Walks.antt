@@ -21,7 +21,7 @@ use Rattle.pg_query.specs.Dialogue.{Dialogue, Answer, Ask, Send, Leave, Read, Pu
 use Rattle.pg_query.proofs.LeavingLaws.{fed-all, told-fits}
 use Rattle.pg_query.specs.Faults.{of_fault}
 use Rattle.pg_query.specs.Leaving.{Holds, Nothing, Request, IsHeld, IsLetGo as IsFree, LetsGo, after_reading, request_behind}
-use Rattle.pg_query.specs.Scripts.{IsRead}
+use Rattle.pg_core.specs.Runs.{MayWait}
 use Rattle.pg_query.specs.declared.desk_call.Cleanup.{Cleanup}
 use Rattle.pg_query.specs.declared.desk_call.DeskCall.{DeskCall}
 use Rattle.pg_query.proofs.Questions.{told-asks}
@@ -308,65 +308,76 @@ answers-free {T} mine t d k r is memory (GoesOn h) j m lt = by (subst (λ (x : D
         from (inl gone) = gone
         from (inr owed) = absurd (not-owed g.holds (Answer r) k j g.lets (λ none. none) owed)
 
--- where it reads, it goes on
-pub reads-on : {T : Type 0} (mine : ℕ → Type 0) (t : State) (d : Dialogue T) (k : ℕ) → IsRead d → Leads mine t d k → MayAnswer mine t d k
-reads-on mine t d k reads (GoesOn h) = h
-reads-on {T} mine t d k reads (Lacks lacks) = absurd (subst (λ (x : Dialogue T). IsRead x) lacks reads)
+no-wait : {T : Type 0} (r : Result T Error) → MayWait (Answer r) → ⊥
+no-wait r (inl reads) = reads
+no-wait r (inr puts) = puts
 
--- where it reads, nothing was sent that isn't hung up
-pub reads-sent : {T : Type 0} (d : Dialogue T) (j : ℕ) → IsRead d → IsSent d j → ⊥
-reads-sent (Read cleanup decides next) j reads sent = sent
-reads-sent (Answer r) j reads sent = reads
-reads-sent (Ask copying part d) j reads sent = reads
-reads-sent (Send part refused d) j reads sent = reads
-reads-sent (Leave id d) j reads sent = reads
-reads-sent (Put cleanup part d) j reads sent = reads
-reads-sent (Finish part d) j reads sent = reads
-reads-sent (Close part d) j reads sent = reads
-reads-sent (HangUp d) j reads sent = reads
-reads-sent (Call q refused next) j reads sent = reads
-reads-sent (Hear next) j reads sent = reads
+-- where it waits, it goes on
+pub waits-on : {T : Type 0} (mine : ℕ → Type 0) (t : State) (d : Dialogue T) (k : ℕ) → MayWait d → Leads mine t d k → MayAnswer mine t d k
+waits-on mine t d k waits (GoesOn h) = h
+waits-on {T} mine t d k waits (Lacks lacks) = absurd (no-wait {T = T} (Err OutOfMemory) (subst (λ (x : Dialogue T). MayWait x) lacks waits))
+
+-- where it waits, nothing was sent that isn't hung up
+pub waits-sent : {T : Type 0} (d : Dialogue T) (j : ℕ) → MayWait d → IsSent d j → ⊥
+waits-sent (Leave id d) j (inl reads) sent = reads
+waits-sent (Leave id d) j (inr puts) sent = puts
+waits-sent (Read cleanup decides next) j waits sent = sent
+waits-sent (Answer r) j waits sent = sent
+waits-sent (Ask copying part d) j waits sent = sent
+waits-sent (Send part refused d) j waits sent = sent
+waits-sent (Put cleanup part d) j waits sent = sent
+waits-sent (Finish part d) j waits sent = sent
+waits-sent (Close part d) j waits sent = sent
+waits-sent (HangUp d) j waits sent = sent
+waits-sent (Call q refused next) j waits sent = sent
+waits-sent (Hear next) j waits sent = sent
 
 -- ---- a poll in which nothing moves
 
-answered-reads : {T : Type 0} (stamp : Stamp) (r : Result T Error) (d : Dialogue T) (k : ℕ) (es : List Event) (d' : Dialogue T) (k' : ℕ) → d ≡ Answer r → IsRead d' → Walks stamp d k es d' k' → ⊥
-answered-reads {T} stamp r d k es d' k' is reads w = by es (subst (λ (x : Dialogue T). Walks stamp x k es d' k') is w)
+answered-waits : {T : Type 0} (stamp : Stamp) (r : Result T Error) (d : Dialogue T) (k : ℕ) (es : List Event) (d' : Dialogue T) (k' : ℕ) → d ≡ Answer r → MayWait d' → Walks stamp d k es d' k' → ⊥
+answered-waits {T} stamp r d k es d' k' is waits w = by es (subst (λ (x : Dialogue T). Walks stamp x k es d' k') is w)
   where
     by : (es : List Event) → Walks stamp (Answer r) k es d' k' → ⊥
-    by [] v = subst (λ (x : Dialogue T). IsRead x) v.0 reads
+    by [] v = no-wait r (subst (λ (x : Dialogue T). MayWait x) v.0 waits)
     by (e ∷ es) v = v.2
 
-hung-reads : {T : Type 0} (stamp : Stamp) (r : Result T Error) (d : Dialogue T) (k : ℕ) (es : List Event) (d' : Dialogue T) (k' : ℕ) → d ≡ HangUp (Answer r) → IsRead d' → Walks stamp d k es d' k' → ⊥
-hung-reads {T} stamp r d k es d' k' is reads w = by es (subst (λ (x : Dialogue T). Walks stamp x k es d' k') is w)
+hung-waits : {T : Type 0} (stamp : Stamp) (r : Result T Error) (d : Dialogue T) (k : ℕ) (es : List Event) (d' : Dialogue T) (k' : ℕ) → d ≡ HangUp (Answer r) → MayWait d' → Walks stamp d k es d' k' → ⊥
+hung-waits {T} stamp r d k es d' k' is waits w = by es (subst (λ (x : Dialogue T). Walks stamp x k es d' k') is w)
   where
+    none : MayWait {T = T} (HangUp (Answer r)) → ⊥
+    none (inl reads) = reads
+    none (inr puts) = puts
+
     by : (es : List Event) → Walks stamp (HangUp (Answer r)) k es d' k' → ⊥
-    by [] v = subst (λ (x : Dialogue T). IsRead x) v.0 reads
-    by (call.HangUp which (Ok x) ∷ es) (mid, n, st, v) = answered-reads stamp r mid n es d' k' st.1 reads v
-    by (call.HangUp which (Err x) ∷ es) (mid, n, st, v) = answered-reads stamp (Err (of_fault x)) mid n es d' k' st.1 reads v
+    by [] v = none (subst (λ (x : Dialogue T). MayWait x) v.0 waits)
+    by (call.HangUp which (Ok x) ∷ es) (mid, n, st, v) = answered-waits stamp r mid n es d' k' st.1 waits v
+    by (call.HangUp which (Err x) ∷ es) (mid, n, st, v) = answered-waits stamp (Err (of_fault x)) mid n es d' k' st.1 waits v
     by (e ∷ es) v = v.2
 
--- a command that reads on, and of which nothing moved, left all as it was
-pub walk-still : {T : Type 0} (stamp : Stamp) (s : State) (d : Dialogue T) (k : ℕ) (es : List Event) (d' : Dialogue T) (k' : ℕ) → IsExact s es → IsRead d → IsRead d' → moves s es ≡ false →
+-- a command that waits on, and of which nothing moved, left all as it was
+pub walk-still : {T : Type 0} (stamp : Stamp) (s : State) (d : Dialogue T) (k : ℕ) (es : List Event) (d' : Dialogue T) (k' : ℕ) → IsExact s es → MayWait d → MayWait d' → moves s es ≡ false →
     Walks stamp d k es d' k' → after_all s es ≡ s
-walk-still stamp s d k [] d' k' exact reads later none w = refl
-walk-still {T} stamp s (Read cleanup decides next) k (e ∷ es) d' k' exact reads later none (mid, n, st, w) =
+walk-still stamp s d k [] d' k' exact waits later none w = refl
+walk-still {T} stamp s (Read cleanup decides next) k (e ∷ es) d' k' exact waits later none (mid, n, st, w) =
     by e exact none st (λ x on still. walk-still stamp s mid n es d' k' x on later still w)
   where
     by : (e : Event) → IsExact s (e ∷ es) → moves s (e ∷ es) ≡ false → Steps stamp (Read cleanup decides next) k e mid n →
-        (IsExact s es → IsRead mid → moves s es ≡ false → after_all s es ≡ s) → after_all s (e ∷ es) ≡ s
+        (IsExact s es → MayWait mid → moves s es ≡ false → after_all s es ≡ s) → after_all s (e ∷ es) ≡ s
     by (call.Take which (Ok (taking.Batch ms))) exact none st f = absurd cc
-    by (call.Take which (Ok taking.Empty)) exact none st f = f exact.2 (subst (λ (x : Dialogue T). IsRead x) (sym st.1) tt) none
-    by (call.Take which (Ok taking.Over)) exact none st f = absurd (answered-reads stamp (Err Closed) mid n es d' k' st.1 later w)
-    by (call.Take which (Ok taking.Gone)) exact none st f = absurd (hung-reads stamp (Err Closed) mid n es d' k' st.1 later w)
+    by (call.Take which (Ok taking.Empty)) exact none st f = f exact.2 (subst (λ (x : Dialogue T). MayWait x) (sym st.1) (inl tt)) none
+    by (call.Take which (Ok taking.Over)) exact none st f = absurd (answered-waits stamp (Err Closed) mid n es d' k' st.1 later w)
+    by (call.Take which (Ok taking.Gone)) exact none st f = absurd (hung-waits stamp (Err Closed) mid n es d' k' st.1 later w)
     by (call.Take which (Err x)) exact none st f = absurd exact.1
     by e exact none st f = absurd st
-walk-still stamp s (Answer r) k (e ∷ es) d' k' exact reads later none w = absurd reads
-walk-still stamp s (Ask copying part d) k (e ∷ es) d' k' exact reads later none w = absurd reads
-walk-still stamp s (Send part refused d) k (e ∷ es) d' k' exact reads later none w = absurd reads
-walk-still stamp s (Leave id d) k (e ∷ es) d' k' exact reads later none w = absurd reads
-walk-still stamp s (Put cleanup part d) k (e ∷ es) d' k' exact reads later none w = absurd reads
-walk-still stamp s (Finish part d) k (e ∷ es) d' k' exact reads later none w = absurd reads
-walk-still stamp s (Close part d) k (e ∷ es) d' k' exact reads later none w = absurd reads
-walk-still stamp s (HangUp d) k (e ∷ es) d' k' exact reads later none w = absurd reads
-walk-still stamp s (Call q refused next) k (e ∷ es) d' k' exact reads later none w = absurd reads
-walk-still stamp s (Hear next) k (e ∷ es) d' k' exact reads later none w = absurd reads
+walk-still {T} stamp s (Put cleanup part d) k (e ∷ es) d' k' exact waits later none (mid, n, st, w) =
+    by e exact none st (λ x on still. walk-still stamp s mid n es d' k' x on later still w)
+  where
+    by : (e : Event) → IsExact s (e ∷ es) → moves s (e ∷ es) ≡ false → Steps stamp (Put cleanup part d) k e mid n →
+        (IsExact s es → MayWait mid → moves s es ≡ false → after_all s es ≡ s) → after_all s (e ∷ es) ≡ s
+    by (call.Put which part' putting.Took) exact none st f = absurd cc
+    by (call.Put which part' (putting.Full back)) exact none st f = f exact.2 (subst (λ (x : Dialogue T). MayWait x) (sym st.2) (inr tt)) none
+    by (call.Put which part' (putting.Gone back)) exact none st f = absurd (hung-waits stamp (Err Closed) mid n es d' k' st.2 later w)
+    by (call.Put which part' (putting.OutOfMemory back)) exact none st f = absurd (answered-waits stamp (Err OutOfMemory) mid n es d' k' st.2 later w)
+    by e exact none st f = absurd st
+walk-still stamp s _ k (e ∷ es) d' k' exact (inl reads) later none w = absurd reads
+walk-still stamp s _ k (e ∷ es) d' k' exact (inr puts) later none w = absurd puts

@@ -49,6 +49,7 @@ use Rattle.pg_session.proofs.Crossing.Chain.{StoodIn, stood-all, stood-turn}
 use Rattle.pg_session.proofs.Crossing.Start.{stood-start}
 use Rattle.pg_session.proofs.LivesLink.{CameSo, came-first, came-turns}
 use Rattle.pg_session.proofs.Opening.{IsDone, done-of}
+use Rattle.pg_session.proofs.Nearer.Puts.{whole-put-none}
 use Rattle.pg_session.proofs.Quiet.{quiet-round}
 use Rattle.pg_session.proofs.SentSoFar.{CameOn, came-here, came-polled, front-taken, sent-by, spent-polled}
 use Rattle.pg_session.proofs.SentSoFar.NoneKept.{never-stalled, none-kept}
@@ -225,7 +226,7 @@ module _ {C T A E : Type 0} (speech : Speech C T A E) (commands : AreCommands sp
         (open-last speech lets whole (apart call) settings call.scripts e means b limit out.turns out.state out.link out.before).keeps
         (stood-last speech lets whole (apart call) settings call.scripts e means b limit turns out.last out.passed made)
         (asks-last speech lets whole (apart call) settings call.scripts e means b limit turns out.last out.passed made)
-        (quiet-round speech lets call.scripts out.turns b.new b.link out.state out.link out.last out.passed b.is_new out.before out.round)
+        (quiet-round speech lets (whole-put-none speech whole) call.scripts out.turns b.new b.link out.state out.link out.last out.passed b.is_new out.before out.round)
         (came-turns speech b.opened.read call.before [] call.scripts turns b.new b.link out.last out.passed made (came-first settings call.nonce call.before b.link b.startup b.opening b.new.streams b.opened b.fresh))
         out.counted out.bytes.given out.bytes.taken
 

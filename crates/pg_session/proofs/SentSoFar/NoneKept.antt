@@ -58,8 +58,8 @@ use Rattle.pg_session.proofs.Caused.Start.{of_grown}
 use Rattle.pg_session.proofs.Crossing.Chain.{StoodIn}
 use Rattle.pg_session.proofs.LivesLink.{CameSo}
 use Rattle.pg_session.proofs.Opening.{IsDone}
-use Rattle.pg_session.proofs.SentSoFar.UnderWay.{one-part-each}
-use Rattle.pg_session.proofs.Quiet.Handles.{IsQuiet, Done as AllDone, Awaits}
+use Rattle.pg_session.proofs.SentSoFar.Parts.{no-request}
+use Rattle.pg_session.proofs.Quiet.Handles.{IsQuiet, Done as AllDone, Awaits, HoldsBack}
 use Rattle.pg_session.proofs.Quiet.Polls.{none-moved}
 use Rattle.pg_session.proofs.Quiet.{QuietRound}
 use Rattle.pg_session.proofs.Readers.HubStates.{state_of}
@@ -278,8 +278,7 @@ module _ {C T A E : Type 0} (speech : Speech C T A E) where
         let some : 1 ≤ length (requests_of (book_of now) i (length past)) =
         some-or-none (requests_of (book_of now) i (length past)) (λ empty. never-waits (ran_by d (u.last ∷ u.before)).left
         (still-asks course who d (u.last ∷ u.before) first u.ready.turns
-        (sym (one-part-each course who d (books own_state runs.command) (u.last ∷ u.before) u.ready.turns u.ready.upright.runs.met)
-        ∙ sym (holds-now who (book_of now) (ran_by d (u.last ∷ u.before)) u.ready.requests) ∙ empty)) u.stands) in
+        (no-request course who d (u.last ∷ u.before) u.ready.turns (sym (holds-now who (book_of now) (ran_by d (u.last ∷ u.before)) u.ready.requests) ∙ empty))) u.stands) in
         subst (λ (n : ℕ). 1 ≤ length (requests_of (book_of now) i n)) none-yet some
 
     -- so the first command of a script did
@@ -293,6 +292,8 @@ module _ {C T A E : Type 0} (speech : Speech C T A E) where
         waits : past ≡ [] → IsQuiet speech script s h → 1 ≤ length (requests_of (book_of now) i 0)
         waits none (AllDone idle whole) = absurd (omega (arith, some, whole, answered, ap length none))
         waits none (Awaits place is empty) = runs-asked course script i h.own past now place c none at at_once
+            (subst (λ (o : Option (Place T)). Does speech course script i h.own past now o) is k.does)
+        waits none (HoldsBack place is puts two) = runs-asked course script i h.own past now place c none at at_once
             (subst (λ (o : Option (Place T)). Does speech course script i h.own past now o) is k.does)
 
         by : (p : List (Past A E)) → past ≡ p → 1 ≤ length (requests_of (book_of now) i 0)

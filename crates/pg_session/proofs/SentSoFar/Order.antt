@@ -21,17 +21,17 @@ use Rattle.pg_course.specs.Dialogues.{Dialogue, Answers, Asks, Sends, Reads, Put
 use Rattle.pg_course.specs.Meanings.{Ending}
 use Rattle.pg_course.proofs.Outcomes.{comes}
 use Rattle.pg_core.specs.Counters.{tells}
-use Rattle.pg_core.specs.Outcomes.{asked, met_by}
+use Rattle.pg_core.specs.Outcomes.{asked, met_by, parts_in}
 use Rattle.pg_core.specs.Trails.{AreMet, AreNumbered, AreToldIn, AreTurnsOf, Moment, begun_at, goes_on, ran_by}
-use Rattle.pg_failed.specs.Sent.{AllButLastEnded, AskedInOrder, HasEnded, InScriptOrder, IsUnderWay, is_ended, outcome_in}
+use Rattle.pg_failed.specs.Sent.{AllButLastEnded, AreBegun, AskedInOrder, HasEnded, InScriptOrder, IsUnderWay, is_ended, outcome_in}
 use Rattle.pg_turns.specs.Handles.{HandleState}
-use Rattle.pg_turns.specs.Speeches.{AreCommands, BookWhole, Speech, meaning_of}
+use Rattle.pg_turns.specs.Speeches.{AreCommands, Speech, meaning_of}
 use Rattle.pg_lives.specs.Kept as kept
 use Rattle.pg_lives.specs.Kept.{AllKept, Does, HandleKept, HasDone, Now, Past, book_of, free_of, states_of}
 use Rattle.pg_lives.proofs.Session.{past-there}
 use Rattle.pg_session.proofs.SentSoFar.Outcomes.{asks-nothing, in_words, words-alone}
 use Rattle.pg_core.proofs.Extended.{holds-now}
-use Rattle.pg_session.proofs.SentSoFar.UnderWay.{as-far, one-part-each}
+use Rattle.pg_session.proofs.SentSoFar.Parts.{BookParts, booked-so-far, named-all}
 
 -- ---- in which turns a command acts
 
@@ -211,9 +211,19 @@ drop-next {X} (x ∷ xs) (suc i) y ys e =
     let one : suc i + 1 ≡ suc (i + 1) = omega arith in
     (next.0, ap (λ (n : ℕ). drop n (x ∷ xs)) one ∙ next.1)
 
+-- requests of the same turns
+since-so : (first : ℕ) (xs ys : List Request) → map (λ r. r.booking.stamp.turn) xs ≡ map (λ r. r.booking.stamp.turn) ys → Since (λ (r : Request). r.booking.stamp.turn) first ys → Since (λ (r : Request). r.booking.stamp.turn) first xs
+since-so first [] ys e h = tt
+since-so first (x ∷ xs) [] e h = absurd cc
+since-so first (x ∷ xs) (y ∷ ys) e h =
+    let same : x.booking.stamp.turn ≡ y.booking.stamp.turn = cc in
+    let rest : map (λ (r : Request). r.booking.stamp.turn) xs ≡ map (λ (r : Request). r.booking.stamp.turn) ys = cc in
+    let begins = h.0 in
+    (omega (arith, begins, same), since-so first xs ys rest h.1)
+
 -- ---- a script
 
-module _ {C T A E : Type 0} (speech : Speech C T A E) (commands : AreCommands speech) (whole : BookWhole speech) (course : Course DeskCall Reply) (now : Now) where
+module _ {C T A E : Type 0} (speech : Speech C T A E) (commands : AreCommands speech) (parts : BookParts speech) (course : Course DeskCall Reply) (now : Now) where
   -- what the session did so far, without its turns
   abbrev pub so_far : Course DeskCall Reply
   so_far = record { trace = []; book = book_of now; replies = course.replies; asked = now.asked }
@@ -242,29 +252,22 @@ module _ {C T A E : Type 0} (speech : Speech C T A E) (commands : AreCommands sp
           none_before = ap (λ (o : Outcome DeskCall (Ending A E)). o.parts) is;
         }
 
-    -- the requests of one that runs
-    runs-booked : (own : E) (c : C) (p : Place T) (u : kept.IsUnderWay course (record { handle = handle; command = length past }) (speech.says own c) (free_of past (length past)) now p) →
-        requests (length past) ≡ (ran_by (speech.says own c) (u.last ∷ u.before)).requests
-    runs-booked own c p u =
-        let who : Who = record { handle = handle; command = length past } in
-        let d = speech.says own c in
-        holds-now who (book_of now) (ran_by d (u.last ∷ u.before)) u.ready.requests ∙ one-part-each course who d (whole own c) (u.last ∷ u.before) u.ready.turns u.ready.upright.runs.met
-
     -- one that runs
     runs : (own : E) (c : C) (p : Place T) → kept.IsUnderWay course (record { handle = handle; command = length past }) (speech.says own c) (free_of past (length past)) now p →
         IsUnderWay so_far handle (length past) (comes-of (length past) own c)
     runs own c p u =
         let d = speech.says own c in
         let s = ran_by d (u.last ∷ u.before) in
-        let booked : requests (length past) ≡ s.requests = runs-booked own c p u in
-        let f = as-far course (record { handle = handle; command = length past }) d (whole own c) (u.last ∷ u.before) u.ready.turns u.ready.upright.runs.met in
-        let is : comes-of (length past) own c ≡ in_words (speech.ends own c) (outcome (asked d) (met_by (λ n. reply_to course (Some n)) s.requests s.asked) []) =
+        let who : Who = record { handle = handle; command = length past } in
+        let booked : requests (length past) ≡ s.whole [] = holds-now who (book_of now) s u.ready.requests in
+        let f = booked-so-far course who d (parts own c) (u.last ∷ u.before) u.ready.turns u.ready.upright.runs.met in
+        let is : comes-of (length past) own c ≡ in_words (speech.ends own c) (outcome (asked d) (met_by (λ n. reply_to course (Some n)) (s.whole []) s.asked) []) =
         ap (λ (rs : List Request). outcome_of ((meaning_of speech).asks own c) (met_in so_far rs (questions (length past)))) booked
-        ∙ ap (λ (qs : List (Asked DeskCall Reply)). outcome_of ((meaning_of speech).asks own c) (met_in so_far s.requests qs)) u.ready.questions
-        ∙ words-alone (asked d) (speech.ends own c) (met_by (λ n. reply_to course (Some n)) s.requests s.asked) [] in
+        ∙ ap (λ (qs : List (Asked DeskCall Reply)). outcome_of ((meaning_of speech).asks own c) (met_in so_far (s.whole []) qs)) u.ready.questions
+        ∙ words-alone (asked d) (speech.ends own c) (met_by (λ n. reply_to course (Some n)) (s.whole []) s.asked) [] in
         record {
-          more = f.more;
-          requests = ap (λ (rs : List Request). map (λ r. r.booking.parts) rs ++ f.more) booked ∙ f.requests ∙ sym (ap (λ (o : Outcome DeskCall (Ending A E)). o.requests) is);
+          requests = subst (λ (rs : List Request). AreBegun (map (λ r. r.booking.parts) rs) (comes-of (length past) own c).requests) (sym booked)
+              (subst (λ (l : List (List (List ℕ))). AreBegun (parts_in (s.whole [])) l) (sym (ap (λ (o : Outcome DeskCall (Ending A E)). o.requests) is)) f.requests);
           asked = ap (λ (qs : List (Asked DeskCall Reply)). map (λ a. a.question) qs) u.ready.questions ∙ f.asks ∙ sym (ap (λ (o : Outcome DeskCall (Ending A E)). o.asked) is);
           none_later = k.none_later;
         }
@@ -272,8 +275,7 @@ module _ {C T A E : Type 0} (speech : Speech C T A E) (commands : AreCommands sp
     -- one that hasn't begun
     rests : (own : E) (c : C) → kept.Rests course script handle past now → IsUnderWay so_far handle (length past) (comes-of (length past) own c)
     rests own c r = record {
-      more = (comes-of (length past) own c).requests;
-      requests = ap (λ (rs : List Request). map (λ r. r.booking.parts) rs ++ (comes-of (length past) own c).requests) r.requests;
+      requests = subst (λ (rs : List Request). AreBegun (map (λ r. r.booking.parts) rs) (comes-of (length past) own c).requests) (sym r.requests) tt;
       asked = ap (λ (qs : List (Asked DeskCall Reply)). map (λ a. a.question) qs) r.questions
           ∙ sym (ap (λ (qs : List (Asked DeskCall Reply)). (outcome_of ((meaning_of speech).asks own c) (met_in so_far (requests (length past)) qs)).asked) r.questions
           ∙ asks-nothing ((meaning_of speech).asks own c) (met_in so_far (requests (length past)) []).replies []);
@@ -381,10 +383,12 @@ module _ {C T A E : Type 0} (speech : Speech C T A E) (commands : AreCommands sp
     runs-in-rows (Some p) does =
         let u = does.under_way in
         let d = speech.says h.own does.command in
-        let a = acts-since course (record { handle = handle; command = length past }) d u.last u.before u.ready.turns u.ready.upright.runs.met in
+        let who : Who = record { handle = handle; command = length past } in
+        let a = acts-since course who d u.last u.before u.ready.turns u.ready.upright.runs.met in
         record {
           booked = rows-since (λ r. r.booking.stamp.turn) (begun_at u.last u.before) (requests (length past)) u.begins.no_sooner
-              (subst (λ (l : List Request). Since (λ r. r.booking.stamp.turn) (begun_at u.last u.before) l) (sym (runs-booked h.own does.command p u)) a.booked);
+              (subst (λ (l : List Request). Since (λ r. r.booking.stamp.turn) (begun_at u.last u.before) l) (sym (holds-now who (book_of now) (ran_by d (u.last ∷ u.before)) u.ready.requests))
+              (since-so (begun_at u.last u.before) ((ran_by d (u.last ∷ u.before)).whole []) (ran_by d (u.last ∷ u.before)).requests (named-all course who d (λ n stamp. stamp.turn) (u.last ∷ u.before) u.ready.turns []) a.booked));
           told = rows-since (λ a. a.stamp.turn) (begun_at u.last u.before) (questions (length past)) u.begins.no_sooner
               (subst (λ (l : List (Asked DeskCall Reply)). Since (λ a. a.stamp.turn) (begun_at u.last u.before) l) (sym u.ready.questions) a.told);
         }
@@ -442,7 +446,7 @@ none-there {C} {X} scripts stamp handle (x ∷ xs) none h = by ((stamp x).owner 
         let same : (stamp x).owner ≡ handle = grind (arith, nat_tests, e) in
         absurd (let no : false ≡ true = subst (λ (o : Option (List C)). IsSome (option_and_then (λ row. slice_get row (stamp x).command) o)) (ap (λ (n : ℕ). slice_get scripts n) same ∙ none) h.0 in cc)
 
-module _ {C T A E : Type 0} (speech : Speech C T A E) (commands : AreCommands speech) (whole : BookWhole speech) (scripts : List (List C)) (course : Course DeskCall Reply) (now : Now) (handles : List (HandleState T A E))
+module _ {C T A E : Type 0} (speech : Speech C T A E) (commands : AreCommands speech) (parts : BookParts speech) (scripts : List (List C)) (course : Course DeskCall Reply) (now : Now) (handles : List (HandleState T A E))
     (k : AllKept speech scripts course now handles) (many : length handles ≡ length scripts) where
   handle-kept : (i : ℕ) (script : List C) → slice_get scripts i ≡ Some script → (h : HandleState T A E) × ((past : List (Past A E)) × HandleKept speech course script i h past now)
   handle-kept i script at =
@@ -460,13 +464,13 @@ module _ {C T A E : Type 0} (speech : Speech C T A E) (commands : AreCommands sp
       by None e = subst (λ (l : List X). IsNonDecreasingBy (λ x. (stamp x).command) l) (sym (none-there scripts stamp i xs e (recursion_from_All (HasScript scripts stamp) xs known)))
           (λ a b d le lt. absurd (omega (arith, lt)))
 
-  pub in-script-order : AllButLastEnded (book_of now) → InScriptOrder (meaning_of speech) scripts (so_far speech commands whole course now)
+  pub in-script-order : AllButLastEnded (book_of now) → InScriptOrder (meaning_of speech) scripts (so_far speech commands parts course now)
   in-script-order all = record {
     owners = k.book.known;
     askers = k.questions.known;
-    in_order = in-order (λ b. b.stamp) (book_of now) k.book.known (λ i script at. let h = handle-kept i script at in booked-in-order speech commands whole course now script i h.0 h.1.0 h.1.1 k.book.in_order);
-    asked_in_order = in-order (λ a. a.stamp) now.asked k.questions.known (λ i script at. let h = handle-kept i script at in asked-in-order speech commands whole course now script i h.0 h.1.0 h.1.1 k.questions.in_order);
-    each = λ i script at. let h = handle-kept i script at in script-order speech commands whole course now script i h.0 h.1.0 h.1.1 0 speech.begins script refl refl (omega arith);
+    in_order = in-order (λ b. b.stamp) (book_of now) k.book.known (λ i script at. let h = handle-kept i script at in booked-in-order speech commands parts course now script i h.0 h.1.0 h.1.1 k.book.in_order);
+    asked_in_order = in-order (λ a. a.stamp) now.asked k.questions.known (λ i script at. let h = handle-kept i script at in asked-in-order speech commands parts course now script i h.0 h.1.0 h.1.1 k.questions.in_order);
+    each = λ i script at. let h = handle-kept i script at in script-order speech commands parts course now script i h.0 h.1.0 h.1.1 0 speech.begins script refl refl (omega arith);
     told = k.told;
     ended = all;
   }

@@ -22,7 +22,8 @@ use Rattle.pg_course.specs.Dialogues.{decided_after}
 use Rattle.pg_course.specs.Meanings.{Ending}
 use Rattle.pg_core.specs.Outcomes.{asked, questions_in}
 use Rattle.pg_core.proofs.Fitting.{AreFitting, AreMatched, fitting-filter, matched, session-fitting}
-use Rattle.pg_failed.specs.Sent.{AskedInOrder, InScriptOrder, asked_of, outcome_in, parts_of}
+use Rattle.pg_failed.proofs.Begun.{one-begun}
+use Rattle.pg_failed.specs.Sent.{AreBegun, AskedInOrder, InScriptOrder, IsBegun, are_ended, asked_of, outcome_in, parts_of}
 use Rattle.pg_turns.specs.Speeches.{BookWhole, BooksWhole, IsWholeRequest, Speech, meaning_of}
 use Rattle.pg_session.proofs.SentSoFar.Outcomes.{words-alone}
 use Rattle.pg_session.proofs.SentSoFar.Order.{spread, unnumbered}
@@ -86,6 +87,19 @@ pub front-all : {X : Type 0} (P : X → Type 0) (xs ys : List X) → AllByRecurs
 front-all P [] ys h = tt
 front-all P (x ∷ xs) ys h = (h.0, front-all P xs ys h.1)
 
+-- what was booked of requests of one part is such requests
+begun-one : (ended : Bool) (x y : List (List ℕ)) → IsOneRequest y → IsBegun ended x y → IsOneRequest x
+begun-one ended x y one h = record {
+  part = one.part;
+  alone = one-begun ended x one.part (subst (λ (l : List (List ℕ)). IsBegun ended x l) one.alone h);
+  is = one.is;
+}
+
+begun-all : (xs ys : List (List (List ℕ))) → AllByRecursion IsOneRequest ys → AreBegun xs ys → AllByRecursion IsOneRequest xs
+begun-all [] ys all h = tt
+begun-all (x ∷ xs) [] all h = absurd h
+begun-all (x ∷ xs) (y ∷ ys) all h = (begun-one (are_ended x) x y all.0 h.0, begun-all xs ys all.1 h.1)
+
 -- ---- of all that was booked
 
 eq-same : (n : ℕ) → (n == n) ≡ true
@@ -138,7 +152,7 @@ module _ {C T A E : Type 0} (speech : Speech C T A E) (whole : BookWhole speech)
         by (inr here) =
             let same : place ≡ j = omega (arith, low, here) in
             subst (λ (n : ℕ). AllByRecursion IsOneRequest (parts_of course handle n)) same
-            (front-all IsOneRequest (parts_of course handle place) way.more (subst (λ (l : List (List (List ℕ))). AllByRecursion IsOneRequest l) (sym way.requests) (one-command place own c way.asked)))
+            (begun-all (parts_of course handle place) (outcome_in (meaning_of speech) course handle place own c).requests (one-command place own c way.asked) way.requests)
     each-command place own (c ∷ cs) (inr (ending, ended, rest)) j low high = by (each-command (place + 1) ending.own cs rest j) (cases_lt place j)
       where
         by : (place + 1 ≤ j → j < place + 1 + length cs → AllByRecursion IsOneRequest (parts_of course handle j)) → (place < j) ⊎ (j ≤ place) → AllByRecursion IsOneRequest (parts_of course handle j)

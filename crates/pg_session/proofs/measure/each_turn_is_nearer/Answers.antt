@@ -7,8 +7,8 @@ pub returns-clause-begins : goal.returns-clause-begins
 returns-clause-begins g c = new-under-way
 
 pub returns-clause-goes_on : goal.returns-clause-goes_on
-returns-clause-goes_on g c speech scripts turn s t l m made h within = (turn-nearer speech scripts turn s t l m made h within).under_way
+returns-clause-goes_on g c speech scripts turn s t l m none made h within = (turn-nearer speech none scripts turn s t l m made h within).under_way
 
 pub returns-clause-nearer : goal.returns-clause-nearer
-returns-clause-nearer g c speech scripts turn s t l m made h within =
-    nearer-so scripts (moved_in speech scripts turn s t l m false made) s t (turn-nearer speech scripts turn s t l m made h within).falls
+returns-clause-nearer g c speech scripts turn s t l m none made h within =
+    nearer-so scripts (moved_in speech scripts turn s t l m false made) s t (turn-nearer speech none scripts turn s t l m made h within).falls
