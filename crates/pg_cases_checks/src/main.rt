@@ -1,0 +1,26 @@
+//! Cases of checks of a session: reads a case a line from standard input, and prints beside each what it gives.
+#![tactic(auto)]
+
+mod checks;
+
+use std::alloc::{AllocError, Global};
+use std::io;
+
+/// The line, and what its case gives.
+fn row(alloc: Global, line: &str, out: &mut String) -> Result<(), AllocError> {
+    match pg_cases::words_of(alloc, line, out)? {
+        Some(words) => checks::tell(alloc, words.as_slice(), out),
+        None => Ok(()),
+    }
+}
+
+fn main(rt: HostRuntime) -> io::Result<()> {
+    for line in rt.lines(rt.alloc()) {
+        let mut out = String::new(rt.alloc());
+        match row(rt.alloc(), line?.as_str(), &mut out) {
+            Ok(()) => println!(rt; "{out}")?,
+            Err(AllocError) => println!(rt; "out of memory")?,
+        }
+    }
+    Ok(())
+}

@@ -1,0 +1,4 @@
+pub mod Telling
+pub mod Texts
+pub mod Life
+pub mod Stepping

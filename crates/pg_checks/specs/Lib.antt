@@ -1,0 +1,3 @@
+pub mod Showing
+pub mod Asking
+pub mod States
