@@ -77,6 +77,10 @@ abbrev pub posts_before : {T : Type 0} → Option (List ℕ) → Result T Error 
 posts_before (Some part) r = Send part (λ e. Answer (Err e)) (Answer r)
 posts_before None r = Answer r
 
+-- close: Close and Sync are sent for a statement, and nobody reads the reply
+abbrev pub close : Statement → Dialogue (Unit {0})
+close s = posts_before (close_part s.name) (Ok tt)
+
 -- a dialogue, and this request behind it, also where it is given up
 abbrev pub closed_by : {T : Type 0} → Option (List ℕ) → Dialogue T → Dialogue T
 closed_by part d = behind (posts part) d (posts_before part)

@@ -1,6 +1,7 @@
 pub mod Closings
 pub mod CountReadings
 pub mod Counts
+pub mod Eithers
 pub mod Examples
 pub mod Executes
 pub mod Faulting
@@ -9,5 +10,6 @@ pub mod Parameters
 pub mod Rows
 pub mod RowsReadings
 pub mod Saying
+pub mod Targets
 pub mod Typed
 pub mod Values

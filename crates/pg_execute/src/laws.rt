@@ -9,15 +9,18 @@ ghost use Rattle.pg_types.specs.declared.value.Value.TheVariants as value;
 ghost use Rattle.pg_lookup.specs.Examples as lookup;
 ghost use Rattle.pg_lookup.specs.Replies as replied;
 ghost use Rattle.pg_execute.specs.Examples as example;
+ghost use Rattle.pg_execute.specs.Typed.{unnamed};
 ghost use Rattle.pg_execute.specs.declared.how_many.HowMany.TheVariants.{Any, AtMostOne, One};
 
-/// A statement is queried with a value, byte by byte, and its rows come with the count of the last command. A second row is refused where one
+/// A statement is queried with a value, byte by byte, and its rows come with the count of the last command, which an empty one behind it leaves. A second row is refused where one
 /// may come at most, as it comes, and an end without a row where there must be one. A row of another width and one that can't be read are
 /// refused.
 pub fn rows_are_counted()
     ensures asks { lookup.booked (example.asked_7 Any []) ≡ example.with_7 ∷ [] }
     ensures any { (example.asked_7 Any (example.bound (example.row 1 ∷ example.suspended ∷ example.row 2 ∷ example.complete (codes "SELECT 9") ∷ example.empty ∷ example.complete (codes "SELECT 2") ∷ []))).outcome.answer
         ≡ Some (Ok (example.found example.of_one ((example.int4_cell 1 ∷ []) ∷ (example.int4_cell 2 ∷ []) ∷ []) (Some 2))) }
+    ensures stays { (example.asked_7 Any (example.bound (example.row 1 ∷ example.complete (codes "SELECT 1") ∷ example.empty ∷ []))).outcome.answer
+        ≡ Some (Ok (example.found example.of_one ((example.int4_cell 1 ∷ []) ∷ []) (Some 1))) }
     ensures none { (example.asked_7 AtMostOne (example.bound (example.complete (codes "SELECT 0") ∷ []))).outcome.answer ≡ Some (Ok (example.found example.of_one [] (Some 0))) }
     ensures second { (example.asked_7 AtMostOne (example.bound (example.row 1 ∷ example.row 2 ∷ []))).outcome.answer ≡ Some (Err RowCount) }
     ensures second_leaves { (example.asked_7 One (example.bound (example.row 1 ∷ example.row 2 ∷ []))).outcome.left ≡ replied.ready }
@@ -73,7 +76,8 @@ pub fn statements_of_texts_are_closed()
 pub fn typed_queries_look_up_later()
     ensures known { example.rows_in (example.typed_query Any ((example.headed 23 ++ example.row 1 ∷ example.row 2 ∷ replied.ready) ∷ [])).outcome.answer ≡ (example.int4_cell 1 ∷ []) ∷ (example.int4_cell 2 ∷ []) ∷ [] }
     ensures known_books { lookup.booked (example.typed_query Any ((example.headed 23 ++ replied.ready) ∷ [])) ≡ example.q_typed ∷ [] }
-    ensures without_rows { example.rows_in (example.typed_query One ((example.headed_without_rows ++ replied.ready) ∷ [])).outcome.answer ≡ [] }
+    ensures without_rows { (example.typed_query Any ((example.headed_without_rows ++ replied.ready) ∷ [])).outcome.answer ≡ Some (Ok (example.found (unnamed [] []) [] None)) }
+    ensures lacking { (example.typed_query One ((example.headed_without_rows ++ replied.ready) ∷ [])).outcome.answer ≡ Some (Err RowCount) }
     ensures later { example.rows_in (example.typed_query Any ((example.headed 90000 ++ example.row 1 ∷ example.row 2 ∷ replied.ready) ∷ replied.info_described ∷ replied.type_row replied.base ∷ [])).outcome.answer
         ≡ (example.int4_cell 1 ∷ []) ∷ (example.int4_cell 2 ∷ []) ∷ [] }
     ensures later_kinds { example.kinds_in (example.typed_query Any ((example.headed 90000 ++ replied.ready) ∷ replied.info_described ∷ replied.type_row replied.base ∷ [])).outcome.answer ≡ Simple ∷ [] }

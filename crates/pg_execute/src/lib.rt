@@ -4,10 +4,12 @@
 
 mod closing;
 mod count_reading;
+mod either;
 mod executes;
 mod form;
 mod given_values;
 mod got;
+mod handed;
 mod how_many;
 mod laws;
 mod make;
@@ -17,10 +19,12 @@ mod request;
 mod result_set;
 mod rows_reading;
 mod said;
+mod target;
 mod values;
 
 pub use closing::{Posts, PostsBefore};
 pub use count_reading::CountReading;
+pub use either::Either;
 pub use executes::Executes;
 pub use form::{Count, Form, Query};
 pub use got::Got;
@@ -33,5 +37,7 @@ pub use laws::{
 pub use make::{Make, Scalars, WholeRows};
 pub use on_statement::OnStatement;
 pub use on_text::{Closes, OnText};
+pub use request::close_bytes;
 pub use result_set::ResultSet;
 pub use rows_reading::RowsReading;
+pub use target::{OnTarget, Target, on_target};

@@ -5,8 +5,8 @@ ghost use Rattle.pg_execute.specs.Executes.{executes};
 
 use crate::executes::Executes;
 use crate::form::Form;
+use crate::handed::Handed;
 use pg_errors::Error;
-use pg_prepare::Answered;
 use pg_query::{Cleanup, Reading, Reply, Script, SingleRequest, Want};
 use pg_scripts::{Maybe, OrAnswer, Then};
 use pg_statements::Statement;
@@ -16,7 +16,7 @@ use std::alloc::{AllocError, Global};
 use std::collections::VecDeque;
 
 type StatementThen<'a, F, R, T> = Then<
-    Answered<Statement>,
+    Handed<'a>,
     OrAnswer<Executes<'a, F>>,
     Maybe<T, SingleRequest<R, T>>,
 >;
@@ -39,7 +39,22 @@ impl<'a, F: Form> OnStatement<'a, F, F::Reading, <F::Reading as Reading>::Output
     {
         let go = Executes { form, values };
         OnStatement {
-            script: Then::First(Maybe::Answers(Ok(statement)), OrAnswer { go }),
+            script: Then::First(Handed::Owned(statement), OrAnswer { go }),
+        }
+    }
+
+    /// The same of a statement that is borrowed. It is copied in the first step.
+    pub fn borrowed(
+        statement: &'a Statement,
+        form: F,
+        values: &'a [Value],
+    ) -> OnStatement<'a, F, F::Reading, <F::Reading as Reading>::Output>
+        ensures dialogue { ⟦<OnStatement<'a, F, F::Reading, <F::Reading as Reading>::Output> as Script>⟧.dialogue result ≡ executes (F.reads form statement.now) statement.now values.now }
+        ensures steps { ⟦<OnStatement<'a, F, F::Reading, <F::Reading as Reading>::Output> as Script>⟧.steps result ≤ 2 }
+    {
+        let go = Executes { form, values };
+        OnStatement {
+            script: Then::First(Handed::Borrowed(statement), OrAnswer { go }),
         }
     }
 }

@@ -111,7 +111,7 @@ fn close_frames(alloc: Global, name: &str) -> Result<Bytes, FrameFault>
 }
 
 /// What closes the statement of this name. A name that was prepared can be written.
-pub(crate) fn close_bytes(alloc: Global, name: &str) -> Result<Option<Bytes>, AllocError>
+pub fn close_bytes(alloc: Global, name: &str) -> Result<Option<Bytes>, AllocError>
     ensures { IfOk result (λ part. part ≡ close_part name.now) }
 {
     match close_frames(alloc, name) {

@@ -1,5 +1,5 @@
 -- Executions are commands that a session takes.
-use Rattle.std.proofs.Common.{◌≡◌, ℕ, List, [], ◌∷◌, length, Bool, true, false, Option, Some, None, Result, Ok, Err, refl, sym, subst}
+use Rattle.std.proofs.Common.{◌≡◌, ℕ, List, [], length, true, false, Option, Some, None, Result, Ok, Err, refl}
 use Rattle.std.specs.Prelude.{is_some}
 use Rattle.pg_spec.specs.RawMessages.{RawMessage, is_ready, ends_in}
 use Rattle.pg_spec.specs.Readings.{Next}
@@ -7,10 +7,10 @@ use Rattle.pg_types.specs.declared.value.Value.{Value}
 use Rattle.pg_faults.specs.declared.error.Error.{Error}
 use Rattle.pg_faults.specs.declared.error.Error.TheVariants.{OutOfMemory}
 use Rattle.pg_statements.specs.declared.statement.Described.{Described as Statement}
-use Rattle.pg_query.specs.Dialogue.{Dialogue, Answer}
+use Rattle.pg_query.specs.Dialogue.{Dialogue}
 use Rattle.pg_query.specs.Leaving.{LetsGo, Request}
 use Rattle.pg_query.specs.Reading.{ends, reads}
-use Rattle.pg_core.specs.Times.{LacksMemory}
+use Rattle.pg_core.specs.Times.{EndsNone, LacksMemory}
 use Rattle.pg_core.proofs.Requests.{request-so}
 use Rattle.pg_turns.specs.Speeches.{BooksWhole, IsWholeRequest}
 use Rattle.pg_lookup.specs.Composing.{asks_for}
@@ -19,7 +19,7 @@ use Rattle.pg_lookup.specs.QueryReplies.{told_by}
 use Rattle.pg_lookup_laws.proofs.Commands as lookup
 use Rattle.pg_lookup_laws.proofs.Commands.{answers, behinds, preparing-text, thens}
 use Rattle.pg_execute.specs.Counts.{count_next, nothing_counted}
-use Rattle.pg_execute.specs.Executes.{close_part, closed_by, execute, on_text, posts, posts_before, query, query_scalar, scalars, whole_rows}
+use Rattle.pg_execute.specs.Executes.{close, close_part, closed_by, execute, on_text, posts, posts_before, query, query_scalar, scalars, whole_rows}
 use Rattle.pg_execute.specs.Parameters.{execute_request}
 use Rattle.pg_execute.specs.Rows.{nothing_got}
 use Rattle.pg_execute.specs.declared.got.Got.{Got}
@@ -80,8 +80,16 @@ posting-lacks : {T : Type 0} (part : Option (List ℕ)) (r : Result T Error) →
 posting-lacks None r is = is
 posting-lacks (Some part) r is = (refl, is)
 
+posts-end-none : (part : Option (List ℕ)) → EndsNone (posts part)
+posts-end-none None = tt
+posts-end-none (Some part) = tt
+
+-- a statement is closed
+pub closes-taken : (s : Statement) → lookup.IsTaken (close s)
+closes-taken s = posting (close_part s.name) (Ok tt) (whole-close s.name)
+
 closing : {T : Type 0} (name : List ℕ) (d : Dialogue T) → lookup.IsTaken d → lookup.IsTaken (closed_by (close_part name) d)
-closing name d h = behinds (posts (close_part name)) d (posts_before (close_part name)) h (λ r. posting (close_part name) r (whole-close name)) (posting-lacks (close_part name))
+closing name d h = behinds (posts (close_part name)) (posts-end-none (close_part name)) d (posts_before (close_part name)) h (λ r. posting (close_part name) r (whole-close name)) (posting-lacks (close_part name))
 
 pub on-text : {T : Type 0} (text : List ℕ) (body : Statement → Dialogue T) → ((s : Statement) → lookup.IsTaken (body s)) → lookup.IsTaken (on_text (prepare text []) body)
 on-text text body h = thens (prepare text []) (λ s. closed_by (close_part s.name) (body s)) (preparing-text text []) (λ s. closing s.name (body s) (h s))

@@ -1,3 +1,3 @@
-mod Commands
+pub mod Commands
 mod Readings
 mod Requests

@@ -9,7 +9,7 @@ use Rattle.pg_spec.specs.Faults as spec
 use Rattle.pg_spec.specs.Messages.{Message, BindComplete, CommandComplete, DataRow, EmptyQueryResponse, ErrorResponse, PortalSuspended, ReadyForQuery, message_of}
 use Rattle.pg_spec.specs.RawMessages.{RawMessage, is_ready, ends_in}
 use Rattle.pg_spec.specs.Readings.{Next, GoesOn, Answers, Decision, decision, decided_by, one_later}
-use Rattle.pg_spec.specs.SimpleQuery.{affected, server_error}
+use Rattle.pg_spec.specs.SimpleQuery.{affected}
 use Rattle.pg_desk.proofs.ReadyTags.{is_ready_message}
 use Rattle.pg_faults.specs.declared.error.Error.{Error}
 use Rattle.pg_query.specs.Leaving.{Request, IsLetGo, LetsGo, request_behind}
@@ -17,7 +17,7 @@ use Rattle.pg_query.specs.Reading.{ends, reads}
 use Rattle.pg_lookup.specs.QueryReplies.{Said, Bound, Row, Complete, Empty, Suspended, Ready, Fails, query_said, row_said, said_by, told_by}
 use Rattle.pg_lookup_laws.proofs.Readings.{IsLast, told-some}
 use Rattle.pg_execute.specs.Counts.{Counted, count_by, count_next, counts}
-use Rattle.pg_execute.specs.Rows.{behind_row, may_have, rows_by, rows_read}
+use Rattle.pg_execute.specs.Rows.{may_have, rows_by}
 use Rattle.pg_execute.specs.declared.got.Got.{Got}
 use Rattle.pg_execute.specs.declared.how_many.HowMany.{HowMany}
 

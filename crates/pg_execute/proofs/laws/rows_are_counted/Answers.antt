@@ -13,6 +13,10 @@ pub returns-clause-any : goal.returns-clause-any
 unfolding digits is_utf8 chars encode utf8_lossy utf8_valid_len
 returns-clause-any c = refl
 
+pub returns-clause-stays : goal.returns-clause-stays
+unfolding digits is_utf8 chars encode utf8_lossy utf8_valid_len
+returns-clause-stays c = refl
+
 pub returns-clause-none : goal.returns-clause-none
 unfolding digits is_utf8 chars encode utf8_lossy utf8_valid_len
 returns-clause-none c = refl

@@ -17,6 +17,10 @@ pub returns-clause-without_rows : goal.returns-clause-without_rows
 unfolding digits is_utf8 chars encode utf8_lossy utf8_valid_len
 returns-clause-without_rows c = refl
 
+pub returns-clause-lacking : goal.returns-clause-lacking
+unfolding digits is_utf8 chars encode utf8_lossy utf8_valid_len
+returns-clause-lacking c = refl
+
 pub returns-clause-later : goal.returns-clause-later
 unfolding digits is_utf8 chars encode utf8_lossy utf8_valid_len
 returns-clause-later c = refl

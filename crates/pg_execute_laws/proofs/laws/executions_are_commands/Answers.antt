@@ -1,7 +1,7 @@
 use Rattle.std.proofs.Common.{[]}
 use Rattle.pg_lookup.specs.Lookups.{prepare}
-use Rattle.pg_execute.specs.Executes.{execute, on_text, query, query_scalar}
-use Rattle.pg_execute_laws.proofs.Commands.{as-taken, executes-taken, on-text, queries-taken, scalars-taken}
+use Rattle.pg_execute.specs.Executes.{close, execute, on_text, query, query_scalar}
+use Rattle.pg_execute_laws.proofs.Commands.{as-taken, closes-taken, executes-taken, on-text, queries-taken, scalars-taken}
 use Rattle.pg_execute_laws.proofs.laws.executions_are_commands.Goals as goal
 
 pub returns-clause-queries : goal.returns-clause-queries
@@ -21,3 +21,6 @@ returns-clause-text_scalars c = λ how text vs. as-taken (on_text (prepare text 
 
 pub returns-clause-text_executes : goal.returns-clause-text_executes
 returns-clause-text_executes c = λ text vs. as-taken (on_text (prepare text []) (λ s. execute s vs)) (on-text text (λ s. execute s vs) (λ s. executes-taken s vs))
+
+pub returns-clause-closes : goal.returns-clause-closes
+returns-clause-closes c = λ s. as-taken (close s) (closes-taken s)
