@@ -1,0 +1,56 @@
+//! A statement is closed.
+
+ghost use Rattle.std.specs.Prelude.{◌≡◌};
+ghost use Rattle.pg_execute.specs.Executes.{close};
+
+use crate::closing::Closing;
+use futures::task::Poll;
+use pg_desk::{Desk, Stamp};
+use pg_errors::Error;
+use pg_query::{Command, Polled};
+use pg_statements::Statement;
+use std::alloc::Global;
+
+/// The state that closes a statement. Nobody reads the server's reply.
+#[derive(Drop)]
+pub struct CloseState {
+    command: Command<Closing>,
+}
+
+impl CloseState {
+    ghost use Rattle.pg_executed.specs.States.{place_of_close, IsLiveClose};
+
+    /// Makes the state that closes this statement. It takes no memory, and books nothing before its first poll.
+    pub fn new(statement: Statement) -> CloseState
+        ensures live { IsLiveClose result }
+        ensures asks { (place_of_close result).dialogue ≡ close statement }
+    {
+        CloseState {
+            command: Command::new(Closing::New(statement)),
+        }
+    }
+}
+
+impl Polled for CloseState {
+    ghost use Rattle.pg_executed.specs.States.{place_of_close, IsLiveClose};
+
+    type Output = ();
+
+    ghost place = { place_of_close };
+
+    ghost is_live = { IsLiveClose };
+
+    fn poll<D: Desk>(
+        &mut self,
+        alloc: Global,
+        desk: &mut D,
+        stamp: Stamp,
+    ) -> Poll<Result<(), Error>> {
+        self.command.poll(alloc, desk, stamp)
+    }
+
+    fn hang_up<D: Desk>(self, alloc: Global, desk: &mut D, stamp: Stamp) -> Result<(), Error> {
+        let CloseState { command } = self;
+        command.hang_up(alloc, desk, stamp)
+    }
+}

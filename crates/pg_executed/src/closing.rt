@@ -1,0 +1,67 @@
+//! A statement is closed, step by step.
+
+use pg_errors::Error;
+use pg_execute::close_bytes;
+use pg_query::{Action, Cleanup, Reply, Script, Want};
+use pg_statements::Statement;
+use pg_wire::{Message, WireFault};
+use std::alloc::{AllocError, Global};
+use std::collections::VecDeque;
+use std::mem;
+
+/// A statement that is closed.
+#[derive(Drop)]
+pub(crate) enum Closing {
+    /// Nothing was done yet.
+    New(Statement),
+    /// The request was sent, or can't be written.
+    Done,
+}
+
+impl Script for Closing {
+    ghost use Rattle.pg_query.specs.Scripts.{Nothing};
+    ghost use Rattle.pg_executed.specs.Closing.{dialogue_of_closing, refuses_of_closing, steps_of_closing};
+
+    type Output = ();
+
+    ghost dialogue = { dialogue_of_closing };
+
+    ghost refuses = { refuses_of_closing };
+
+    ghost waits = { λ _. Nothing };
+
+    ghost steps = { steps_of_closing };
+
+    fn next(&mut self, alloc: Global) -> Result<Want<()>, AllocError> {
+        match mem::replace(self, Closing::Done) {
+            Closing::New(statement) => match close_bytes(alloc, statement.name())? {
+                Some(part) => Ok(Want::Act(Action::Send(part))),
+                None => Ok(Want::Answer(Ok(()))),
+            },
+            Closing::Done => Ok(Want::Answer(Ok(()))),
+        }
+    }
+
+    fn message(
+        &mut self,
+        alloc: Global,
+        message: &Result<Message, WireFault>,
+    ) -> Result<Want<()>, AllocError> {
+        // It reads nothing.
+        Err(AllocError)
+    }
+
+    fn reply(&mut self, alloc: Global, reply: Reply) -> Result<Want<()>, AllocError> {
+        // It asks nothing.
+        Err(AllocError)
+    }
+
+    fn refused(&mut self, alloc: Global, error: Error) -> Result<Want<()>, AllocError> {
+        Ok(Want::Answer(Err(error)))
+    }
+
+    fn cleanup(&self, alloc: Global) -> Result<VecDeque<Cleanup>, AllocError> {
+        // It reads nothing.
+        Err(AllocError)
+    }
+}
