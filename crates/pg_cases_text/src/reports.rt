@@ -6,7 +6,7 @@ use pg_desk::{Booking, Stamp};
 use pg_errors::Error;
 use pg_statements::Column;
 use pg_text::{Answer, Cells, Pair, Report, SimpleMessage, Statement, TurnMark, report_text};
-use pg_types::{Blob, Kind, List, Oid, OutOfMemory, Text, Type};
+use pg_types::{Blob, Kind, List, Oid, OutOfMemory, Text, Type, Value};
 use std::alloc::{AllocError, Global};
 use std::str;
 
@@ -161,6 +161,73 @@ fn put_statements(alloc: Global, report: &mut Report) -> Result<(), OutOfMemory>
     push(&mut report.answers, answers)
 }
 
+/// The statement with two columns.
+fn of_two_columns(alloc: Global) -> Result<Statement, OutOfMemory> {
+    let mut columns = List::empty(alloc);
+    put_column(alloc, "?column?", 25, &mut columns)?;
+    put_column(alloc, "\u{e9}\"", 0, &mut columns)?;
+    let name = Text::from_str(alloc, "s1")?;
+    Statement::new(alloc, name, List::empty(alloc), columns)
+}
+
+/// The answer that is no rows, and the one that is two.
+fn put_rows(alloc: Global, answers: &mut List<Answer>) -> Result<(), OutOfMemory> {
+    let name = Text::from_str(alloc, "s0")?;
+    let statement = Statement::new(alloc, name, List::empty(alloc), List::empty(alloc))?;
+    push(
+        answers,
+        Answer::Rows {
+            statement,
+            rows: List::empty(alloc),
+            affected: None,
+        },
+    )?;
+    let mut cells = List::empty(alloc);
+    put_cells(alloc, &mut cells)?;
+    let mut rows = List::empty(alloc);
+    push(&mut rows, cells)?;
+    push(&mut rows, List::empty(alloc))?;
+    push(
+        answers,
+        Answer::Rows {
+            statement: of_two_columns(alloc)?,
+            rows,
+            affected: Some(u64::MAX),
+        },
+    )
+}
+
+/// The answer that is a value of each kind.
+fn put_values(alloc: Global, answers: &mut List<Answer>) -> Result<(), OutOfMemory> {
+    let mut values = List::empty(alloc);
+    push(&mut values, Value::Null)?;
+    push(&mut values, Value::Bool(true))?;
+    push(&mut values, Value::Bool(false))?;
+    push(&mut values, Value::Int(0))?;
+    push(&mut values, Value::Int(-1))?;
+    push(&mut values, Value::Int(i64::MAX))?;
+    push(&mut values, Value::Int(i64::MIN))?;
+    push(
+        &mut values,
+        Value::Text(Text::from_str(alloc, "\u{e9}\"\\")?),
+    )?;
+    push(
+        &mut values,
+        Value::Bytes(Blob::from_slice(alloc, b"\x00\xab")?),
+    )?;
+    push(answers, Answer::Scalars(values))
+}
+
+fn put_executions(alloc: Global, report: &mut Report) -> Result<(), OutOfMemory> {
+    let mut answers = List::empty(alloc);
+    put_rows(alloc, &mut answers)?;
+    push(&mut answers, Answer::Scalars(List::empty(alloc)))?;
+    put_values(alloc, &mut answers)?;
+    push(&mut answers, Answer::Count(0))?;
+    push(&mut answers, Answer::Count(u64::MAX))?;
+    push(&mut report.answers, answers)
+}
+
 fn put_parts(alloc: Global, bytes: &[&[u8]], parts: &mut List<Blob>) -> Result<(), OutOfMemory> {
     for part in bytes {
         push(parts, Blob::from_slice(alloc, part)?)?;
@@ -222,6 +289,7 @@ fn put(alloc: Global, name: &str, report: &mut Report) -> Result<(), OutOfMemory
         "settings" => put_settings(alloc, report),
         "answers" => put_answers(alloc, report),
         "statements" => put_statements(alloc, report),
+        "executions" => put_executions(alloc, report),
         "work" => put_work(alloc, report),
         _ => Ok(()),
     }

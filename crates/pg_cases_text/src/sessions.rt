@@ -1,8 +1,8 @@
 //! Session texts, and what they ask for.
 
 use pg_cases::written;
-use pg_text::{Command, Session, TextFault, session_text};
-use pg_types::{List, Oid};
+use pg_text::{Command, CommandTarget, Session, TextFault, session_text};
+use pg_types::{List, Oid, Value};
 use pg_wire::{Link, LinkRead, LinkWrite, MemoryLink};
 use std::alloc::{AllocError, Global};
 
@@ -25,6 +25,69 @@ fn tell_prepare(slot: u64, text: &str, types: &[Oid], out: &mut String) -> Resul
     write!(out, " prepare {slot} {text:?} {types:?}")
 }
 
+fn tell_target(target: &CommandTarget, out: &mut String) -> Result<(), AllocError> {
+    match target {
+        CommandTarget::Slot(slot) => write!(out, " @{slot}"),
+        CommandTarget::Text(text) => write!(out, " {:?}", text.as_str()),
+    }
+}
+
+fn tell_value(value: &Value, out: &mut String) -> Result<(), AllocError> {
+    match value {
+        Value::Null => out.push_str(" null"),
+        Value::Bool(bool) => write!(out, " {bool}"),
+        Value::Int(int) => write!(out, " {int}"),
+        Value::Text(text) => write!(out, " {:?}", text.as_str()),
+        Value::Bytes(bytes) => {
+            out.push_str(" bytes")?;
+            written::tell(bytes.as_slice(), out)
+        }
+    }
+}
+
+fn tell_execution(
+    name: &str,
+    target: &CommandTarget,
+    values: &[Value],
+    out: &mut String,
+) -> Result<(), AllocError> {
+    write!(out, " {name}")?;
+    tell_target(target, out)?;
+    for value in values {
+        tell_value(value, out)?;
+    }
+    Ok(())
+}
+
+/// A command that executes something, or closes it.
+fn tell_executed(command: &Command, out: &mut String) -> Result<(), AllocError> {
+    match command {
+        Command::Query { target, values } => {
+            tell_execution("query", target, values.as_slice(), out)
+        }
+        Command::QueryOne { target, values } => {
+            tell_execution("query_one", target, values.as_slice(), out)
+        }
+        Command::QueryOpt { target, values } => {
+            tell_execution("query_opt", target, values.as_slice(), out)
+        }
+        Command::QueryScalar { target, values } => {
+            tell_execution("query_scalar", target, values.as_slice(), out)
+        }
+        Command::QueryOneScalar { target, values } => {
+            tell_execution("query_one_scalar", target, values.as_slice(), out)
+        }
+        Command::QueryOptScalar { target, values } => {
+            tell_execution("query_opt_scalar", target, values.as_slice(), out)
+        }
+        Command::Execute { target, values } => {
+            tell_execution("execute", target, values.as_slice(), out)
+        }
+        Command::Close { slot } => write!(out, " close @{slot}"),
+        _ => out.push_str(" another"),
+    }
+}
+
 fn tell_command(command: &Command, out: &mut String) -> Result<(), AllocError> {
     match command {
         Command::Simple { text, take } => tell_simple(text.as_str(), *take, out),
@@ -34,6 +97,7 @@ fn tell_command(command: &Command, out: &mut String) -> Result<(), AllocError> {
             tell_prepare(*slot, text.as_str(), types.as_slice(), out)
         }
         Command::Clear => out.push_str(" clear"),
+        _ => tell_executed(command, out),
     }
 }
 

@@ -7,7 +7,7 @@ use Rattle.pg_spec.specs.SimpleQuery.{Item, Columns, Row, Complete}
 use Rattle.pg_text.specs.ReportText.{answer_items}
 use Rattle.pg_text.specs.Views.{item_of}
 use Rattle.pg_text.specs.declared.command.Answer.{Answer}
-use Rattle.pg_text.specs.declared.command.Answer.TheVariants.{Done, Failed, Messages, Statement}
+use Rattle.pg_text.specs.declared.command.Answer.TheVariants.{Count, Done, Failed, Messages, Rows, Scalars, Statement}
 use Rattle.pg_text.specs.declared.report.Report.{Report}
 use Rattle.pg_gen.specs.Counting.{count_lines, link_lines, none, with_answer, with_item, with_script}
 use Rattle.pg_gen.specs.Summaries.{affected_by, answers_of, is_failed, is_row, items_of, number_line, saturated, summary_text}
@@ -81,6 +81,9 @@ one_answer c (Messages messages) =
       complete = λ fits. omega (arith, h.complete fits, ap (sum_by affected_by) same);
     }
 one_answer c (Statement s) = record { commands = omega arith; failed = omega arith; messages = omega arith; rows = omega arith; complete = λ fits. omega arith }
+one_answer c (Rows s rows affected) = record { commands = omega arith; failed = omega arith; messages = omega arith; rows = omega arith; complete = λ fits. omega arith }
+one_answer c (Scalars values) = record { commands = omega arith; failed = omega arith; messages = omega arith; rows = omega arith; complete = λ fits. omega arith }
+one_answer c (Count n) = record { commands = omega arith; failed = omega arith; messages = omega arith; rows = omega arith; complete = λ fits. omega arith }
 one_answer c (Failed failure) = record { commands = omega arith; failed = omega arith; messages = omega arith; rows = omega arith; complete = λ fits. omega arith }
 
 all_answers : (c : Counts) (answers : List Answer) → Counted c (with_script c answers) answers

@@ -3,7 +3,7 @@ use Rattle.std.specs.Prelude.{ℕ, ◌+◌, List, [], ◌∷◌, flat_map, fold,
 use Rattle.pg_spec.specs.SimpleQuery.{Item, Columns, Row, Complete}
 use Rattle.pg_text.specs.Views.{item_of}
 use Rattle.pg_text.specs.declared.command.Answer.{Answer}
-use Rattle.pg_text.specs.declared.command.Answer.TheVariants.{Done, Failed, Messages, Statement}
+use Rattle.pg_text.specs.declared.command.Answer.TheVariants.{Count, Done, Failed, Messages, Rows, Scalars, Statement}
 use Rattle.pg_gen.specs.Summaries.{number_line, saturated}
 use Rattle.pg_gen.specs.declared.counts.Counts.{Counts}
 
@@ -18,6 +18,9 @@ abbrev pub with_answer : Counts → Answer → Counts
 with_answer c Done = record c { commands = c.commands + 1 }
 with_answer c (Messages messages) = fold with_item (record c { commands = c.commands + 1 }) (map item_of messages)
 with_answer c (Statement s) = record c { commands = c.commands + 1 }
+with_answer c (Rows s rows affected) = record c { commands = c.commands + 1 }
+with_answer c (Scalars values) = record c { commands = c.commands + 1 }
+with_answer c (Count n) = record c { commands = c.commands + 1 }
 with_answer c (Failed failure) = record c { commands = c.commands + 1; failed = c.failed + 1 }
 
 -- with the answers of a script

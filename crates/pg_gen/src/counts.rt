@@ -51,7 +51,11 @@ impl Counts {
     {
         self.commands = one_more(self.commands)?;
         match answer {
-            Answer::Done | Answer::Statement(_) => Ok(self),
+            Answer::Done
+            | Answer::Statement(_)
+            | Answer::Rows { .. }
+            | Answer::Scalars(_)
+            | Answer::Count(_) => Ok(self),
             Answer::Messages(messages) => self.with_messages(messages.as_slice()),
             Answer::Failed(_) => {
                 self.failed = one_more(self.failed)?;

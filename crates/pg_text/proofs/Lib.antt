@@ -3,6 +3,7 @@ pub mod Finding
 pub mod QuoteLaws
 pub mod WordLaws
 pub mod TypeNames
+pub mod GivenLaws
 pub mod LineLaws
 pub mod DraftLaws
 pub mod TextLaws

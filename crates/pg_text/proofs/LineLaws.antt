@@ -1,21 +1,27 @@
 -- Lines are read as they are spelled.
-use Rattle.std.proofs.Common.{◌≡◌, ◌≢◌, ◌<◌, ◌⊎◌, ℕ, true, false, List, [], ◌∷◌, ◌++◌, Option, Some, None, codes, refl, sym, ap, subst, ◌∙◌, append_assoc, append-nil, inl, inr}
+use Rattle.std.proofs.Common.{◌≡◌, ◌≢◌, ◌<◌, ◌⊎◌, ℕ, true, false, List, [], ◌∷◌, ◌++◌, length, get_or, Option, Some, None, codes, refl, sym, ap, subst, ◌∙◌, append_assoc, append-nil, inl, inr}
 use Rattle.std.specs.Prelude.{IsUtf8, is_none, cond, ◌==◌}
 use Rattle.std.specs.List.{AllZip, concat, join_with_byte}
 use Rattle.std.proofs.lemmas.Bool.{eqb-false}
 use Rattle.std.proofs.lemmas.List.Concat.{flat_map-append}
 use Rattle.pg_text.specs.SessionText as said
 use Rattle.pg_spec.specs.SessionText.{IsBytes, IsNumber, IsQuoted}
-use Rattle.pg_text.specs.SessionText.{IsTypeName, Spells}
+use Rattle.pg_text.specs.SessionText.{IsSlot, IsTarget, IsTypeName, IsValue, Spells, SpellsExecution}
+use Rattle.pg_types.specs.declared.value.Value.{Value}
+use Rattle.pg_text.specs.declared.command.CommandTarget.{CommandTarget}
+use Rattle.pg_text.specs.declared.execution.Execution.{Execution}
+use Rattle.pg_text.specs.declared.execution.Execution.TheVariants as form
+use Rattle.pg_text.specs.Executions.{FirstWordOf, command_of, execution_word}
 use Rattle.pg_text.specs.declared.line.Keyword.{Keyword}
-use Rattle.pg_text.specs.declared.line.Keyword.TheVariants.{Config, Nonce, Limit, Turns, Handle, Step, Cut, End, Simple, Batch, Check, Prepare, Clear}
+use Rattle.pg_text.specs.declared.line.Keyword.TheVariants.{Config, Nonce, Limit, Turns, Handle, Step, Cut, End, Simple, Batch, Check, Prepare, Clear, Executes, Close}
 use Rattle.pg_text.specs.declared.line.Line.{Line}
 use Rattle.pg_text.specs.declared.line.Line.TheVariants as line
 use Rattle.pg_text.specs.declared.command.Command.TheVariants as command
-use Rattle.pg_text.specs.Lines.{first_word, ReadsLine, ReadsRest, SaysSomething, WordsOf}
+use Rattle.pg_text.specs.Lines.{FirstWord, FirstWordAmong, command_keywords, first_word, session_keywords, ReadsLine, ReadsRest, SaysSomething, WordsOf}
 use Rattle.pg_text.specs.Words.{AllWords, behind, IsTextOf, IsUtf8Quoted, IsWord, left_text, NoSpace, OneWord, Takes, TakesNumber, TookAll}
 use Rattle.pg_text.proofs.WordLaws.{Ends, bytes_ends, no_space_from, number_ends, quoted_ends, word_ends}
 use Rattle.pg_text.proofs.TypeNames.{type_name_ends}
+use Rattle.pg_text.proofs.GivenLaws.{slot_ends, target_ends, value_ends}
 
 -- ---- words behind one another
 
@@ -229,11 +235,49 @@ prepare_typeless old mid last slot text taken quoted none l words (slot', text',
     let second = (after_word IsUtf8Quoted utf8_ends mid last text quoted text' word names (utf8, spelled) first).1 in
     none types names each second
 
+pub execution_some : (execution : Execution) (old mid : Option (List ℕ)) (to : CommandTarget) (values given : List Value) → given ≡ values →
+    Takes IsTarget old (Some to) mid → AllWords IsValue mid (Some values) → ReadsRest (Executes execution) old (Some (line.Command (command_of execution to given)))
+execution_some execution old mid to values given same taken all = (
+  said.CommandLine (command_of execution to given),
+  taken.0 ∷ all.0,
+  (to, given, taken.0, all.0, refl, taken.1, subst (λ (t : List Value). AllZip IsValue t all.0) (sym same) all.1, refl),
+  taken.2 ∙ ap (λ t. 32 ∷ taken.0 ++ t) all.2,
+  refl,
+)
+
+pub execution_targetless : (execution : Execution) (old new : Option (List ℕ)) → Takes IsTarget old None new → ReadsRest (Executes execution) old None
+execution_targetless execution old new none l words (to, values, word, given, is, named, each, same) e = no_word IsTarget old new none to word given named (e ∙ ap behind same)
+
+pub execution_valueless : (execution : Execution) (old mid : Option (List ℕ)) (to : CommandTarget) → Takes IsTarget old (Some to) mid → AllWords IsValue mid None → ReadsRest (Executes execution) old None
+execution_valueless execution old mid to taken none l words (other, values, word, given, is, named, each, same) e =
+    none values given each (after_word IsTarget target_ends old mid to taken other word given named (e ∙ ap behind same)).1
+
+pub close_some : (old : Option (List ℕ)) (slot : ℕ) → OneWord IsSlot old (Some slot) → ReadsRest Close old (Some (line.Command (command.Close slot)))
+close_some old slot (word, is, e) = (said.CommandLine (command.Close slot), word ∷ [], (slot, word, refl, is, refl), e, refl)
+
+pub close_none : (old : Option (List ℕ)) → OneWord IsSlot old None → ReadsRest Close old None
+close_none old none l words (slot, word, is, named, same) e = none slot word named (e ∙ ap behind same)
+
 -- ---- spelled lines
 
 join_words : (word : List ℕ) (words : List (List ℕ)) → join_with_byte 32 (word ∷ words) ≡ word ++ behind words
 join_words word [] = sym (append-nil word)
 join_words word (w ∷ words) = ap (λ t. word ++ (32 ∷ t)) (join_words w words)
+
+-- the words of a line that executes something
+execution_words : (execution : Execution) (to : CommandTarget) (values : List Value) (s : List ℕ) → SpellsExecution (execution_word execution) to values s →
+    (words : List (List ℕ)) × WordsOf (Executes execution) (said.CommandLine (command_of execution to values)) words × (s ≡ execution_word execution ++ behind words)
+execution_words execution to values s (word, given, named, each, e) = (word ∷ given, (to, values, word, given, refl, named, each, refl), e ∙ join_words (execution_word execution) (word ∷ given))
+
+-- and back
+execution_spells : (execution : Execution) (to : CommandTarget) (values : List Value) (s : List ℕ) → SpellsExecution (execution_word execution) to values s → Spells (said.CommandLine (command_of execution to values)) s
+execution_spells form.Query to values s h = h
+execution_spells form.QueryOne to values s h = h
+execution_spells form.QueryOpt to values s h = h
+execution_spells form.QueryScalar to values s h = h
+execution_spells form.QueryOneScalar to values s h = h
+execution_spells form.QueryOptScalar to values s h = h
+execution_spells form.Execute to values s h = h
 
 -- a line says nothing, or its first word tells what it is
 pub spelled_words : (l : said.Line) (s : List ℕ) → Spells l s →
@@ -269,6 +313,14 @@ spelled_words (said.CommandLine (command.Prepare slot text types)) s (utf8, numb
       e ∙ join_words (codes "prepare") (number ∷ word ∷ names),
     )
 spelled_words (said.CommandLine command.Clear) s h = inr (Clear, [], (refl, refl), h)
+spelled_words (said.CommandLine (command.Query to values)) s h = let found = execution_words form.Query to values s h in inr (Executes form.Query, found.0, found.1, found.2)
+spelled_words (said.CommandLine (command.QueryOne to values)) s h = let found = execution_words form.QueryOne to values s h in inr (Executes form.QueryOne, found.0, found.1, found.2)
+spelled_words (said.CommandLine (command.QueryOpt to values)) s h = let found = execution_words form.QueryOpt to values s h in inr (Executes form.QueryOpt, found.0, found.1, found.2)
+spelled_words (said.CommandLine (command.QueryScalar to values)) s h = let found = execution_words form.QueryScalar to values s h in inr (Executes form.QueryScalar, found.0, found.1, found.2)
+spelled_words (said.CommandLine (command.QueryOneScalar to values)) s h = let found = execution_words form.QueryOneScalar to values s h in inr (Executes form.QueryOneScalar, found.0, found.1, found.2)
+spelled_words (said.CommandLine (command.QueryOptScalar to values)) s h = let found = execution_words form.QueryOptScalar to values s h in inr (Executes form.QueryOptScalar, found.0, found.1, found.2)
+spelled_words (said.CommandLine (command.Execute to values)) s h = let found = execution_words form.Execute to values s h in inr (Executes form.Execute, found.0, found.1, found.2)
+spelled_words (said.CommandLine (command.Close slot)) s (word, named, e) = inr (Close, word ∷ [], (slot, word, refl, named, refl), e ∙ join_words (codes "close") (word ∷ []))
 
 pub words_spell : (keyword : Keyword) (l : said.Line) (words : List (List ℕ)) (s : List ℕ) → WordsOf keyword l words → s ≡ first_word keyword ++ behind words → Spells l s
 words_spell Config l words s (text, word, is, utf8, quoted, same) e =
@@ -296,6 +348,11 @@ words_spell Prepare l words s (slot, text, types, number, word, names, is, utf8,
     subst (λ (m : said.Line). Spells m s) (sym is)
     (utf8, number, word, names, digits, quoted, each, e ∙ sym (join_words (codes "prepare") words) ∙ ap (λ w. join_with_byte 32 (codes "prepare" ∷ w)) same)
 words_spell Clear l words s (is, same) e = subst (λ (m : said.Line). Spells m s) (sym is) (e ∙ ap (λ w. codes "clear" ++ behind w) same)
+words_spell (Executes execution) l words s (to, values, word, given, is, named, each, same) e =
+    subst (λ (m : said.Line). Spells m s) (sym is)
+    (execution_spells execution to values s (word, given, named, each, e ∙ sym (join_words (execution_word execution) words) ∙ ap (λ w. join_with_byte 32 (execution_word execution ∷ w)) same))
+words_spell Close l words s (slot, word, is, named, same) e =
+    subst (λ (m : said.Line). Spells m s) (sym is) (word, named, e ∙ sym (join_words (codes "close") words) ∙ ap (λ w. join_with_byte 32 (codes "close" ∷ w)) same)
 
 first_no_space : (keyword : Keyword) → NoSpace (first_word keyword)
 first_no_space Config = no_space_from (first_word Config) refl
@@ -311,17 +368,32 @@ first_no_space Batch = no_space_from (first_word Batch) refl
 first_no_space Check = no_space_from (first_word Check) refl
 first_no_space Prepare = no_space_from (first_word Prepare) refl
 first_no_space Clear = no_space_from (first_word Clear) refl
+first_no_space (Executes form.Query) = no_space_from (execution_word form.Query) refl
+first_no_space (Executes form.QueryOne) = no_space_from (execution_word form.QueryOne) refl
+first_no_space (Executes form.QueryOpt) = no_space_from (execution_word form.QueryOpt) refl
+first_no_space (Executes form.QueryScalar) = no_space_from (execution_word form.QueryScalar) refl
+first_no_space (Executes form.QueryOneScalar) = no_space_from (execution_word form.QueryOneScalar) refl
+first_no_space (Executes form.QueryOptScalar) = no_space_from (execution_word form.QueryOptScalar) refl
+first_no_space (Executes form.Execute) = no_space_from (execution_word form.Execute) refl
+first_no_space Close = no_space_from (first_word Close) refl
 
--- the line that a word begins, told by two letters
+-- the query that a word begins, by what stands behind its first two letters
+query_at : List ℕ → Execution
+query_at w =
+    cond (length w == 3) form.Query (cond (length w == 10) form.QueryScalar
+    (cond (length w == 7) (cond (get_or w 5 0 == 110) form.QueryOne form.QueryOpt) (cond (get_or w 5 0 == 110) form.QueryOneScalar form.QueryOptScalar)))
+
+-- the line that a word begins, told by its letters
 keyword_at : List ℕ → Keyword
 keyword_at [] = Config
 keyword_at (a ∷ []) = Config
 keyword_at (a ∷ b ∷ w) =
-    cond (a == 99) (cond (b == 111) Config (cond (b == 104) Check (cond (b == 108) Clear Cut)))
-    (cond (a == 110) Nonce (cond (a == 108) Limit (cond (a == 116) Turns (cond (a == 104) Handle (cond (a == 101) End (cond (a == 98) Batch (cond (a == 112) Prepare (cond (b == 116) Step Simple))))))))
+    cond (a == 99) (cond (b == 111) Config (cond (b == 104) Check (cond (b == 108) (cond (get_or w 0 0 == 101) Clear Close) Cut)))
+    (cond (a == 110) Nonce (cond (a == 108) Limit (cond (a == 116) Turns (cond (a == 104) Handle (cond (a == 101) (cond (b == 110) End (Executes form.Execute))
+    (cond (a == 98) Batch (cond (a == 112) Prepare (cond (a == 113) (Executes (query_at w)) (cond (b == 116) Step Simple)))))))))
 
 keyword_at-first_word : (keyword : Keyword) → keyword_at (first_word keyword) ≡ keyword
-unfolding keyword_at
+unfolding keyword_at query_at
 keyword_at-first_word Config = refl
 keyword_at-first_word Nonce = refl
 keyword_at-first_word Limit = refl
@@ -335,6 +407,32 @@ keyword_at-first_word Batch = refl
 keyword_at-first_word Check = refl
 keyword_at-first_word Prepare = refl
 keyword_at-first_word Clear = refl
+keyword_at-first_word (Executes form.Query) = refl
+keyword_at-first_word (Executes form.QueryOne) = refl
+keyword_at-first_word (Executes form.QueryOpt) = refl
+keyword_at-first_word (Executes form.QueryScalar) = refl
+keyword_at-first_word (Executes form.QueryOneScalar) = refl
+keyword_at-first_word (Executes form.QueryOptScalar) = refl
+keyword_at-first_word (Executes form.Execute) = refl
+keyword_at-first_word Close = refl
+
+-- a word that begins neither of the lines that are no commands, nor of the commands, begins no line
+pub no_keyword : (word : List ℕ) → FirstWordAmong session_keywords word None → FirstWordAmong command_keywords word None → FirstWordOf word None → FirstWord word None
+no_keyword word session commands none Config = session.0
+no_keyword word session commands none Nonce = session.1.0
+no_keyword word session commands none Limit = session.1.1.0
+no_keyword word session commands none Turns = session.1.1.1.0
+no_keyword word session commands none Handle = session.1.1.1.1.0
+no_keyword word session commands none Step = session.1.1.1.1.1.0
+no_keyword word session commands none Cut = session.1.1.1.1.1.1.0
+no_keyword word session commands none End = session.1.1.1.1.1.1.1.0
+no_keyword word session commands none Simple = commands.0
+no_keyword word session commands none Batch = commands.1.0
+no_keyword word session commands none Check = commands.1.1.0
+no_keyword word session commands none Prepare = commands.1.1.1.0
+no_keyword word session commands none Clear = commands.1.1.1.1.0
+no_keyword word session commands none Close = commands.1.1.1.1.1.0
+no_keyword word session commands none (Executes execution) = none execution
 
 same_keyword : (a b : Keyword) → first_word a ≡ first_word b → a ≡ b
 same_keyword a b e = sym (keyword_at-first_word a) ∙ ap keyword_at e ∙ keyword_at-first_word b
@@ -441,6 +539,12 @@ same_words Prepare l m ws vs (slot, t, types, number, w, names, p, utf8, digits,
     let third = all_same IsTypeName type_name_ends types types' names names' each each' second.1 in
     p ∙ (λ i. said.CommandLine (command.Prepare (first.0 i) (second.0 i) (third i))) ∙ sym q
 same_words Clear l m ws vs p q e = p.0 ∙ sym q.0
+same_words (Executes execution) l m ws vs (to, values, w, given, p, named, each, a) (to', values', v, given', q, named', each', b) e =
+    let first = first_of IsTarget target_ends to to' w v given given' named named' (ap behind (sym a) ∙ e ∙ ap behind b) in
+    let second = all_same IsValue value_ends values values' given given' each each' first.1 in
+    p ∙ (λ i. said.CommandLine (command_of execution (first.0 i) (second i))) ∙ sym q
+same_words Close l m ws vs (slot, w, p, named, a) (slot', v, q, named', b) e =
+    p ∙ ap (λ n. said.CommandLine (command.Close n)) (first_of IsSlot slot_ends slot slot' w v [] [] named named' (ap behind (sym a) ∙ e ∙ ap behind b)).0 ∙ sym q
 
 word_says : (keyword : Keyword) (t : List ℕ) → SaysSomething (first_word keyword ++ t)
 word_says Config t = eqb-false 99 35 refl
@@ -456,6 +560,14 @@ word_says Batch t = eqb-false 98 35 refl
 word_says Check t = eqb-false 99 35 refl
 word_says Prepare t = eqb-false 112 35 refl
 word_says Clear t = eqb-false 99 35 refl
+word_says (Executes form.Query) t = eqb-false 113 35 refl
+word_says (Executes form.QueryOne) t = eqb-false 113 35 refl
+word_says (Executes form.QueryOpt) t = eqb-false 113 35 refl
+word_says (Executes form.QueryScalar) t = eqb-false 113 35 refl
+word_says (Executes form.QueryOneScalar) t = eqb-false 113 35 refl
+word_says (Executes form.QueryOptScalar) t = eqb-false 113 35 refl
+word_says (Executes form.Execute) t = eqb-false 101 35 refl
+word_says Close t = eqb-false 99 35 refl
 
 -- a line is spelled by at most one line
 pub one_line : (l m : said.Line) (s : List ℕ) → Spells l s → Spells m s → l ≡ m

@@ -10,7 +10,7 @@ use Rattle.pg_text.specs.SessionText.{CanNotGoOn, CommandLine, ConfigLine, CutLi
 use Rattle.pg_text.specs.Sessions.{as_session}
 use Rattle.pg_text.specs.Views.{as_command, as_scripts}
 use Rattle.pg_text.specs.declared.command.Command.{Command}
-use Rattle.pg_text.specs.declared.command.Command.TheVariants.{Batch, Check, Clear, Prepare, Simple}
+use Rattle.pg_text.specs.declared.command.Command.TheVariants.{Batch, Check, Clear, Close, Execute, Prepare, Query, QueryOne, QueryOneScalar, QueryOpt, QueryOptScalar, QueryScalar, Simple}
 use Rattle.pg_text.proofs.LineLaws.{one_line}
 
 -- ---- lists of what is led elsewhere
@@ -180,6 +180,14 @@ back_command (Batch text) = simple.Simple text None
 back_command Check = simple.Simple [] None
 back_command (Prepare slot text types) = simple.Simple text None
 back_command Clear = simple.Simple [] None
+back_command (Query to values) = simple.Simple [] None
+back_command (QueryOne to values) = simple.Simple [] None
+back_command (QueryOpt to values) = simple.Simple [] None
+back_command (QueryScalar to values) = simple.Simple [] None
+back_command (QueryOneScalar to values) = simple.Simple [] None
+back_command (QueryOptScalar to values) = simple.Simple [] None
+back_command (Execute to values) = simple.Simple [] None
+back_command (Close slot) = simple.Simple [] None
 
 abbrev back_line : Line → said.Line
 back_line Nothing = said.Nothing
@@ -337,6 +345,14 @@ spells-back (CommandLine (Batch text)) w is h = absurd is
 spells-back (CommandLine Check) w is h = absurd is
 spells-back (CommandLine (Prepare slot text types)) w is h = absurd is
 spells-back (CommandLine Clear) w is h = absurd is
+spells-back (CommandLine (Query to values)) w is h = absurd is
+spells-back (CommandLine (QueryOne to values)) w is h = absurd is
+spells-back (CommandLine (QueryOpt to values)) w is h = absurd is
+spells-back (CommandLine (QueryScalar to values)) w is h = absurd is
+spells-back (CommandLine (QueryOneScalar to values)) w is h = absurd is
+spells-back (CommandLine (QueryOptScalar to values)) w is h = absurd is
+spells-back (CommandLine (Execute to values)) w is h = absurd is
+spells-back (CommandLine (Close slot)) w is h = absurd is
 
 zip-back : (lines : List Line) (spelled : List (List ℕ)) → AllByRecursion IsSimpleLine lines → AllZip Spells lines spelled → AllZip said.Spells (map back_line lines) spelled
 zip-back [] [] is h = tt

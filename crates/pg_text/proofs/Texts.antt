@@ -6,6 +6,7 @@ use Rattle.hex.specs.Hex.{encode_with}
 use Rattle.pg_statements.specs.declared.statement.Described.{Described}
 use Rattle.pg_text.specs.ReportText.{answer_lines, answer_words, further_lines}
 use Rattle.pg_text.specs.Written.{Adds, answered, behind_spaces}
+use Rattle.pg_text.specs.declared.command.Answer.{Answer}
 use Rattle.pg_text.specs.declared.command.Answer.TheVariants.{Statement}
 
 -- one piece, and then another
@@ -39,7 +40,18 @@ joined : (old start handle command words more : List ℕ) →
     (old ++ (start ++ 32 ∷ (handle ++ 32 ∷ command))) ++ (32 ∷ (words ++ 10 ∷ []) ++ more) ≡ old ++ ((start ++ 32 ∷ (handle ++ 32 ∷ (command ++ 32 ∷ words))) ++ 10 ∷ [] ++ more)
 joined old start handle command words more = grind (arith, common_steps)
 
--- a statement behind the numbers of its handle and command is the answer to a command
+-- an answer behind the numbers of its handle and command is the answer to a command, where these are its words
+pub answered_so : {A E Z : Type 0} (handle command : ℕ) (a : Answer) (old mid new : String Z) (r : Result A E) →
+    join_with_byte 32 (codes "answer" ∷ decimal handle ∷ decimal command ∷ answer_words a) ≡ codes "answer" ++ 32 ∷ (decimal handle ++ 32 ∷ (decimal command ++ 32 ∷ join_with_byte 32 (answer_words a))) →
+    string_bytes mid ≡ string_bytes old ++ (codes "answer" ++ 32 ∷ (decimal handle ++ 32 ∷ decimal command)) →
+    Adds (answered a) mid new r → Adds (answer_lines handle (command, a)) old new r
+answered_so handle command a old mid new (Ok x) words numbered added =
+    added ∙ ap (λ (t : List ℕ). t ++ answered a) numbered
+    ∙ joined (string_bytes old) (codes "answer") (decimal handle) (decimal command) (join_with_byte 32 (answer_words a)) (further_lines a)
+    ∙ ap (λ (t : List ℕ). string_bytes old ++ ((t ++ 10 ∷ []) ++ further_lines a)) (sym words)
+answered_so handle command a old mid new (Err e) words numbered added = added
+
+-- so is a statement
 pub answered_by : {A E Z : Type 0} (handle command : ℕ) (s : Described) (old mid new : String Z) (r : Result A E) →
     string_bytes mid ≡ string_bytes old ++ (codes "answer" ++ 32 ∷ (decimal handle ++ 32 ∷ decimal command)) →
     Adds (answered (Statement s)) mid new r → Adds (answer_lines handle (command, Statement s)) old new r

@@ -1,7 +1,7 @@
 -- Words are told from what stands behind them.
 use Rattle.std.proofs.Common.{◌≡◌, ◌≢◌, ◌<◌, ◌≤◌, ◌+◌, ◌*◌, ℕ, zero, suc, false, List, [], ◌∷◌, ◌++◌, length, get_or, take, drop, Option, Some, None, Result, Ok, Err, IfOk, IfSome, refl, sym, ap, subst, ◌∙◌, append-nil, lt-ltb, ltb-true, eq-eqb, eqb, ◌&&◌, inl, inr, arith, nat_lt}
 use lib.Pointwise.{pointwise}
-use Rattle.std.specs.Prelude.{EachIndex, IsUtf8, not, true, ◌==◌}
+use Rattle.std.specs.Prelude.{EachIndex, IsUtf8, not, option_map, true, ◌==◌}
 use Rattle.std.specs.List.{list_all}
 use Rattle.std.specs.Int.{IsInRange}
 use Rattle.std.proofs.lemmas.Str.{IsUtf8-from_ascii}
@@ -132,7 +132,7 @@ number_ends most = ends_at_space (IsNumber most) (number_no_space most) (λ x y 
 hex_digit_same : (c : ℕ) → hex_digit_value c ≡ hex_value c
 hex_digit_same c = grind (arith, nat_tests)
 
-hex_no_space : (bytes w : List ℕ) → IsHex bytes w → NoSpace w
+pub hex_no_space : (bytes w : List ℕ) → IsHex bytes w → NoSpace w
 hex_no_space [] w h = subst NoSpace (sym h) tt
 hex_no_space (b ∷ bytes) w (high, low, rest, fits, small, is, value, later) =
     subst NoSpace (sym is) (digit_no_space high 16 (omega arith), (digit_no_space low 16 (omega arith), hex_no_space bytes rest later))
@@ -153,7 +153,7 @@ hex_pairs i (b ∷ bytes) w (high, low, rest, fits, small, is, value, later) =
     let byte : digit_value high * 16 + digit_value low ≡ b = omega arith in
     rw (is, hex_value_some high fits, hex_value_some low small, hex_pairs (i + 2) bytes rest later, byte) refl
 
-hex_decodes : (bytes w : List ℕ) → IsHex bytes w → decode_of w ≡ Ok bytes
+pub hex_decodes : (bytes w : List ℕ) → IsHex bytes w → decode_of w ≡ Ok bytes
 hex_decodes bytes w h = decode_of-even w (omega (arith, hex_length bytes w h)) ∙ hex_pairs 0 bytes w h
 
 -- the value of a digit, where it is one
@@ -267,7 +267,7 @@ bytes_quoted (Some (b ∷ rest)) new None begins none = λ x word left means e. 
   | inr quoted ↦ none x word left quoted e
 ]
 
-begins : (old : Option (List ℕ)) (x word : List ℕ) (left : Option (List ℕ)) → IsQuoted x word → left_text old ≡ 32 ∷ word ++ left_text left → BeginsWithQuote old
+pub begins : (old : Option (List ℕ)) (x word : List ℕ) (left : Option (List ℕ)) → IsQuoted x word → left_text old ≡ 32 ∷ word ++ left_text left → BeginsWithQuote old
 begins None x word left means e = cc e
 begins (Some []) x word left (items, each, is) e = cc (ap (λ t. t ++ left_text left) (sym is) ∙ sym (cc_tail e))
 begins (Some (b ∷ rest)) x word left (items, each, is) e = cc_head (cc_tail e ∙ ap (λ t. t ++ left_text left) is)
@@ -279,8 +279,12 @@ bytes_hex old new None other none = λ x word left means e. elim means [
   | inr quoted ↦ other (begins old x word left quoted e)
 ]
 
-pub hex_means : (w bytes : List ℕ) → 0 < length w → decode_of w ≡ Ok bytes → IsHexWord bytes w
-hex_means w bytes some e = (hex_sound w bytes e, λ none. omega (arith, some, ap (λ (t : List ℕ). length t) none))
+-- bytes that are at least one
+pub some_hex : {V E : Type 0} (view : V → List ℕ) (w : List ℕ) (r : Result (Option V) E) → 0 < length w →
+    IfOk r (λ found. Means IsHex w (option_map view found)) → IfOk r (λ found. Means IsHexWord w (option_map view found))
+some_hex view w (Err e) some h = tt
+some_hex view w (Ok None) some h = λ bytes is. h bytes is.0
+some_hex view w (Ok (Some v)) some h = (h, λ none. omega (arith, some, ap (λ (t : List ℕ). length t) none))
 
 -- texts that were told apart
 pub other_text : (v w : List ℕ) → pointwise eqb v w ≡ false → v ≡ w → ⊥

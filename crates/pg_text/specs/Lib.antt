@@ -2,6 +2,7 @@ pub mod SessionText
 pub mod Drafts
 pub mod Scripts
 pub mod Words
+pub mod Executions
 pub mod Lines
 pub mod Views
 pub mod ReportText

@@ -1,12 +1,15 @@
 -- The lines of a session text, told by their first words.
 use Rattle.std.specs.Prelude.{◌≡◌, ◌≢◌, ◌≤◌, ◌⊎◌, ℕ, List, [], ◌∷◌, Option, Some, None, IsUtf8, codes}
-use Rattle.std.specs.List.{AllZip, concat}
+use Rattle.std.specs.List.{AllByRecursion, AllZip, concat}
 use Rattle.pg_text.specs.declared.command.Command.TheVariants as command
 use Rattle.pg_text.specs.SessionText as said
 use Rattle.pg_spec.specs.SessionText.{IsBytes, IsNumber, IsQuoted}
-use Rattle.pg_text.specs.SessionText.{IsTypeName, Spells}
+use Rattle.pg_text.specs.SessionText.{IsSlot, IsTarget, IsTypeName, IsValue, Spells}
+use Rattle.pg_types.specs.declared.value.Value.{Value}
+use Rattle.pg_text.specs.declared.command.CommandTarget.{CommandTarget}
+use Rattle.pg_text.specs.Executions.{command_of, execution_word}
 use Rattle.pg_text.specs.declared.line.Keyword.{Keyword}
-use Rattle.pg_text.specs.declared.line.Keyword.TheVariants.{Config, Nonce, Limit, Turns, Handle, Step, Cut, End, Simple, Batch, Check, Prepare, Clear}
+use Rattle.pg_text.specs.declared.line.Keyword.TheVariants.{Config, Nonce, Limit, Turns, Handle, Step, Cut, End, Simple, Batch, Check, Prepare, Clear, Executes, Close}
 use Rattle.pg_text.specs.declared.line.Line.{Line}
 use Rattle.pg_text.specs.declared.line.Line.TheVariants as line
 use Rattle.pg_text.specs.Words.{behind, left_text}
@@ -26,11 +29,26 @@ first_word Batch = codes "batch"
 first_word Check = codes "check"
 first_word Prepare = codes "prepare"
 first_word Clear = codes "clear"
+first_word (Executes execution) = execution_word execution
+first_word Close = codes "close"
 
 -- the word begins this line, or none
 abbrev pub FirstWord : List ℕ → Option Keyword → Type 0
 FirstWord word None = (keyword : Keyword) → word ≢ first_word keyword
 FirstWord word (Some keyword) = word ≡ first_word keyword
+
+-- the lines that are no commands
+abbrev pub session_keywords : List Keyword
+session_keywords = Config ∷ Nonce ∷ Limit ∷ Turns ∷ Handle ∷ Step ∷ Cut ∷ End ∷ []
+
+-- the commands other than those that execute a target
+abbrev pub command_keywords : List Keyword
+command_keywords = Simple ∷ Batch ∷ Check ∷ Prepare ∷ Clear ∷ Close ∷ []
+
+-- the word begins such a line, or none of these
+abbrev pub FirstWordAmong : List Keyword → List ℕ → Option Keyword → Type 0
+FirstWordAmong keywords word None = AllByRecursion (λ keyword. word ≢ first_word keyword) keywords
+FirstWordAmong keywords word (Some keyword) = word ≡ first_word keyword
 
 -- a line that was read stands for this one; of a step its bytes are kept, joined
 abbrev pub Stands : Line → said.Line → Type 0
@@ -65,6 +83,9 @@ WordsOf Prepare l words = (slot : ℕ) × (text : List ℕ) × (types : List ℕ
     × (l ≡ said.CommandLine (command.Prepare slot text types)) × IsUtf8 text × IsNumber 18446744073709551615 slot number × IsQuoted text word
     × AllZip IsTypeName types names × (words ≡ number ∷ word ∷ names)
 WordsOf Clear l words = (l ≡ said.CommandLine command.Clear) × (words ≡ [])
+WordsOf (Executes execution) l words = (to : CommandTarget) × (values : List Value) × (word : List ℕ) × (given : List (List ℕ))
+    × (l ≡ said.CommandLine (command_of execution to values)) × IsTarget to word × AllZip IsValue values given × (words ≡ word ∷ given)
+WordsOf Close l words = (slot : ℕ) × (word : List ℕ) × (l ≡ said.CommandLine (command.Close slot)) × IsSlot slot word × (words ≡ word ∷ [])
 
 -- behind the first word a line goes on so; None: there is no such line
 abbrev pub ReadsRest : Keyword → Option (List ℕ) → Option Line → Type 0

@@ -1,11 +1,15 @@
 -- The text of a session: its lines, how each is spelled, and what they mean together.
-use Rattle.std.specs.Prelude.{◌≡◌, ℕ, ◌+◌, ◌≤◌, ◌⊎◌, Bool, true, false, List, [], ◌∷◌, ◌++◌, length, map, filter, flat_map, filter_map, Option, Some, None, option_map, codes, IsUtf8}
+use Rattle.std.specs.Prelude.{◌≡◌, ℕ, ℤ, pos, ◌-ℤ◌, ◌+◌, ◌≤◌, ◌⊎◌, Bool, true, false, List, [], ◌∷◌, ◌++◌, length, map, filter, flat_map, filter_map, Option, Some, None, option_map, codes, IsUtf8}
 use Rattle.std.specs.List.{concat, slice_split, AllZip, list_any}
 use Rattle.std.specs.Str.{byte}
 use Rattle.pg_types.specs.BuiltIns.{row_of}
-use Rattle.pg_spec.specs.SessionText.{AreLines, IsBytes, IsNumber, IsQuoted, IsWords, default_nonce, one_or}
+use Rattle.pg_types.specs.declared.value.Value.{Value}
+use Rattle.pg_types.specs.declared.value.Value.TheVariants as value
+use Rattle.pg_spec.specs.SessionText.{AreLines, IsBytes, IsHex, IsNumber, IsQuoted, IsWords, default_nonce, one_or}
 use Rattle.pg_text.specs.declared.command.Command.{Command}
-use Rattle.pg_text.specs.declared.command.Command.TheVariants.{Batch, Check, Clear, Prepare, Simple}
+use Rattle.pg_text.specs.declared.command.Command.TheVariants.{Batch, Check, Clear, Close, Execute, Prepare, Query, QueryOne, QueryOneScalar, QueryOpt, QueryOptScalar, QueryScalar, Simple}
+use Rattle.pg_text.specs.declared.command.CommandTarget.{CommandTarget}
+use Rattle.pg_text.specs.declared.command.CommandTarget.TheVariants as target
 
 -- what a line says
 pub data Line : Type 0 where
@@ -24,6 +28,37 @@ pub data Line : Type 0 where
 -- the name of the built-in type with this oid
 abbrev pub IsTypeName : ℕ → List ℕ → Type 0
 IsTypeName oid name = option_map (λ row. row.name) (row_of oid) ≡ Some name
+
+-- the number of a slot
+abbrev pub IsSlot : ℕ → List ℕ → Type 0
+IsSlot slot word = (digits : List ℕ) × IsNumber 18446744073709551615 slot digits × (word ≡ byte "@" ∷ digits)
+
+-- what a command executes
+abbrev pub IsTarget : CommandTarget → List ℕ → Type 0
+IsTarget (target.Slot slot) word = IsSlot slot word
+IsTarget (target.Text text) word = IsUtf8 text × IsQuoted text word
+
+-- as far below 0
+abbrev pub minus : ℕ → ℤ
+minus n = pos 0 -ℤ pos n
+
+-- an integer of 64 bits, behind a minus where it is below 0
+abbrev pub IsInt : ℤ → List ℕ → Type 0
+IsInt z word = ((n : ℕ) × IsNumber 9223372036854775807 n word × (z ≡ pos n))
+    ⊎ ((n : ℕ) × (digits : List ℕ) × IsNumber 9223372036854775808 n digits × (word ≡ byte "-" ∷ digits) × (z ≡ minus n))
+
+-- a value
+abbrev pub IsValue : Value → List ℕ → Type 0
+IsValue value.Null word = word ≡ codes "null"
+IsValue (value.Bool true) word = word ≡ codes "true"
+IsValue (value.Bool false) word = word ≡ codes "false"
+IsValue (value.Int z) word = IsInt z word
+IsValue (value.Text text) word = IsUtf8 text × IsQuoted text word
+IsValue (value.Bytes bytes) word = (digits : List ℕ) × IsHex bytes digits × (word ≡ byte "x" ∷ digits)
+
+-- a target and values behind the first word of a line
+abbrev pub SpellsExecution : (first : List ℕ) → CommandTarget → List Value → List ℕ → Type 0
+SpellsExecution first to values spelled = (word : List ℕ) × (words : List (List ℕ)) × IsTarget to word × AllZip IsValue values words × IsWords first (word ∷ words) spelled
 
 -- how a line is spelled
 abbrev pub Spells : Line → List ℕ → Type 0
@@ -44,6 +79,14 @@ Spells (CommandLine Check) spelled = spelled ≡ codes "check"
 Spells (CommandLine (Prepare slot text types)) spelled = IsUtf8 text × (number : List ℕ) × (word : List ℕ) × (names : List (List ℕ))
     × IsNumber 18446744073709551615 slot number × IsQuoted text word × AllZip IsTypeName types names × IsWords (codes "prepare") (number ∷ word ∷ names) spelled
 Spells (CommandLine Clear) spelled = spelled ≡ codes "clear"
+Spells (CommandLine (Query to values)) spelled = SpellsExecution (codes "query") to values spelled
+Spells (CommandLine (QueryOne to values)) spelled = SpellsExecution (codes "query_one") to values spelled
+Spells (CommandLine (QueryOpt to values)) spelled = SpellsExecution (codes "query_opt") to values spelled
+Spells (CommandLine (QueryScalar to values)) spelled = SpellsExecution (codes "query_scalar") to values spelled
+Spells (CommandLine (QueryOneScalar to values)) spelled = SpellsExecution (codes "query_one_scalar") to values spelled
+Spells (CommandLine (QueryOptScalar to values)) spelled = SpellsExecution (codes "query_opt_scalar") to values spelled
+Spells (CommandLine (Execute to values)) spelled = SpellsExecution (codes "execute") to values spelled
+Spells (CommandLine (Close slot)) spelled = (word : List ℕ) × IsSlot slot word × IsWords (codes "close") (word ∷ []) spelled
 
 -- the text of a `config` line
 abbrev pub config_of : Line → Option (List ℕ)

@@ -2,6 +2,11 @@
 use Rattle.std.specs.Prelude.{◌≡◌, ◌≢◌, ℕ, Bool, true, false, List, [], ◌∷◌, ◌++◌, flat_map, Option, Some, None, IsUtf8, codes}
 use Rattle.std.specs.List.{AllZip, concat}
 use Rattle.pg_spec.specs.SessionText.{IsBytes, IsHex, IsNumber, IsQuoted}
+use Rattle.pg_types.specs.declared.value.Value.{Value}
+use Rattle.pg_types.specs.declared.value.Value.TheVariants as value
+use Rattle.pg_text.specs.SessionText.{IsTarget, IsValue}
+use Rattle.pg_text.specs.declared.command.CommandTarget.{CommandTarget}
+use Rattle.pg_text.specs.declared.command.CommandTarget.TheVariants as target
 
 -- what is left of a line, where words that aren't read yet stand behind a space
 abbrev pub left_text : Option (List ℕ) → List ℕ
@@ -35,6 +40,16 @@ IsHexWord bytes word = IsHex bytes word × (word ≢ [])
 -- a text in quotes that is UTF-8
 abbrev pub IsUtf8Quoted : List ℕ → List ℕ → Type 0
 IsUtf8Quoted text word = IsUtf8 text × IsQuoted text word
+
+-- a target that isn't a text
+abbrev pub IsBareTarget : CommandTarget → List ℕ → Type 0
+IsBareTarget (target.Text text) word = ⊥
+IsBareTarget other word = IsTarget other word
+
+-- a value that isn't a text
+abbrev pub IsBareValue : Value → List ℕ → Type 0
+IsBareValue (value.Text text) word = ⊥
+IsBareValue other word = IsValue other word
 
 -- what stands behind a text in quotes is left: the end, or words behind a space
 abbrev pub LeavesBehind : List ℕ → Bool → Option (List ℕ) → Type 0

@@ -1,9 +1,18 @@
 //! Commands of a script, and what they answer.
 
 use pg_errors::Error;
-use pg_query::SimpleMessage;
+use pg_query::{Cells, SimpleMessage};
 use pg_statements::Statement;
-use pg_types::{List, Oid, Text};
+use pg_types::{List, Oid, Text, Value};
+
+/// What a command executes.
+#[derive(Debug, Drop)]
+pub enum CommandTarget {
+    /// The statement in this slot of the script.
+    Slot(u64),
+    /// A text, which is prepared first and closed behind.
+    Text(Text),
+}
 
 /// A command of a script.
 #[derive(Debug, Drop)]
@@ -27,6 +36,45 @@ pub enum Command {
     },
     /// The types that are cached are forgotten; the statements that look types up stay.
     Clear,
+    /// A target is executed with these values, and its rows are the answer.
+    Query {
+        target: CommandTarget,
+        values: List<Value>,
+    },
+    /// The same, where it must give one row.
+    QueryOne {
+        target: CommandTarget,
+        values: List<Value>,
+    },
+    /// The same, where it may give one row at most.
+    QueryOpt {
+        target: CommandTarget,
+        values: List<Value>,
+    },
+    /// The same, where its rows have one column, whose values are the answer.
+    QueryScalar {
+        target: CommandTarget,
+        values: List<Value>,
+    },
+    /// The same, where it must give one row of one column.
+    QueryOneScalar {
+        target: CommandTarget,
+        values: List<Value>,
+    },
+    /// The same, where it may give one row of one column at most.
+    QueryOptScalar {
+        target: CommandTarget,
+        values: List<Value>,
+    },
+    /// A target is executed with these values, and the answer is how many rows it affected.
+    Execute {
+        target: CommandTarget,
+        values: List<Value>,
+    },
+    /// The statement in this slot is closed; then the slot is empty.
+    Close {
+        slot: u64,
+    },
 }
 
 /// What a command answers.
@@ -37,5 +85,15 @@ pub enum Answer {
     Messages(List<SimpleMessage>),
     /// The statement that was prepared.
     Statement(Statement),
+    /// The rows that a statement gave, and how many the last command affected, where one ended.
+    Rows {
+        statement: Statement,
+        rows: List<Cells>,
+        affected: Option<u64>,
+    },
+    /// The values of one column.
+    Scalars(List<Value>),
+    /// How many rows were affected.
+    Count(u64),
     Failed(Error),
 }

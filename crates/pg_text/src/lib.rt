@@ -2,6 +2,8 @@
 #![tactic(auto)]
 
 mod command;
+mod execution;
+mod given;
 mod laws;
 mod line;
 mod parse;
@@ -14,7 +16,7 @@ mod session;
 mod type_name;
 mod word;
 
-pub use command::{Answer, Command};
+pub use command::{Answer, Command, CommandTarget};
 pub use laws::{
     one_line, one_session, refused_is_none, simple_refusals_stay, simple_reports_print_so,
     simple_texts_stay,

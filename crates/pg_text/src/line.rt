@@ -4,13 +4,15 @@ ghost use Rattle.std.specs.Prelude.{◌<◌, IfOk, IfSome, option_map};
 ghost use Rattle.pg_spec.specs.SessionText.{IsNumber, IsQuoted};
 ghost use Rattle.pg_text.specs.declared.line.Keyword.TheVariants as first;
 ghost use Rattle.pg_text.specs.Drafts.{HasCut};
-ghost use Rattle.pg_text.specs.SessionText.{IsTypeName};
-ghost use Rattle.pg_text.specs.Lines.{FirstWord, ReadsLine, ReadsRest, SaysSomething};
+ghost use Rattle.pg_text.specs.SessionText.{IsSlot, IsTypeName, IsValue};
+ghost use Rattle.pg_text.specs.Lines.{FirstWord, FirstWordAmong, ReadsLine, ReadsRest, SaysSomething, command_keywords, session_keywords};
 ghost use Rattle.pg_text.specs.Words.{AllBytes, AllWords, IsTextOf, IsUtf8Quoted, OneWord, Takes, TakesNumber};
 
 use crate::command::Command;
+use crate::execution::{Execution, execution_of};
+use crate::given::{next_slot, next_target, next_value};
 use crate::word::Words;
-use pg_types::{Blob, List, Oid, OutOfMemory, Text};
+use pg_types::{Blob, List, Oid, OutOfMemory, Text, Value};
 use std::alloc::Global;
 
 /// What a line says.
@@ -78,11 +80,29 @@ enum Keyword {
     Check,
     Prepare,
     Clear,
+    Executes(Execution),
+    Close,
 }
 
 /// What line begins with this word.
 fn keyword_of(word: &[u8]) -> Option<Keyword>
     ensures { FirstWord word.now result }
+{
+    if let Some(keyword) = session_keyword_of(word) {
+        return Some(keyword);
+    }
+    if let Some(keyword) = command_keyword_of(word) {
+        return Some(keyword);
+    }
+    match execution_of(word) {
+        Some(execution) => Some(Keyword::Executes(execution)),
+        None => None,
+    }
+}
+
+/// What line that is no command begins with this word.
+fn session_keyword_of(word: &[u8]) -> Option<Keyword>
+    ensures { FirstWordAmong session_keywords word.now result }
 {
     if word == b"config".as_slice() {
         return Some(Keyword::Config);
@@ -108,6 +128,13 @@ fn keyword_of(word: &[u8]) -> Option<Keyword>
     if word == b"end".as_slice() {
         return Some(Keyword::End);
     }
+    None
+}
+
+/// What command begins with this word, other than those that execute a target.
+fn command_keyword_of(word: &[u8]) -> Option<Keyword>
+    ensures { FirstWordAmong command_keywords word.now result }
+{
     if word == b"simple".as_slice() {
         return Some(Keyword::Simple);
     }
@@ -122,6 +149,9 @@ fn keyword_of(word: &[u8]) -> Option<Keyword>
     }
     if word == b"clear".as_slice() {
         return Some(Keyword::Clear);
+    }
+    if word == b"close".as_slice() {
+        return Some(Keyword::Close);
     }
     None
 }
@@ -149,6 +179,8 @@ fn read_rest(
         Keyword::Check => Ok(check_line(words)),
         Keyword::Prepare => prepare_line(alloc, words),
         Keyword::Clear => Ok(clear_line(words)),
+        Keyword::Executes(execution) => execution_line(alloc, execution, words),
+        Keyword::Close => Ok(close_line(words)),
     }
 }
 
@@ -310,6 +342,43 @@ fn clear_line(words: &Words) -> Option<Line>
     }
 }
 
+/// `TARGET VALUE ..`.
+fn execution_line(
+    alloc: Global,
+    execution: Execution,
+    words: &mut Words,
+) -> Result<Option<Line>, OutOfMemory>
+    ensures line { IfOk result (λ found. ReadsRest (first.Executes execution) words.old found) }
+    ensures cut { IfOk result (λ found. IfSome found HasCut) }
+{
+    let Some(target) = next_target(alloc, words)? else {
+        return Ok(None);
+    };
+    let Some(values) = all_values(alloc, words)? else {
+        return Ok(None);
+    };
+    Ok(Some(Line::Command(execution.command(target, List::new(values)))))
+}
+
+/// `@SLOT`.
+fn close_line(words: &mut Words) -> Option<Line>
+    ensures line { ReadsRest first.Close words.old result }
+    ensures cut { IfSome result HasCut }
+{
+    match only_slot(words) {
+        Some(slot) => Some(Line::Command(Command::Close { slot })),
+        None => None,
+    }
+}
+
+/// `@` and the number of a slot, and nothing behind it.
+fn only_slot(words: &mut Words) -> Option<u64>
+    ensures { OneWord IsSlot words.old result }
+{
+    let number = next_slot(words);
+    if words.is_done() { number } else { None }
+}
+
 /// `take N`, and nothing behind it.
 fn take_number(words: &mut Words) -> Option<u64>
     ensures { TakesNumber words.old result }
@@ -365,7 +434,7 @@ fn only_text(alloc: Global, words: &mut Words) -> Result<Option<Text>, OutOfMemo
 }
 
 /// A text in quotes that is UTF-8.
-fn utf8_text(alloc: Global, words: &mut Words) -> Result<Option<Text>, OutOfMemory>
+pub(crate) fn utf8_text(alloc: Global, words: &mut Words) -> Result<Option<Text>, OutOfMemory>
     ensures { IfOk result (λ found. Takes IsUtf8Quoted words.old found words.new) }
 {
     match words.text(alloc)? {
@@ -410,6 +479,20 @@ fn all_types(alloc: Global, words: &mut Words) -> Result<Option<Vec<Oid>>, OutOf
         }
     }
     Ok(Some(types))
+}
+
+/// Values, up to the end.
+fn all_values(alloc: Global, words: &mut Words) -> Result<Option<Vec<Value>>, OutOfMemory>
+    ensures { IfOk result (λ found. AllWords IsValue words.old (option_map (λ values. values.items) found)) }
+{
+    let mut values = Vec::new(alloc);
+    while !words.is_done() {
+        match next_value(alloc, words)? {
+            Some(value) => values.push(value)?,
+            None => return Ok(None),
+        }
+    }
+    Ok(Some(values))
 }
 
 /// Bytes, up to the end, joined.

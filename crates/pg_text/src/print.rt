@@ -12,14 +12,14 @@ ghost use Rattle.pg_text.specs.Written as written;
 ghost use Rattle.pg_text.specs.Written.{Adds};
 
 use crate::command::Answer;
-use crate::put::{put, put_hex, put_number, put_quoted, put_signed};
+use crate::put::{put, put_hex, put_int, put_number, put_quoted, put_signed};
 use crate::report::{Pair, Report};
 use pg_desk::{Booking, Stamp};
 use pg_errors::{AsyncMessage, DbError, Error, Notification};
-use pg_query::SimpleMessage;
+use pg_query::{Cells, SimpleMessage};
 use pg_spec::TurnMark;
 use pg_statements::{Column, Statement};
-use pg_types::{Blob, List, OutOfMemory, Text, Type};
+use pg_types::{Blob, List, OutOfMemory, Text, Type, Value};
 use std::alloc::Global;
 
 /// The text of a report.
@@ -205,6 +205,13 @@ fn put_answer(
         Answer::Done => put_done(out),
         Answer::Messages(messages) => put_items(alloc, out, messages.as_slice()),
         Answer::Statement(statement) => put_statement(alloc, out, statement),
+        Answer::Rows {
+            statement,
+            rows,
+            affected,
+        } => put_result(alloc, out, statement, rows.as_slice(), *affected),
+        Answer::Scalars(values) => put_scalars(alloc, out, values.as_slice()),
+        Answer::Count(count) => put_count(out, *count),
         Answer::Failed(error) => put_failed(alloc, out, error),
     }
 }
@@ -270,6 +277,97 @@ fn put_column(alloc: Global, out: &mut String, column: &Column) -> Result<(), Ou
     put_quoted(alloc, out, column.name().as_bytes())?;
     put(out, " ")?;
     put_number(out, column.type_().oid() as u64)?;
+    put(out, "\n")
+}
+
+/// How many rows there are and were affected, and a line for each column and each row.
+fn put_result(
+    alloc: Global,
+    out: &mut String,
+    statement: &Statement,
+    rows: &[Cells],
+    affected: Option<u64>,
+) -> Result<(), OutOfMemory>
+    ensures { Adds (written.answered (Answer.Rows statement.now rows.now affected)) out.old out.new result }
+{
+    put(out, " rows ")?;
+    put_number(out, rows.len() as u64)?;
+    put(out, " ")?;
+    put_affected(out, affected)?;
+    put(out, "\n")?;
+    let columns = statement.columns();
+    put_described(alloc, out, columns)?;
+    put_rows(alloc, out, rows)
+}
+
+/// How many rows were affected, where a command ended.
+fn put_affected(out: &mut String, affected: Option<u64>) -> Result<(), OutOfMemory>
+    ensures { Adds (text.affected_word affected) out.old out.new result }
+{
+    match affected {
+        Some(affected) => put_number(out, affected),
+        None => put(out, "-"),
+    }
+}
+
+fn put_rows(alloc: Global, out: &mut String, rows: &[Cells]) -> Result<(), OutOfMemory>
+    ensures { Adds (flat_map text.row_line rows.now) out.old out.new result }
+{
+    for cells in rows {
+        put_row(alloc, out, cells.as_slice())?;
+    }
+    Ok(())
+}
+
+/// How many values there are, and a line for each.
+fn put_scalars(alloc: Global, out: &mut String, values: &[Value]) -> Result<(), OutOfMemory>
+    ensures { Adds (written.answered (Answer.Scalars values.now)) out.old out.new result }
+{
+    put(out, " scalars ")?;
+    put_number(out, values.len() as u64)?;
+    put(out, "\n")?;
+    put_values(alloc, out, values)
+}
+
+fn put_values(alloc: Global, out: &mut String, values: &[Value]) -> Result<(), OutOfMemory>
+    ensures { Adds (flat_map text.value_line values.now) out.old out.new result }
+{
+    for value in values {
+        put_value_line(alloc, out, value)?;
+    }
+    Ok(())
+}
+
+fn put_value_line(alloc: Global, out: &mut String, value: &Value) -> Result<(), OutOfMemory>
+    ensures { Adds (text.value_line value.now) out.old out.new result }
+{
+    put(out, "value ")?;
+    put_value(alloc, out, value)?;
+    put(out, "\n")
+}
+
+/// A value as a line of a session text has it.
+fn put_value(alloc: Global, out: &mut String, value: &Value) -> Result<(), OutOfMemory>
+    ensures { Adds (text.value_word value.now) out.old out.new result }
+{
+    match value {
+        Value::Null => put(out, "null"),
+        Value::Bool(true) => put(out, "true"),
+        Value::Bool(false) => put(out, "false"),
+        Value::Int(int) => put_int(alloc, out, *int),
+        Value::Text(text) => put_quoted(alloc, out, text.as_str().as_bytes()),
+        Value::Bytes(bytes) => {
+            put(out, "x")?;
+            put_hex(alloc, out, bytes.as_slice())
+        }
+    }
+}
+
+fn put_count(out: &mut String, count: u64) -> Result<(), OutOfMemory>
+    ensures { Adds (written.answered (Answer.Count count)) out.old out.new result }
+{
+    put(out, " count ")?;
+    put_number(out, count)?;
     put(out, "\n")
 }
 

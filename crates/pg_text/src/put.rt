@@ -32,6 +32,14 @@ pub(crate) fn put_signed(alloc: Global, out: &mut String, number: i32) -> Result
     put(out, text.as_str())
 }
 
+/// Adds an integer in decimal, with its sign where it is negative.
+pub(crate) fn put_int(alloc: Global, out: &mut String, int: i64) -> Result<(), OutOfMemory>
+    ensures { Adds (signed int) out.old out.new result }
+{
+    let text = format!(in alloc; "{int}")?;
+    put(out, text.as_str())
+}
+
 /// Adds bytes in hex.
 pub(crate) fn put_hex(alloc: Global, out: &mut String, bytes: &[u8]) -> Result<(), OutOfMemory>
     ensures { Adds (encode_lower bytes.now) out.old out.new result }

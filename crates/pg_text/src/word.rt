@@ -2,7 +2,7 @@
 
 ghost use Rattle.std.specs.Prelude.{◌≡◌, ◌≢◌, ◌<◌, ◌↔◌, ℕ, length, slice_index, EachIndex, IfOk, MatchOption, IsTrue, is_none, option_map};
 ghost use Rattle.std.specs.Int.{IsInRange};
-ghost use Rattle.pg_spec.specs.SessionText.{IsBytes, IsNumber, IsQuoted};
+ghost use Rattle.pg_spec.specs.SessionText.{IsBytes, IsHex, IsNumber, IsQuoted};
 ghost use Rattle.pg_text.specs.SessionText.{IsTypeName};
 ghost use Rattle.pg_text.specs.Words.{BeginsWithQuote, IsHexWord, IsWord, LeavesBehind, Means, Takes};
 
@@ -109,7 +109,7 @@ impl<'a> Words<'a> {
     }
 
     /// The next word begins with a quote.
-    fn is_at_quote(&self) -> bool
+    pub(crate) fn is_at_quote(&self) -> bool
         ensures { IsTrue result ↔ BeginsWithQuote self.now }
     {
         match self.rest {
@@ -190,13 +190,20 @@ fn are_digits(bytes: &[u8]) -> bool
     bytes.iter().all(|byte| byte.is_ascii_digit())
 }
 
-/// The bytes that hex digits of either case spell.
+/// The bytes that hex digits of either case spell, at least one.
 fn hex_bytes(alloc: Global, digits: &[u8]) -> Result<Option<Vec<u8>>, OutOfMemory>
     ensures { IfOk result (λ found. Means IsHexWord digits.now (option_map (λ bytes. bytes.items) found)) }
 {
     if digits.is_empty() {
         return Ok(None);
     }
+    hex_of(alloc, digits)
+}
+
+/// The bytes that hex digits of either case spell, which may be none.
+pub(crate) fn hex_of(alloc: Global, digits: &[u8]) -> Result<Option<Vec<u8>>, OutOfMemory>
+    ensures { IfOk result (λ found. Means IsHex digits.now (option_map (λ bytes. bytes.items) found)) }
+{
     match hex::decode(alloc, digits) {
         Ok(bytes) => Ok(Some(bytes)),
         Err(fault) => match fault {

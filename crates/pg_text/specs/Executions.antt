@@ -1,0 +1,33 @@
+-- The commands that execute a target with values.
+use Rattle.std.specs.Prelude.{◌≢◌, ◌≡◌, ℕ, List, Option, Some, None, codes}
+use Rattle.pg_types.specs.declared.value.Value.{Value}
+use Rattle.pg_text.specs.declared.command.Command.{Command}
+use Rattle.pg_text.specs.declared.command.Command.TheVariants as command
+use Rattle.pg_text.specs.declared.command.CommandTarget.{CommandTarget}
+use Rattle.pg_text.specs.declared.execution.Execution.{Execution}
+use Rattle.pg_text.specs.declared.execution.Execution.TheVariants.{Execute, Query, QueryOne, QueryOneScalar, QueryOpt, QueryOptScalar, QueryScalar}
+
+-- the command with this target and these values
+abbrev pub command_of : Execution → CommandTarget → List Value → Command
+command_of Query to values = command.Query to values
+command_of QueryOne to values = command.QueryOne to values
+command_of QueryOpt to values = command.QueryOpt to values
+command_of QueryScalar to values = command.QueryScalar to values
+command_of QueryOneScalar to values = command.QueryOneScalar to values
+command_of QueryOptScalar to values = command.QueryOptScalar to values
+command_of Execute to values = command.Execute to values
+
+-- the first word of its line
+abbrev pub execution_word : Execution → List ℕ
+execution_word Query = codes "query"
+execution_word QueryOne = codes "query_one"
+execution_word QueryOpt = codes "query_opt"
+execution_word QueryScalar = codes "query_scalar"
+execution_word QueryOneScalar = codes "query_one_scalar"
+execution_word QueryOptScalar = codes "query_opt_scalar"
+execution_word Execute = codes "execute"
+
+-- the word begins the line of this one, or of none
+abbrev pub FirstWordOf : List ℕ → Option Execution → Type 0
+FirstWordOf word None = (execution : Execution) → word ≢ execution_word execution
+FirstWordOf word (Some execution) = word ≡ execution_word execution
