@@ -71,6 +71,9 @@ back_answer (answer.Messages messages) = said.Items (map item_of messages)
 back_answer (answer.Failed e) = said.Failed e
 back_answer answer.Done = said.Items []
 back_answer (answer.Statement statement) = said.Items []
+back_answer (answer.Rows statement rows affected) = said.Items []
+back_answer (answer.Scalars values) = said.Items []
+back_answer (answer.Count n) = said.Items []
 
 answer-back : (a : said.Answer) → back_answer (as_answer a) ≡ a
 answer-back (said.Items items) = ap (λ (xs : List Item). said.Items xs) (items-back items)

@@ -43,3 +43,29 @@ holds-as-before (slot ∷ slots) number other statement apart = by (slot.number 
         h ∙ sym (ap (or_later (statement_in slots other))
         (ap (λ (n : ℕ). n == other) (eqb-true slot.number number e) ∙ differs number other apart))
     by false e h = ap (λ (later : Option Statement). or_later later (slot.number == other)) h
+
+-- ---- a slot that was emptied
+
+pub emptied : (slots : Slots) (number : ℕ) → statement_in (without slots number) number ≡ None
+emptied [] number = refl
+emptied (slot ∷ slots) number = by (slot.number == number) refl (emptied slots number)
+  where
+    by : (b : Bool) → (slot.number == number) ≡ b → statement_in (without slots number) number ≡ None →
+        statement_in (cond (not b) (slot ∷ without slots number) (without slots number)) number ≡ None
+    by true e h = h
+    by false e h = ap (λ (b : Bool). if b then Some slot.statement else statement_in (without slots number) number) e ∙ h
+
+-- the others hold what they held
+pub left-as-before : (slots : Slots) (number other : ℕ) → other ≢ number → statement_in (without slots number) other ≡ statement_in slots other
+left-as-before [] number other apart = refl
+left-as-before (slot ∷ slots) number other apart = by (slot.number == number) refl (left-as-before slots number other apart)
+  where
+    or_later : Option Statement → Bool → Option Statement
+    or_later later b = if b then Some slot.statement else later
+
+    by : (b : Bool) → (slot.number == number) ≡ b → statement_in (without slots number) other ≡ statement_in slots other →
+        statement_in (cond (not b) (slot ∷ without slots number) (without slots number)) other ≡ or_later (statement_in slots other) (slot.number == other)
+    by true e h =
+        h ∙ sym (ap (or_later (statement_in slots other))
+        (ap (λ (n : ℕ). n == other) (eqb-true slot.number number e) ∙ differs number other apart))
+    by false e h = ap (λ (later : Option Statement). or_later later (slot.number == other)) h

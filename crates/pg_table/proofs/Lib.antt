@@ -3,6 +3,7 @@ pub mod DoneDecides
 pub mod Decided
 pub mod Queries
 pub mod Holding
+pub mod Finding
 pub mod MappedCommands
 pub mod Counted
 pub mod SimpleMeans

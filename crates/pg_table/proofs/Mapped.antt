@@ -16,12 +16,12 @@ use Rattle.pg_query.specs.declared.desk_call.DeskCall.{DeskCall}
 use Rattle.pg_query.specs.declared.desk_call.Reply.{Reply}
 use Rattle.pg_query.specs.Dialogue.{Dialogue, Answer, Ask, Send, Leave, Read, Put, Finish, Close, HangUp, Call, Hear, feed, feed_one, after_reply, Steps, Walks, cleaning}
 use Rattle.pg_query.specs.Leaving.{Holds, Nothing, Request, LetsGo, after_reading}
-use Rattle.pg_query.specs.Meaning.{Place, Goes, GoesToAnswer, Pauses, GivesUp, MatchPoll}
+use Rattle.pg_query.specs.Meaning.{ForMessage, ForRoom, Place, Goes, GoesToAnswer, Pauses, GivesUp, MatchPoll, WaitsAt}
 use Rattle.futures.specs.declared.task.Poll.{Poll}
 use Rattle.futures.specs.declared.task.Poll.TheVariants.{Ready, Pending}
 use Rattle.pg_query.specs.Reading.{ends}
 use Rattle.pg_query.specs.Requests.{asks, reads_unless}
-use Rattle.pg_query.specs.Scripts.{IsRead, cleanup_of}
+use Rattle.pg_query.specs.Scripts.{IsPut, IsRead, cleanup_of}
 use Rattle.pg_course.specs.Dialogues as course
 use Rattle.pg_core.specs.Outcomes.{asked}
 use Rattle.pg_table.specs.Mapped.{mapped, mapped_answer, mapped_place, mapped_poll}
@@ -122,6 +122,14 @@ module _ {T U : Type 0} (f : T → U) where
   read-mapped (Call q refused next) h = absurd h
   read-mapped (Hear next) h = absurd h
 
+  put-mapped : (d : Dialogue T) → IsPut d → IsPut (mapped f d)
+  put-mapped (Put cleanup part d) h = tt
+  put-mapped _ h = absurd h
+
+  waits-mapped : (q : Place T) (es : List Event) → WaitsAt q es → WaitsAt (mapped_place f q) es
+  waits-mapped q es (ForMessage reads none) = ForMessage (read-mapped q.dialogue reads) none
+  waits-mapped q es (ForRoom puts part full) = ForRoom (put-mapped q.dialogue puts) part full
+
   -- what is left to do is the same
   left-mapped : (d : Dialogue T) → cleanup_of (mapped f d) ≡ cleanup_of d
   left-mapped (Read cleanup decides next) = refl
@@ -151,7 +159,7 @@ module _ {T U : Type 0} (f : T → U) where
     -- one that waits
     pub pauses-mapped : (q : Place T) → Pauses becomes stamp a p b q → Pauses becomes stamp a (mapped_place f p) b (mapped_place f q)
     unfolding goes-mapped
-    pauses-mapped q h = record { goes = goes-mapped q h.goes; reads = read-mapped q.dialogue h.reads; before = h.before; last = h.last }
+    pauses-mapped q h = record { goes = goes-mapped q h.goes; waits = waits-mapped q h.goes.events h.waits }
 
     -- either
     pub poll-mapped : (Live : Type 0) (q : Place T) (x : Poll (Result T Error)) → MatchPoll x (λ r. GoesToAnswer becomes stamp a p b r) (Pauses becomes stamp a p b q × Live) →

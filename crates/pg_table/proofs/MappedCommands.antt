@@ -36,7 +36,7 @@ module _ {T U : Type 0} (f : T → U) where
   told-lacks r is = ap (λ (x : Result T Error). mapped_answer f x) is
 
   pub command-mapped : (d : Dialogue T) → IsCommand d → IsCommand (mapped f d)
-  command-mapped d h = subst (λ (x : Dialogue U). IsCommand x) (behind-mapped d) (command-behind [] told told-command told-lacks d h)
+  command-mapped d h = subst (λ (x : Dialogue U). IsCommand x) (behind-mapped d) (command-behind [] tt told told-command told-lacks d h)
 
   pub books-mapped : (d : Dialogue T) → BooksWhole d → BooksWhole (mapped f d)
   books-mapped d h = subst (λ (x : Dialogue U). BooksWhole x) (behind-mapped d) (whole-behind [] told (λ r. tt) d h)

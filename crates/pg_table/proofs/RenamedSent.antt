@@ -19,7 +19,7 @@ use Rattle.pg_course.specs.Meanings.{Ending, Meaning}
 use Rattle.pg_failed.specs.Calls.{Call, apart}
 use Rattle.pg_promises.specs.Causes.{OfDialogue, startup_after}
 use Rattle.pg_failed.specs.Kept.{AsksAtOnce, BeginsWithRequest, HasNoCopy, NoneKeptBack}
-use Rattle.pg_failed.specs.Sent.{AskedInOrder, InScriptOrder, SentInOrder, course_so_far, outcome_in}
+use Rattle.pg_failed.specs.Sent.{AreBegun, AskedInOrder, InScriptOrder, SentInOrder, course_so_far, outcome_in, parts_of}
 use Rattle.pg_table.proofs.Renamed.{some-back}
 
 -- the same outcome, whose answer is told so
@@ -100,8 +100,7 @@ module _ {C D A B E Q R : Type 0} (meaning : Meaning C A E Q R) (asks : E → D 
   asked-back course handle place own (c ∷ cs) (inl u) =
       let o = same-outcome course handle place own c in
       inl (record {
-        more = u.more;
-        requests = u.requests ∙ ap (λ (x : Outcome Q (Ending B E)). x.requests) o;
+        requests = subst (λ (rs : List (List (List ℕ))). AreBegun (parts_of course handle place) rs) (ap (λ (x : Outcome Q (Ending B E)). x.requests) o) u.requests;
         asked = u.asked ∙ ap (λ (x : Outcome Q (Ending B E)). x.asked) o;
         none_later = u.none_later;
       })

@@ -11,7 +11,15 @@ use Rattle.pg_client.proofs.Done.{batch-free, done-free}
 use Rattle.pg_client.proofs.Leaving.{query-free}
 use Rattle.pg_faults.specs.declared.error.Error.{Error}
 use Rattle.pg_lookup.specs.Lookups.{clear, prepare}
-use Rattle.pg_lookup_laws.proofs.Commands.{clearing, preparing-text}
+use Rattle.pg_lookup_laws.proofs.Commands.{IsTaken, answers, clearing, preparing-text}
+use Rattle.pg_execute.specs.Executes as execution
+use Rattle.pg_execute.specs.declared.how_many.HowMany.{HowMany}
+use Rattle.pg_execute.specs.declared.how_many.HowMany.TheVariants.{Any, AtMostOne, One}
+use Rattle.pg_execute_laws.proofs.Commands.{closes-taken, executes-taken, on-text, queries-taken, scalars-taken}
+use Rattle.pg_statements.specs.declared.statement.Described.{Described}
+use Rattle.pg_types.specs.declared.value.Value.{Value}
+use Rattle.pg_text.specs.declared.command.CommandTarget.{CommandTarget}
+use Rattle.pg_text.specs.declared.command.CommandTarget.TheVariants as target
 use Rattle.pg_query.specs.Dialogue.{Dialogue as Code}
 use Rattle.pg_query.specs.Leaving.{Nothing}
 use Rattle.pg_query.specs.Reading.{ends}
@@ -30,14 +38,43 @@ use Rattle.pg_core.specs.Times.{IsCommand}
 use Rattle.pg_core.proofs.Requests.{request-so}
 use Rattle.pg_turns.specs.Speeches.{AreCommands, BookWhole, BooksWhole, IsWholeRequest, LetGo, meaning_of}
 use Rattle.pg_table.specs.Mapped.{mapped, mapped_answer}
-use Rattle.pg_table.specs.Slots.{Slots}
-use Rattle.pg_table.specs.Table.{in_done, in_messages, in_statement, kept_answer, table, simply}
+use Rattle.pg_table.specs.Slots.{Slots, statement_in}
+use Rattle.pg_table.specs.Table.{in_count, in_done, in_messages, in_rows, in_scalars, in_statement, kept_answer, says_close, says_execute, says_query, says_query_scalar, table, simply}
+use Rattle.pg_table.specs.Targets.{on_target, or_missing}
 use Rattle.pg_table.specs.declared.state.AnyAnswer.{AnyAnswer}
 use Rattle.pg_table.proofs.Decided.{whole-decides}
 use Rattle.pg_table.proofs.DoneDecides.{done-decides, whole-sync}
 use Rattle.pg_table.proofs.Mapped.{asked-mapped, asks-mapped, decides-mapped, lets-mapped, reading_in}
 use Rattle.pg_table.proofs.MappedCommands.{books-mapped, command-mapped}
 use Rattle.pg_table.proofs.Queries.{whole-query}
+
+-- ---- what is done with a statement in a slot, or with a text
+
+-- where there is none, nothing is asked
+or-missing : {T : Type 0} (body : Described → Code T) → ((s : Described) → IsTaken (body s)) → (o : Option Described) → IsTaken (or_missing body o)
+or-missing body h (Some s) = h s
+or-missing body h None = answers _
+
+on-target : {T : Type 0} (own : Slots) (to : CommandTarget) (body : Described → Code T) → ((s : Described) → IsTaken (body s)) → IsTaken (on_target own to body)
+on-target own (target.Slot slot) body h = or-missing body h (statement_in own slot)
+on-target own (target.Text text) body h = on-text text body h
+
+-- so are its answers in other words
+taken-mapped : {T : Type 0} (f : T → AnyAnswer) (d : Code T) → IsTaken d → IsTaken (mapped f d)
+taken-mapped f d h = record { command = command-mapped f d h.command; lets_go = lets-mapped f Nothing d h.lets_go; whole = books-mapped f d h.whole }
+
+says-query : (how : HowMany) (own : Slots) (to : CommandTarget) (values : List Value) → IsTaken (says_query how own to values)
+says-query how own to values = taken-mapped in_rows (on_target own to (λ s. execution.query how s values)) (on-target own to (λ s. execution.query how s values) (λ s. queries-taken how s values))
+
+says-scalar : (how : HowMany) (own : Slots) (to : CommandTarget) (values : List Value) → IsTaken (says_query_scalar how own to values)
+says-scalar how own to values =
+    taken-mapped in_scalars (on_target own to (λ s. execution.query_scalar how s values)) (on-target own to (λ s. execution.query_scalar how s values) (λ s. scalars-taken how s values))
+
+says-execute : (own : Slots) (to : CommandTarget) (values : List Value) → IsTaken (says_execute own to values)
+says-execute own to values = taken-mapped in_count (on_target own to (λ s. execution.execute s values)) (on-target own to (λ s. execution.execute s values) (λ s. executes-taken s values))
+
+says-close : (own : Slots) (slot : ℕ) → IsTaken (says_close own slot)
+says-close own slot = taken-mapped in_done (or_missing execution.close (statement_in own slot)) (or-missing execution.close closes-taken (statement_in own slot))
 
 -- ---- they decide in time
 
@@ -66,6 +103,14 @@ are-commands own (command.Batch text) = batch-command (query_frame text)
 are-commands own command.Check = request-mapped in_done false sync_frame check_reading (done-decides false)
 are-commands own (command.Prepare slot text types) = command-mapped in_statement (prepare text types) (preparing-text text types).command
 are-commands own command.Clear = command-mapped in_done clear clearing.command
+are-commands own (command.Query to values) = (says-query Any own to values).command
+are-commands own (command.QueryOne to values) = (says-query One own to values).command
+are-commands own (command.QueryOpt to values) = (says-query AtMostOne own to values).command
+are-commands own (command.QueryScalar to values) = (says-scalar Any own to values).command
+are-commands own (command.QueryOneScalar to values) = (says-scalar One own to values).command
+are-commands own (command.QueryOptScalar to values) = (says-scalar AtMostOne own to values).command
+are-commands own (command.Execute to values) = (says-execute own to values).command
+are-commands own (command.Close slot) = (says-close own slot).command
 
 -- ---- and book whole requests
 
@@ -99,6 +144,14 @@ book-whole own (command.Batch text) = batch-whole text (query_frame text) refl
 book-whole own command.Check = whole-mapped in_done false sync_frame check_reading whole-sync
 book-whole own (command.Prepare slot text types) = books-mapped in_statement (prepare text types) (preparing-text text types).whole
 book-whole own command.Clear = books-mapped in_done clear clearing.whole
+book-whole own (command.Query to values) = (says-query Any own to values).whole
+book-whole own (command.QueryOne to values) = (says-query One own to values).whole
+book-whole own (command.QueryOpt to values) = (says-query AtMostOne own to values).whole
+book-whole own (command.QueryScalar to values) = (says-scalar Any own to values).whole
+book-whole own (command.QueryOneScalar to values) = (says-scalar One own to values).whole
+book-whole own (command.QueryOptScalar to values) = (says-scalar AtMostOne own to values).whole
+book-whole own (command.Execute to values) = (says-execute own to values).whole
+book-whole own (command.Close slot) = (says-close own slot).whole
 
 -- ---- and let them go
 
@@ -108,6 +161,14 @@ let-go own (command.Batch text) = lets-mapped in_done Nothing (batch_execute tex
 let-go own command.Check = lets-mapped in_done Nothing check_connection (done-free false sync_frame)
 let-go own (command.Prepare slot text types) = lets-mapped in_statement Nothing (prepare text types) (preparing-text text types).lets_go
 let-go own command.Clear = lets-mapped in_done Nothing clear clearing.lets_go
+let-go own (command.Query to values) = (says-query Any own to values).lets_go
+let-go own (command.QueryOne to values) = (says-query One own to values).lets_go
+let-go own (command.QueryOpt to values) = (says-query AtMostOne own to values).lets_go
+let-go own (command.QueryScalar to values) = (says-scalar Any own to values).lets_go
+let-go own (command.QueryOneScalar to values) = (says-scalar One own to values).lets_go
+let-go own (command.QueryOptScalar to values) = (says-scalar AtMostOne own to values).lets_go
+let-go own (command.Execute to values) = (says-execute own to values).lets_go
+let-go own (command.Close slot) = (says-close own slot).lets_go
 
 -- ---- and mean what the headline says
 
@@ -147,3 +208,11 @@ are-simple own (command.Batch text) text' take' e = absurd cc
 are-simple own command.Check text' take' e = absurd cc
 are-simple own (command.Prepare slot text types) text' take' e = absurd cc
 are-simple own command.Clear text' take' e = absurd cc
+are-simple own (command.Query to values) text' take' e = absurd cc
+are-simple own (command.QueryOne to values) text' take' e = absurd cc
+are-simple own (command.QueryOpt to values) text' take' e = absurd cc
+are-simple own (command.QueryScalar to values) text' take' e = absurd cc
+are-simple own (command.QueryOneScalar to values) text' take' e = absurd cc
+are-simple own (command.QueryOptScalar to values) text' take' e = absurd cc
+are-simple own (command.Execute to values) text' take' e = absurd cc
+are-simple own (command.Close slot) text' take' e = absurd cc

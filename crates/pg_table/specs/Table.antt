@@ -4,6 +4,10 @@ use Rattle.pg_faults.specs.declared.error.Error.{Error}
 use Rattle.pg_client.specs.Done.{batch_execute, check_connection}
 use Rattle.pg_client.specs.Simple.{answer_from, simple_query}
 use Rattle.pg_course.specs.Simples.{Simply}
+use Rattle.pg_execute.specs.Executes as execution
+use Rattle.pg_execute.specs.declared.how_many.HowMany.{HowMany}
+use Rattle.pg_execute.specs.declared.how_many.HowMany.TheVariants.{Any, AtMostOne, One}
+use Rattle.pg_execute.specs.declared.result_set.ResultSet.{ResultSet}
 use Rattle.pg_lookup.specs.Lookups.{clear, prepare}
 use Rattle.pg_query.specs.Dialogue.{Dialogue}
 use Rattle.pg_query.specs.declared.simple_message.SimpleMessage.{SimpleMessage}
@@ -12,13 +16,16 @@ use Rattle.pg_text.specs.declared.command.Answer.{Answer}
 use Rattle.pg_text.specs.declared.command.Answer.TheVariants as answer
 use Rattle.pg_text.specs.declared.command.Command.{Command}
 use Rattle.pg_text.specs.declared.command.Command.TheVariants as command
+use Rattle.pg_text.specs.declared.command.CommandTarget.{CommandTarget}
+use Rattle.pg_types.specs.declared.value.Value.{Value}
 use Rattle.pg_turns.specs.Handles.{HandleState}
 use Rattle.pg_turns.specs.Speeches.{Speech}
 use Rattle.pg_turns.specs.States.{SessionState}
 use Rattle.pg_table.specs.Mapped.{mapped, mapped_answer}
-use Rattle.pg_table.specs.Slots.{Slots, with_statement}
+use Rattle.pg_table.specs.Slots.{Slots, statement_in, with_statement, without}
+use Rattle.pg_table.specs.Targets.{on_target, or_missing}
 use Rattle.pg_table.specs.declared.state.AnyAnswer.{AnyAnswer}
-use Rattle.pg_table.specs.declared.state.AnyAnswer.TheVariants.{Done, Messages, Statement}
+use Rattle.pg_table.specs.declared.state.AnyAnswer.TheVariants.{Count, Done, Messages, Rows, Scalars, Statement}
 
 -- the messages of a simple query as an answer
 abbrev pub in_messages : List SimpleMessage → AnyAnswer
@@ -32,6 +39,38 @@ in_done x = Done
 abbrev pub in_statement : Described → AnyAnswer
 in_statement statement = Statement statement
 
+-- the rows of a query as an answer
+abbrev pub in_rows : ResultSet → AnyAnswer
+in_rows set = Rows set
+
+-- the values of one column as an answer
+abbrev pub in_scalars : List Value → AnyAnswer
+in_scalars values = Scalars values
+
+-- how many rows were affected as an answer
+abbrev pub in_count : ℕ → AnyAnswer
+in_count n = Count n
+
+-- ---- what a command executes
+
+-- query, query_one, query_opt
+abbrev pub says_query : HowMany → Slots → CommandTarget → List Value → Dialogue AnyAnswer
+says_query how slots to values = mapped in_rows (on_target slots to (λ s. execution.query how s values))
+
+-- query_scalar, query_one_scalar, query_opt_scalar
+abbrev pub says_query_scalar : HowMany → Slots → CommandTarget → List Value → Dialogue AnyAnswer
+says_query_scalar how slots to values = mapped in_scalars (on_target slots to (λ s. execution.query_scalar how s values))
+
+-- execute
+abbrev pub says_execute : Slots → CommandTarget → List Value → Dialogue AnyAnswer
+says_execute slots to values = mapped in_count (on_target slots to (λ s. execution.execute s values))
+
+-- close
+abbrev pub says_close : Slots → ℕ → Dialogue AnyAnswer
+says_close slots slot = mapped in_done (or_missing execution.close (statement_in slots slot))
+
+-- ---- the table
+
 -- what a command asks and answers, by the slots of its script: a line for each
 abbrev pub says_of : Slots → Command → Dialogue AnyAnswer
 says_of slots (command.Simple text take) = mapped in_messages (simple_query text take)
@@ -39,12 +78,23 @@ says_of slots (command.Batch text) = mapped in_done (batch_execute text)
 says_of slots command.Check = mapped in_done check_connection
 says_of slots (command.Prepare slot text types) = mapped in_statement (prepare text types)
 says_of slots command.Clear = mapped in_done clear
+says_of slots (command.Query to values) = says_query Any slots to values
+says_of slots (command.QueryOne to values) = says_query One slots to values
+says_of slots (command.QueryOpt to values) = says_query AtMostOne slots to values
+says_of slots (command.QueryScalar to values) = says_query_scalar Any slots to values
+says_of slots (command.QueryOneScalar to values) = says_query_scalar One slots to values
+says_of slots (command.QueryOptScalar to values) = says_query_scalar AtMostOne slots to values
+says_of slots (command.Execute to values) = says_execute slots to values
+says_of slots (command.Close slot) = says_close slots slot
 
 -- the answer that is kept of a command
 abbrev pub kept_answer : Result AnyAnswer Error → Answer
 kept_answer (Ok (Messages messages)) = answer.Messages messages
 kept_answer (Ok Done) = answer.Done
 kept_answer (Ok (Statement statement)) = answer.Statement statement
+kept_answer (Ok (Rows set)) = answer.Rows set.statement set.rows set.affected
+kept_answer (Ok (Scalars values)) = answer.Scalars values
+kept_answer (Ok (Count n)) = answer.Count n
 kept_answer (Err e) = answer.Failed e
 
 -- the slots behind a prepare that answered so: the statement stands in its slot
@@ -52,10 +102,21 @@ abbrev pub slots_behind_prepare : Slots → ℕ → Result AnyAnswer Error → S
 slots_behind_prepare slots slot (Ok (Statement statement)) = with_statement slots slot statement
 slots_behind_prepare slots slot r = slots
 
--- the slots of its script behind a command that answered so
+-- the slots of its script behind a command that answered so: a line for each
 abbrev pub slots_behind : Slots → Command → Result AnyAnswer Error → Slots
+slots_behind slots (command.Simple text take) r = slots
+slots_behind slots (command.Batch text) r = slots
+slots_behind slots command.Check r = slots
 slots_behind slots (command.Prepare slot text types) r = slots_behind_prepare slots slot r
-slots_behind slots c r = slots
+slots_behind slots command.Clear r = slots
+slots_behind slots (command.Query to values) r = slots
+slots_behind slots (command.QueryOne to values) r = slots
+slots_behind slots (command.QueryOpt to values) r = slots
+slots_behind slots (command.QueryScalar to values) r = slots
+slots_behind slots (command.QueryOneScalar to values) r = slots
+slots_behind slots (command.QueryOptScalar to values) r = slots
+slots_behind slots (command.Execute to values) r = slots
+slots_behind slots (command.Close slot) r = without slots slot
 
 -- the table of commands: a script keeps its slots between them, and none holds a statement before the first
 abbrev pub table : Speech Command AnyAnswer Answer Slots

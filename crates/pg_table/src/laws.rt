@@ -1,6 +1,6 @@
 //! What is promised over any commands, of those of the table. Each body does nothing.
 
-ghost use Rattle.std.specs.Prelude.{◌≡◌, ◌≢◌, ℕ, List, Result, Some};
+ghost use Rattle.std.specs.Prelude.{◌≡◌, ◌≢◌, ℕ, List, Result, None, Some};
 ghost use Rattle.pg_course.specs.Simples.{AreSimple, Headline};
 ghost use Rattle.pg_failed.specs.Calls.{Call};
 ghost use Rattle.pg_failed.specs.Kept.{NoneKeptBack};
@@ -19,7 +19,7 @@ ghost use Rattle.pg_text.specs.declared.command.Command.{Command};
 ghost use Rattle.pg_statements.specs.declared.statement.Described.{Described as Statement};
 ghost use Rattle.pg_turns.specs.Speeches.{AreCommands, BookWhole, LetGo, meaning_of};
 ghost use Rattle.pg_table.specs.Headlines.{AnsweredSimply, simple_call, simple_meaning, simple_session, simple_words};
-ghost use Rattle.pg_table.specs.Slots.{Slots, statement_in, with_statement};
+ghost use Rattle.pg_table.specs.Slots.{Slots, statement_in, with_statement, without};
 ghost use Rattle.pg_table.specs.Table.{simply, table};
 
 /// The commands of the table are commands that a session takes, they book whole requests and let each go, and its simple queries
@@ -62,4 +62,10 @@ pub fn slots_hold_what_was_put_last()
     ensures held { (slots : Slots) (number : ℕ) (statement : Statement) → statement_in (with_statement slots number statement) number ≡ Some statement }
     ensures others { (slots : Slots) (number other : ℕ) (statement : Statement) → other ≢ number →
         statement_in (with_statement slots number statement) other ≡ statement_in slots other }
+{}
+
+/// A slot that was emptied holds nothing, and the others hold what they held.
+pub fn emptied_slots_hold_nothing()
+    ensures emptied { (slots : Slots) (number : ℕ) → statement_in (without slots number) number ≡ None }
+    ensures others { (slots : Slots) (number other : ℕ) → other ≢ number → statement_in (without slots number) other ≡ statement_in slots other }
 {}

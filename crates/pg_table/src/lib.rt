@@ -2,12 +2,14 @@
 #![tactic(auto)]
 
 mod laws;
+mod making;
 mod slots;
 mod state;
 
 pub use laws::{
-    failed_sessions_of_simple_queries, sessions_of_simple_queries, simple_queries_of_the_table,
-    slots_hold_what_was_put_last, the_table_is_of_commands,
+    emptied_slots_hold_nothing, failed_sessions_of_simple_queries, sessions_of_simple_queries,
+    simple_queries_of_the_table, slots_hold_what_was_put_last, the_table_is_of_commands,
 };
+pub use making::begin;
 pub use slots::{Slot, Slots};
-pub use state::{AnyAnswer, AnyState, begin, keep};
+pub use state::{AnyAnswer, AnyState, keep};

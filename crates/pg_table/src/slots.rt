@@ -1,7 +1,7 @@
 //! What a script keeps between its commands: its prepared statements, by the numbers of their slots.
 
-ghost use Rattle.std.specs.Prelude.{◌≡◌, [], MatchResult};
-ghost use Rattle.pg_table.specs.Slots.{with_statement, without};
+ghost use Rattle.std.specs.Prelude.{◌≡◌, [], MatchResult, option_map};
+ghost use Rattle.pg_table.specs.Slots.{statement_in, with_statement, without};
 
 use pg_statements::Statement;
 use pg_types::OutOfMemory;
@@ -44,6 +44,20 @@ impl Slots {
         }
     }
 
+    /// The statement in the slot of this number.
+    pub fn get(&self, number: u64) -> Option<&Statement>
+        ensures { option_map (λ s. s.now) result ≡ statement_in self.now number }
+    {
+        statement_at(self.slots.as_slice(), number)
+    }
+
+    /// Empties the slot of this number.
+    pub fn empty(&mut self, number: u64)
+        ensures { self.new ≡ without self.old number }
+    {
+        forget(&mut self.slots, number)
+    }
+
     /// Puts a statement into a slot. A former one is forgotten, also where memory lacks.
     pub fn put(&mut self, number: u64, statement: Statement) -> Result<(), OutOfMemory>
         ensures { MatchResult result (λ _. self.new ≡ with_statement self.old number statement) (λ _. self.new ≡ without self.old number) }
@@ -54,6 +68,18 @@ impl Slots {
             Err(_) => Err(OutOfMemory),
         }
     }
+}
+
+/// The statement in the slot of this number.
+fn statement_at(slots: &[Slot], number: u64) -> Option<&Statement>
+    ensures { option_map (λ s. s.now) result ≡ statement_in slots.now number }
+{
+    for slot in slots {
+        if slot.number == number {
+            return Some(&slot.statement);
+        }
+    }
+    None
 }
 
 /// Empties the slot of this number.

@@ -1,20 +1,21 @@
 //! The states of all commands in one, and what they answer.
 
-ghost use Rattle.std.specs.Prelude.{◌≡◌, IfErr, IfOk, MatchResult, OnOk};
+ghost use Rattle.std.specs.Prelude.{◌≡◌, Ok, IfErr, IfOk, OnOk};
 ghost use Rattle.pg_table.specs.Mapped.{mapped_poll};
-ghost use Rattle.pg_table.specs.States.{IsLive, place_of};
-ghost use Rattle.pg_table.specs.Table.{in_done, in_messages, in_statement, kept_answer, says_of, slots_behind, slots_behind_prepare};
+ghost use Rattle.pg_table.specs.Table.{in_count, in_done, in_messages, in_rows, in_scalars, in_statement, kept_answer, slots_behind, slots_behind_prepare};
 
 use crate::slots::Slots;
 use futures::task::Poll;
 use pg_client::{BatchExecuteState, CheckConnectionState, SimpleQueryState};
 use pg_desk::{Desk, Stamp};
 use pg_errors::Error;
+use pg_execute::ResultSet;
+use pg_executed::{CloseState, ExecuteState, MissingState, QueryScalarState, QueryState};
 use pg_prepared::{ClearState, PrepareState};
 use pg_query::{Polled, SimpleMessage};
 use pg_statements::Statement;
 use pg_text::{Answer, Command};
-use pg_types::List;
+use pg_types::{List, Value};
 use std::alloc::Global;
 
 /// The state of a command that runs. It stands on the heap, so that what holds it is small.
@@ -25,6 +26,11 @@ pub enum AnyState<'a> {
     Check(Box<CheckConnectionState>),
     Prepare(Box<PrepareState<'a>>),
     Clear(Box<ClearState>),
+    Query(Box<QueryState<'a>>),
+    Scalar(Box<QueryScalarState<'a>>),
+    Execute(Box<ExecuteState<'a>>),
+    Close(Box<CloseState>),
+    Missing(Box<MissingState>),
 }
 
 /// What a state answers.
@@ -33,43 +39,9 @@ pub enum AnyAnswer {
     Messages(List<SimpleMessage>),
     Done,
     Statement(Statement),
-}
-
-/// The state of a command, by the slots of its script. OutOfMemory comes where there is no room for it.
-pub fn begin<'a>(alloc: Global, command: &'a Command, slots: &Slots) -> Result<AnyState<'a>, Error>
-    ensures live { IfOk result IsLive }
-    ensures asks { IfOk result (λ state. (place_of state).dialogue ≡ says_of slots.now command.now) }
-    ensures error { IfErr result (λ e. e ≡ Error.OutOfMemory) }
-{
-    match command {
-        Command::Simple { text, take } => {
-            let state = boxed(alloc, SimpleQueryState::new(text.as_str(), *take))?;
-            Ok(AnyState::Simple(state))
-        }
-        Command::Batch { text } => {
-            let state = boxed(alloc, BatchExecuteState::new(text.as_str()))?;
-            Ok(AnyState::Batch(state))
-        }
-        Command::Check => {
-            let state = boxed(alloc, CheckConnectionState::new())?;
-            Ok(AnyState::Check(state))
-        }
-        Command::Prepare { text, types, .. } => {
-            let state = boxed(alloc, PrepareState::new(text.as_str(), types.as_slice()))?;
-            Ok(AnyState::Prepare(state))
-        }
-        Command::Clear => {
-            let state = boxed(alloc, ClearState::new())?;
-            Ok(AnyState::Clear(state))
-        }
-    }
-}
-
-/// Puts a value on the heap.
-fn boxed<T: Drop>(alloc: Global, value: T) -> Result<Box<T>, Error>
-    ensures { MatchResult result (λ boxed. boxed.value ≡ value) (λ e. e ≡ Error.OutOfMemory) }
-{
-    Ok(Box::new(alloc, value)?)
+    Rows(ResultSet),
+    Scalars(List<Value>),
+    Count(u64),
 }
 
 /// Keeps what the script of a command keeps of its answer, and gives the answer that its report has. OutOfMemory comes where there
@@ -83,8 +55,10 @@ pub fn keep(
     ensures slots { OnOk result (slots.new ≡ slots_behind slots.old command.now answer) }
     ensures error { IfErr result (λ e. e ≡ Error.OutOfMemory) }
 {
-    if let Command::Prepare { slot, .. } = command {
-        keep_prepared(slots, *slot, &answer)?;
+    match command {
+        Command::Prepare { slot, .. } => keep_prepared(slots, *slot, &answer)?,
+        Command::Close { slot } => slots.empty(*slot),
+        _ => {}
     }
     Ok(told(answer))
 }
@@ -112,7 +86,23 @@ fn told(answer: Result<AnyAnswer, Error>) -> Answer
         Ok(AnyAnswer::Messages(messages)) => Answer::Messages(messages),
         Ok(AnyAnswer::Done) => Answer::Done,
         Ok(AnyAnswer::Statement(statement)) => Answer::Statement(statement),
+        Ok(AnyAnswer::Rows(set)) => told_rows(set),
+        Ok(AnyAnswer::Scalars(values)) => Answer::Scalars(values),
+        Ok(AnyAnswer::Count(count)) => Answer::Count(count),
         Err(error) => Answer::Failed(error),
+    }
+}
+
+/// Rows as an answer.
+fn told_rows(set: ResultSet) -> Answer
+    ensures { result ≡ kept_answer (Ok (AnyAnswer.Rows set)) }
+{
+    let affected = set.affected();
+    let (statement, rows) = set.into_parts();
+    Answer::Rows {
+        statement,
+        rows,
+        affected,
     }
 }
 
@@ -149,6 +139,39 @@ fn statement(polled: Poll<Result<Statement, Error>>) -> Poll<Result<AnyAnswer, E
     }
 }
 
+/// A poll of a query.
+fn rows(polled: Poll<Result<ResultSet, Error>>) -> Poll<Result<AnyAnswer, Error>>
+    ensures { result ≡ mapped_poll in_rows polled }
+{
+    match polled {
+        Poll::Ready(Ok(set)) => Poll::Ready(Ok(AnyAnswer::Rows(set))),
+        Poll::Ready(Err(error)) => Poll::Ready(Err(error)),
+        Poll::Pending => Poll::Pending,
+    }
+}
+
+/// A poll of a query of one column.
+fn scalars(polled: Poll<Result<List<Value>, Error>>) -> Poll<Result<AnyAnswer, Error>>
+    ensures { result ≡ mapped_poll in_scalars polled }
+{
+    match polled {
+        Poll::Ready(Ok(values)) => Poll::Ready(Ok(AnyAnswer::Scalars(values))),
+        Poll::Ready(Err(error)) => Poll::Ready(Err(error)),
+        Poll::Pending => Poll::Pending,
+    }
+}
+
+/// A poll of an execution.
+fn count(polled: Poll<Result<u64, Error>>) -> Poll<Result<AnyAnswer, Error>>
+    ensures { result ≡ mapped_poll in_count polled }
+{
+    match polled {
+        Poll::Ready(Ok(count)) => Poll::Ready(Ok(AnyAnswer::Count(count))),
+        Poll::Ready(Err(error)) => Poll::Ready(Err(error)),
+        Poll::Pending => Poll::Pending,
+    }
+}
+
 impl<'a> Polled for AnyState<'a> {
     ghost use Rattle.pg_table.specs.States.{IsLive, place_of};
 
@@ -170,6 +193,11 @@ impl<'a> Polled for AnyState<'a> {
             AnyState::Check(state) => done(state.poll(alloc, desk, stamp)),
             AnyState::Prepare(state) => statement(state.poll(alloc, desk, stamp)),
             AnyState::Clear(state) => done(state.poll(alloc, desk, stamp)),
+            AnyState::Query(state) => rows(state.poll(alloc, desk, stamp)),
+            AnyState::Scalar(state) => scalars(state.poll(alloc, desk, stamp)),
+            AnyState::Execute(state) => count(state.poll(alloc, desk, stamp)),
+            AnyState::Close(state) => done(state.poll(alloc, desk, stamp)),
+            AnyState::Missing(state) => done(state.poll(alloc, desk, stamp)),
         }
     }
 
@@ -180,6 +208,11 @@ impl<'a> Polled for AnyState<'a> {
             AnyState::Check(state) => Box::into_inner(state).hang_up(alloc, desk, stamp),
             AnyState::Prepare(state) => Box::into_inner(state).hang_up(alloc, desk, stamp),
             AnyState::Clear(state) => Box::into_inner(state).hang_up(alloc, desk, stamp),
+            AnyState::Query(state) => Box::into_inner(state).hang_up(alloc, desk, stamp),
+            AnyState::Scalar(state) => Box::into_inner(state).hang_up(alloc, desk, stamp),
+            AnyState::Execute(state) => Box::into_inner(state).hang_up(alloc, desk, stamp),
+            AnyState::Close(state) => Box::into_inner(state).hang_up(alloc, desk, stamp),
+            AnyState::Missing(state) => Box::into_inner(state).hang_up(alloc, desk, stamp),
         }
     }
 }

@@ -6,7 +6,7 @@ use Rattle.pg_failed.specs.Calls.{Call, apart}
 use Rattle.pg_failed.specs.Completeness.{MustEndWell}
 use Rattle.pg_failed.specs.Kept.{NoneKeptBack}
 use Rattle.pg_failed.specs.Landed.{has_flush}
-use Rattle.pg_failed.specs.Sent.{AskedInOrder, InScriptOrder, SentInOrder, course_so_far, outcome_in}
+use Rattle.pg_failed.specs.Sent.{AskedInOrder, InScriptOrder, SentInOrder, course_so_far}
 use Rattle.pg_faults.specs.declared.error.Error.{Error}
 use Rattle.pg_faults.specs.declared.error.Error.TheVariants as error
 use Rattle.pg_headline.specs.Endings.{IsRun, Report}
@@ -102,8 +102,7 @@ module _ (call : Call Command) (settings : Settings) (given : List ℕ) where
   none-begun : (handle : ℕ) (script : List Command) → AskedInOrder (meaning_of table) empty_course handle 0 table.begins script
   none-begun handle [] = tt
   none-begun handle (c ∷ cs) = inl (record {
-    more = (outcome_in (meaning_of table) empty_course handle 0 table.begins c).requests;
-    requests = refl;
+    requests = tt;
     asked = sym (asks-nothing ((meaning_of table).asks table.begins c) [] []);
     none_later = λ later lt. (refl, refl);
   })

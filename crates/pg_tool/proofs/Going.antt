@@ -15,6 +15,8 @@ use Rattle.pg_session.specs.Measure.{IsNearer}
 use Rattle.pg_table.specs.Table.{TableSession, table}
 use Rattle.pg_turns.specs.Turns.{HandsOn, Makes, Turns}
 use Rattle.pg_session.proofs.Nearer.{answered-nearer, nearer-so}
+use Rattle.pg_session.proofs.Nearer.Puts.{whole-put-none}
+use Rattle.pg_table.proofs.SimpleMeans.{book-whole}
 use Rattle.pg_tool.specs.declared.play.Play.{Play}
 use Rattle.pg_tool.proofs.OnScripts.{next_on}
 use Rattle.pg_tool.specs.Plays.{ConnectionPolled, HandlePolled, IsGoing, IsLimited, Leaves, is_over, state_of}
@@ -48,7 +50,7 @@ goes_so : (scripts : List (List Command)) (turn : ℕ) (p u : Play) (l m : LinkV
 goes_so scripts turn p u l m None going within turns = tt
 goes_so scripts turn p u l m (Some moved) going within turns =
     let limited = within_so scripts turn (state_of p) (state_of u) l m turns.0 going.within within in
-    let so = answered-nearer table scripts turn (state_of p) (state_of u) l m moved turns going.under_way limited in
+    let so = answered-nearer table (whole-put-none table book-whole) scripts turn (state_of p) (state_of u) l m moved turns going.under_way limited in
     record {
       going = record { under_way = so.under_way; on_scripts = next_on scripts turn (state_of p) (state_of u) l m false turns.0 going.on_scripts; within = limited };
       nearer = nearer-so scripts moved (state_of p) (state_of u) so.falls;

@@ -131,9 +131,9 @@ impl<'a> Handle<'a> {
         ensures { result ≡ self.entry.answers.items }
     {
         let Handle {
-            running: _,
+            running: _running,
             answers,
-            slots: _,
+            slots: _slots,
         } = self;
         List::new(answers)
     }

@@ -1,8 +1,13 @@
 use Rattle.pg_client.specs.DoneStates.{IsLiveBatch, IsLiveCheck, place_of_batch, place_of_check}
 use Rattle.pg_client.specs.Queries.{IsLiveQuery, place_of_query}
+use Rattle.pg_executed.specs.States.{IsLiveClose, place_of_close}
+use Rattle.pg_executed.specs.contracts.query.QueryStatePolled.TheImpl as queried
+use Rattle.pg_executed.specs.contracts.query_scalar.QueryScalarStatePolled.TheImpl as scalars_queried
+use Rattle.pg_executed.specs.contracts.execute.ExecuteStatePolled.TheImpl as executed
+use Rattle.pg_executed.specs.contracts.missing.MissingStatePolled.TheImpl as missing
 use Rattle.pg_prepared.specs.States.{IsLiveClear, place_of_clear}
 use Rattle.pg_prepared.specs.contracts.prepare.PrepareStatePolled.TheImpl as prepared
-use Rattle.pg_table.specs.Table.{in_done, in_messages, in_statement}
+use Rattle.pg_table.specs.Table.{in_count, in_done, in_messages, in_rows, in_scalars, in_statement}
 use Rattle.pg_table.proofs.Mapped.{poll-mapped}
 use Rattle.pg_table.proofs.state.AnyStatePolled.poll.Goals as goal
 
@@ -35,3 +40,33 @@ returns-in-Clear g c =
     rw (c.done-in-Clear.ensures, c.in-Clear.is)
     (poll-mapped in_done g.D.Desk.becomes c.args.stamp c.args.desk.now (place_of_clear c.in-Clear.state.value) c.poll-in-Clear.new.desk (IsLiveClear c.poll-in-Clear.new.self) (place_of_clear c.poll-in-Clear.new.self)
     c.poll-in-Clear.result (rw c.deref_mut-in-Clear.ensures.value at c.poll-in-Clear.ensures))
+
+pub returns-in-Query : goal.returns-in-Query
+returns-in-Query g c =
+    rw (c.rows.ensures, c.in-Query.is)
+    (poll-mapped in_rows g.D.Desk.becomes c.args.stamp c.args.desk.now (queried.ghosts.place c.in-Query.state.value) c.poll-in-Query.new.desk (queried.ghosts.is_live c.poll-in-Query.new.self) (queried.ghosts.place c.poll-in-Query.new.self)
+    c.poll-in-Query.result (rw c.deref_mut-in-Query.ensures.value at c.poll-in-Query.ensures))
+
+pub returns-in-Scalar : goal.returns-in-Scalar
+returns-in-Scalar g c =
+    rw (c.scalars.ensures, c.in-Scalar.is)
+    (poll-mapped in_scalars g.D.Desk.becomes c.args.stamp c.args.desk.now (scalars_queried.ghosts.place c.in-Scalar.state.value) c.poll-in-Scalar.new.desk (scalars_queried.ghosts.is_live c.poll-in-Scalar.new.self) (scalars_queried.ghosts.place c.poll-in-Scalar.new.self)
+    c.poll-in-Scalar.result (rw c.deref_mut-in-Scalar.ensures.value at c.poll-in-Scalar.ensures))
+
+pub returns-in-Execute : goal.returns-in-Execute
+returns-in-Execute g c =
+    rw (c.count.ensures, c.in-Execute.is)
+    (poll-mapped in_count g.D.Desk.becomes c.args.stamp c.args.desk.now (executed.ghosts.place c.in-Execute.state.value) c.poll-in-Execute.new.desk (executed.ghosts.is_live c.poll-in-Execute.new.self) (executed.ghosts.place c.poll-in-Execute.new.self)
+    c.poll-in-Execute.result (rw c.deref_mut-in-Execute.ensures.value at c.poll-in-Execute.ensures))
+
+pub returns-in-Close : goal.returns-in-Close
+returns-in-Close g c =
+    rw (c.done-in-Close.ensures, c.in-Close.is)
+    (poll-mapped in_done g.D.Desk.becomes c.args.stamp c.args.desk.now (place_of_close c.in-Close.state.value) c.poll-in-Close.new.desk (IsLiveClose c.poll-in-Close.new.self) (place_of_close c.poll-in-Close.new.self)
+    c.poll-in-Close.result (rw c.deref_mut-in-Close.ensures.value at c.poll-in-Close.ensures))
+
+pub returns-in-Missing : goal.returns-in-Missing
+returns-in-Missing g c =
+    rw (c.done-in-Missing.ensures, c.in-Missing.is)
+    (poll-mapped in_done g.D.Desk.becomes c.args.stamp c.args.desk.now (missing.ghosts.place c.in-Missing.state.value) c.poll-in-Missing.new.desk (missing.ghosts.is_live c.poll-in-Missing.new.self) (missing.ghosts.place c.poll-in-Missing.new.self)
+    c.poll-in-Missing.result (rw c.deref_mut-in-Missing.ensures.value at c.poll-in-Missing.ensures))

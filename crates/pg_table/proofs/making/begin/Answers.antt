@@ -1,0 +1,28 @@
+use Rattle.pg_table.proofs.making.begin.Goals as goal
+
+pub returns-in-Prepare-clause-asks : goal.returns-in-Prepare-clause-asks
+returns-in-Prepare-clause-asks c = rw c.in-Prepare.is c.prepare.ensures.asks
+
+pub returns-in-Query-clause-asks : goal.returns-in-Query-clause-asks
+returns-in-Query-clause-asks c = rw c.in-Query.is c.query.ensures.asks
+
+pub returns-in-QueryOne-clause-asks : goal.returns-in-QueryOne-clause-asks
+returns-in-QueryOne-clause-asks c = rw c.in-QueryOne.is c.query-in-QueryOne.ensures.asks
+
+pub returns-in-QueryOpt-clause-asks : goal.returns-in-QueryOpt-clause-asks
+returns-in-QueryOpt-clause-asks c = rw c.in-QueryOpt.is c.query-in-QueryOpt.ensures.asks
+
+pub returns-in-QueryScalar-clause-asks : goal.returns-in-QueryScalar-clause-asks
+returns-in-QueryScalar-clause-asks c = rw c.in-QueryScalar.is c.query_scalar.ensures.asks
+
+pub returns-in-QueryOneScalar-clause-asks : goal.returns-in-QueryOneScalar-clause-asks
+returns-in-QueryOneScalar-clause-asks c = rw c.in-QueryOneScalar.is c.query_scalar-in-QueryOneScalar.ensures.asks
+
+pub returns-in-QueryOptScalar-clause-asks : goal.returns-in-QueryOptScalar-clause-asks
+returns-in-QueryOptScalar-clause-asks c = rw c.in-QueryOptScalar.is c.query_scalar-in-QueryOptScalar.ensures.asks
+
+pub returns-in-Execute-clause-asks : goal.returns-in-Execute-clause-asks
+returns-in-Execute-clause-asks c = rw c.in-Execute.is c.execute.ensures.asks
+
+pub returns-in-Close-clause-asks : goal.returns-in-Close-clause-asks
+returns-in-Close-clause-asks c = rw c.in-Close.is c.close.ensures.asks

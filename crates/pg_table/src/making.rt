@@ -1,0 +1,219 @@
+//! The states of commands, as they begin.
+
+ghost use Rattle.std.specs.Prelude.{◌≡◌, Err, IfErr, IfOk, MatchResult};
+ghost use Rattle.pg_client.specs.Done as done;
+ghost use Rattle.pg_client.specs.Simple as simple;
+ghost use Rattle.pg_lookup.specs.Lookups as lookups;
+ghost use Rattle.pg_query.specs.Dialogue.{Answer};
+ghost use Rattle.pg_table.specs.Mapped.{mapped};
+ghost use Rattle.pg_table.specs.States.{IsLive, place_of};
+ghost use Rattle.pg_table.specs.Table.{in_done, in_messages, in_statement, says_close, says_execute, says_of, says_query, says_query_scalar};
+ghost use Rattle.pg_table.specs.Targets.{IsFound};
+
+use crate::slots::Slots;
+use crate::state::AnyState;
+use pg_client::{BatchExecuteState, CheckConnectionState, SimpleQueryState};
+use pg_errors::Error;
+use pg_execute::{HowMany, Target};
+use pg_executed::{CloseState, ExecuteState, MissingState, QueryScalarState, QueryState};
+use pg_prepared::{ClearState, PrepareState};
+use pg_text::{Command, CommandTarget};
+use pg_types::{List, Oid, Text, Value};
+use std::alloc::Global;
+
+/// The state of a command, by the slots of its script. OutOfMemory comes where there is no room for it.
+pub fn begin<'a>(alloc: Global, command: &'a Command, slots: &Slots) -> Result<AnyState<'a>, Error>
+    ensures live { IfOk result IsLive }
+    ensures asks { IfOk result (λ state. (place_of state).dialogue ≡ says_of slots.now command.now) }
+    ensures error { IfErr result (λ e. e ≡ Error.OutOfMemory) }
+{
+    match command {
+        Command::Simple { text, take } => simple_query(alloc, text, *take),
+        Command::Batch { text } => batch_execute(alloc, text),
+        Command::Check => check_connection(alloc),
+        Command::Prepare { text, types, .. } => prepare(alloc, text, types),
+        Command::Clear => clear(alloc),
+        Command::Query { target, values } => query(alloc, HowMany::Any, target, values, slots),
+        Command::QueryOne { target, values } => query(alloc, HowMany::One, target, values, slots),
+        Command::QueryOpt { target, values } => {
+            query(alloc, HowMany::AtMostOne, target, values, slots)
+        }
+        Command::QueryScalar { target, values } => {
+            query_scalar(alloc, HowMany::Any, target, values, slots)
+        }
+        Command::QueryOneScalar { target, values } => {
+            query_scalar(alloc, HowMany::One, target, values, slots)
+        }
+        Command::QueryOptScalar { target, values } => {
+            query_scalar(alloc, HowMany::AtMostOne, target, values, slots)
+        }
+        Command::Execute { target, values } => execute(alloc, target, values, slots),
+        Command::Close { slot } => close(alloc, *slot, slots),
+    }
+}
+
+/// The state of a simple query.
+fn simple_query<'a>(alloc: Global, text: &'a Text, take: Option<u64>) -> Result<AnyState<'a>, Error>
+    ensures live { IfOk result IsLive }
+    ensures asks { IfOk result (λ state. (place_of state).dialogue ≡ mapped in_messages (simple.simple_query text.now take)) }
+    ensures error { IfErr result (λ e. e ≡ Error.OutOfMemory) }
+{
+    let state = boxed(alloc, SimpleQueryState::new(text.as_str(), take))?;
+    Ok(AnyState::Simple(state))
+}
+
+/// The state of a batch.
+fn batch_execute<'a>(alloc: Global, text: &'a Text) -> Result<AnyState<'a>, Error>
+    ensures live { IfOk result IsLive }
+    ensures asks { IfOk result (λ state. (place_of state).dialogue ≡ mapped in_done (done.batch_execute text.now)) }
+    ensures error { IfErr result (λ e. e ≡ Error.OutOfMemory) }
+{
+    let state = boxed(alloc, BatchExecuteState::new(text.as_str()))?;
+    Ok(AnyState::Batch(state))
+}
+
+/// The state of a check.
+fn check_connection<'a>(alloc: Global) -> Result<AnyState<'a>, Error>
+    ensures live { IfOk result IsLive }
+    ensures asks { IfOk result (λ state. (place_of state).dialogue ≡ mapped in_done done.check_connection) }
+    ensures error { IfErr result (λ e. e ≡ Error.OutOfMemory) }
+{
+    let state = boxed(alloc, CheckConnectionState::new())?;
+    Ok(AnyState::Check(state))
+}
+
+/// The state of a prepare.
+fn prepare<'a>(alloc: Global, text: &'a Text, types: &'a List<Oid>) -> Result<AnyState<'a>, Error>
+    ensures live { IfOk result IsLive }
+    ensures asks { IfOk result (λ state. (place_of state).dialogue ≡ mapped in_statement (lookups.prepare text.now types.now)) }
+    ensures error { IfErr result (λ e. e ≡ Error.OutOfMemory) }
+{
+    let state = boxed(alloc, PrepareState::new(text.as_str(), types.as_slice()))?;
+    Ok(AnyState::Prepare(state))
+}
+
+/// The state of a clear.
+fn clear<'a>(alloc: Global) -> Result<AnyState<'a>, Error>
+    ensures live { IfOk result IsLive }
+    ensures asks { IfOk result (λ state. (place_of state).dialogue ≡ mapped in_done lookups.clear) }
+    ensures error { IfErr result (λ e. e ≡ Error.OutOfMemory) }
+{
+    let state = boxed(alloc, ClearState::new())?;
+    Ok(AnyState::Clear(state))
+}
+
+/// The state of a query whose rows are the answer.
+fn query<'a>(
+    alloc: Global,
+    how_many: HowMany,
+    target: &'a CommandTarget,
+    values: &'a List<Value>,
+    slots: &Slots,
+) -> Result<AnyState<'a>, Error>
+    ensures live { IfOk result IsLive }
+    ensures asks { IfOk result (λ state. (place_of state).dialogue ≡ says_query how_many slots.now target.now values.now) }
+    ensures error { IfErr result (λ e. e ≡ Error.OutOfMemory) }
+{
+    match find(target, slots)? {
+        Some(target) => {
+            let state = QueryState::new(target, how_many, values.as_slice());
+            let state = boxed(alloc, state)?;
+            Ok(AnyState::Query(state))
+        }
+        None => missing(alloc),
+    }
+}
+
+/// The state of a query whose answer is the values of its one column.
+fn query_scalar<'a>(
+    alloc: Global,
+    how_many: HowMany,
+    target: &'a CommandTarget,
+    values: &'a List<Value>,
+    slots: &Slots,
+) -> Result<AnyState<'a>, Error>
+    ensures live { IfOk result IsLive }
+    ensures asks { IfOk result (λ state. (place_of state).dialogue ≡ says_query_scalar how_many slots.now target.now values.now) }
+    ensures error { IfErr result (λ e. e ≡ Error.OutOfMemory) }
+{
+    match find(target, slots)? {
+        Some(target) => {
+            let state = QueryScalarState::new(target, how_many, values.as_slice());
+            let state = boxed(alloc, state)?;
+            Ok(AnyState::Scalar(state))
+        }
+        None => missing(alloc),
+    }
+}
+
+/// The state of an execution whose answer is how many rows it affected.
+fn execute<'a>(
+    alloc: Global,
+    target: &'a CommandTarget,
+    values: &'a List<Value>,
+    slots: &Slots,
+) -> Result<AnyState<'a>, Error>
+    ensures live { IfOk result IsLive }
+    ensures asks { IfOk result (λ state. (place_of state).dialogue ≡ says_execute slots.now target.now values.now) }
+    ensures error { IfErr result (λ e. e ≡ Error.OutOfMemory) }
+{
+    match find(target, slots)? {
+        Some(target) => {
+            let state = ExecuteState::new(target, values.as_slice());
+            let state = boxed(alloc, state)?;
+            Ok(AnyState::Execute(state))
+        }
+        None => missing(alloc),
+    }
+}
+
+/// What a command names, by the slots of its script. Nothing where its slot holds nothing.
+fn find<'a>(target: &'a CommandTarget, slots: &Slots) -> Result<Option<Target<'a>>, Error>
+    ensures found { IfOk result (IsFound slots.now target.now) }
+    ensures error { IfErr result (λ e. e ≡ Error.OutOfMemory) }
+{
+    match target {
+        CommandTarget::Text(text) => Ok(Some(Target::Query(text.as_str()))),
+        CommandTarget::Slot(slot) => match slots.get(*slot) {
+            Some(statement) => {
+                let statement = statement.copy()?;
+                Ok(Some(Target::Owned(statement)))
+            }
+            None => Ok(None),
+        },
+    }
+}
+
+/// The state of a command that closes the statement in a slot.
+fn close<'a>(alloc: Global, slot: u64, slots: &Slots) -> Result<AnyState<'a>, Error>
+    ensures live { IfOk result IsLive }
+    ensures asks { IfOk result (λ state. (place_of state).dialogue ≡ says_close slots.now slot) }
+    ensures error { IfErr result (λ e. e ≡ Error.OutOfMemory) }
+{
+    match slots.get(slot) {
+        Some(statement) => {
+            let statement = statement.copy()?;
+            let state = CloseState::new(statement);
+            let state = boxed(alloc, state)?;
+            Ok(AnyState::Close(state))
+        }
+        None => missing(alloc),
+    }
+}
+
+/// The state of a command whose slot holds nothing.
+fn missing<'a>(alloc: Global) -> Result<AnyState<'a>, Error>
+    ensures live { IfOk result IsLive }
+    ensures asks { IfOk result (λ state. (place_of state).dialogue ≡ Answer (Err Error.Missing)) }
+    ensures error { IfErr result (λ e. e ≡ Error.OutOfMemory) }
+{
+    let state = boxed(alloc, MissingState::new())?;
+    Ok(AnyState::Missing(state))
+}
+
+/// Puts a value on the heap.
+fn boxed<T: Drop>(alloc: Global, value: T) -> Result<Box<T>, Error>
+    ensures { MatchResult result (λ boxed. boxed.value ≡ value) (λ e. e ≡ Error.OutOfMemory) }
+{
+    Ok(Box::new(alloc, value)?)
+}
