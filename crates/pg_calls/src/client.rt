@@ -1,0 +1,226 @@
+//! The client, and what it can be asked.
+
+ghost use Rattle.std.specs.Prelude.{◌≡◌, [], None};
+ghost use Rattle.pg_checks.specs.Showing.{session_check};
+ghost use Rattle.pg_checks.specs.States.{place_of_check as place_of_session_check, IsLiveCheck as IsLiveSessionCheck};
+ghost use Rattle.pg_client.specs.Done.{batch_execute, check_connection};
+ghost use Rattle.pg_client.specs.DoneStates.{place_of_batch, IsLiveBatch, place_of_check, IsLiveCheck};
+ghost use Rattle.pg_client.specs.Queries.{place_of_query, IsLiveQuery};
+ghost use Rattle.pg_client.specs.Simple.{simple_query};
+ghost use Rattle.pg_execute.specs.Executes.{close, execute, query, query_scalar};
+ghost use Rattle.pg_execute.specs.Targets.{on_target};
+ghost use Rattle.pg_executed.specs.States.{place_of_close, IsLiveClose};
+ghost use Rattle.pg_executed.specs.Texts.{prepare_text};
+ghost use Rattle.pg_lookup.specs.Lookups.{prepare};
+ghost use Rattle.pg_query.specs.Faults.{of_fault};
+ghost use Rattle.pg_calls.specs.Clearing.{Clears};
+
+use pg_checks::SessionCheckState;
+use pg_client::{BatchExecuteState, CheckConnectionState, SimpleQueryState};
+use pg_config::TargetSessionAttrs;
+use pg_desk::{Desk, DeskFault};
+use pg_errors::{Cause, Error};
+use pg_execute::{HowMany, Target};
+use pg_executed::{CloseState, ExecuteState, QueryScalarState, QueryState};
+use pg_open::{CancelToken, SessionInfo};
+use pg_prepared::PrepareState;
+use pg_query::Polled;
+use pg_statements::Statement;
+use pg_types::{Oid, Value};
+
+/// A client of a connection. It holds no connection: a call makes a state, which is polled over the desk of the
+/// connection until it answers. Making a state books nothing and takes no memory, and the state doesn't borrow the
+/// client.
+#[derive(Clone, Copy, Drop)]
+pub struct Client {
+    owner: u32,
+    info: SessionInfo,
+}
+
+/// The error of a call that the desk refused.
+fn error_of(fault: DeskFault) -> Error
+    ensures { result ≡ of_fault fault }
+{
+    match fault {
+        DeskFault::Closed => Error::Closed,
+        DeskFault::Encode => Error::Encode(Cause::Counter),
+        DeskFault::OutOfMemory => Error::OutOfMemory,
+    }
+}
+
+impl Client {
+    /// The client of the session of which this is known. `owner` is its number among the clients of the connection,
+    /// from 0, for the stamps of its requests.
+    pub fn new(owner: u32, info: &SessionInfo) -> Client
+        ensures owner { result.owner ≡ owner }
+        ensures info { result.info ≡ info.now }
+    {
+        Client { owner, info: *info }
+    }
+
+    /// Its number among the clients of the connection, from 0.
+    pub fn owner(&self) -> u32
+        ensures { result ≡ self.now.owner }
+    {
+        self.owner
+    }
+
+    /// What cancels a request of its session.
+    pub fn cancel_token(&self) -> CancelToken
+        ensures { result.info ≡ self.now.info }
+    {
+        CancelToken::new(&self.info)
+    }
+
+    /// Has the desk drop the types that it keeps. The statements that look types up stay. Closed comes exactly where
+    /// the desk answers it, which is after the connection failed; it changes nothing then.
+    pub fn clear_type_cache<D: Desk>(&self, desk: &mut D) -> Result<(), Error>
+        ensures { Clears D.becomes desk.old desk.new result }
+    {
+        desk.clear_type_cache().map_err(error_of)
+    }
+
+    /// Whether the connection takes no request any more.
+    pub fn is_closed<D: Desk>(&self, desk: &D) -> bool
+        ensures { D.tells_closed desk.now result }
+    {
+        desk.is_closed()
+    }
+
+    /// A simple query of this text, which may hold several statements (PostgreSQL documentation, "Simple Query"). It
+    /// answers the names of the columns, the rows and the counts, in order. Encode comes where the text can't be sent;
+    /// Db at an error of the server; Parse at a message that can't be read; UnexpectedMessage at one out of place; Closed
+    /// where the desk takes no requests any more, or gives no more of the reply. At an error the request is hung up.
+    pub fn simple_query<'a>(&self, query: &'a str) -> SimpleQueryState<'a>
+        ensures live { IsLiveQuery result }
+        ensures asks { (place_of_query result).dialogue ≡ simple_query query.now None }
+    {
+        SimpleQueryState::new(query, None)
+    }
+
+    /// A batch of the statements of this text. Like `simple_query`, errors too, with the end alone as its answer.
+    pub fn batch_execute<'a>(&self, query: &'a str) -> BatchExecuteState<'a>
+        ensures live { IsLiveBatch result }
+        ensures asks { (place_of_batch result).dialogue ≡ batch_execute query.now }
+    {
+        BatchExecuteState::new(query)
+    }
+
+    /// A check of the connection: a Sync alone (PostgreSQL documentation, "Extended Query"). The errors are those of
+    /// `simple_query` but Encode.
+    pub fn check_connection(&self) -> CheckConnectionState
+        ensures live { IsLiveCheck result }
+        ensures asks { (place_of_check result).dialogue ≡ check_connection }
+    {
+        CheckConnectionState::new()
+    }
+
+    /// A check that the session is of this kind; `SessionCheckState::new` says when Connect, Column and FromSql come. The
+    /// others are those of `simple_query` but Encode. For Any nothing is asked.
+    pub fn session_check(&self, attrs: TargetSessionAttrs) -> SessionCheckState
+        ensures live { IsLiveSessionCheck result }
+        ensures asks { (place_of_session_check result).dialogue ≡ session_check attrs }
+    {
+        SessionCheckState::new(attrs)
+    }
+
+    /// Prepares a statement of this text (PostgreSQL documentation, "Extended Query"). The server tells the types of its
+    /// parameters; types that aren't known are looked up in its catalog. The errors are those of `simple_query`. Encode
+    /// comes also where the numbers of statements are used up, and errors of Parameters, ToSql, Column and FromSql where
+    /// the catalog answers out of form.
+    pub fn prepare<'a>(&self, query: &'a str) -> PrepareState<'a>
+        ensures live { ⟦<PrepareState<'a> as Polled>⟧.is_live result }
+        ensures asks { (⟦<PrepareState<'a> as Polled>⟧.place result).dialogue ≡ prepare query.now [] }
+    {
+        PrepareState::new(query, &[])
+    }
+
+    /// Like `prepare`, with the types of the first parameters, by their oids. The server tells those of any further ones.
+    pub fn prepare_typed<'a>(&self, query: &'a str, types: &'a [Oid]) -> PrepareState<'a>
+        ensures live { ⟦<PrepareState<'a> as Polled>⟧.is_live result }
+        ensures asks { (⟦<PrepareState<'a> as Polled>⟧.place result).dialogue ≡ prepare query.now types.now }
+    {
+        PrepareState::new(query, types)
+    }
+
+    /// Executes a statement or a text with these values, and answers its rows (PostgreSQL documentation, "Extended
+    /// Query"). A text is prepared before, with the errors of that, and its statement is closed behind the answer.
+    /// Parameters comes where the values aren't as many as the parameters; ToSql at the first that can't stand as its
+    /// parameter; Encode where the frames can't be written. These three book nothing for the statement. The others are
+    /// those of `simple_query`.
+    pub fn query<'a>(&self, target: Target<'a>, values: &'a [Value]) -> QueryState<'a>
+        ensures live { ⟦<QueryState<'a> as Polled>⟧.is_live result }
+        ensures asks { (⟦<QueryState<'a> as Polled>⟧.place result).dialogue ≡ on_target prepare_text (λ s. query HowMany.Any s values.now) target.entry }
+    {
+        QueryState::new(target, HowMany::Any, values)
+    }
+
+    /// Like `query`, where there must be one row, which is the answer's only one: RowCount comes where there is none, or a
+    /// second one.
+    pub fn query_one<'a>(&self, target: Target<'a>, values: &'a [Value]) -> QueryState<'a>
+        ensures live { ⟦<QueryState<'a> as Polled>⟧.is_live result }
+        ensures asks { (⟦<QueryState<'a> as Polled>⟧.place result).dialogue ≡ on_target prepare_text (λ s. query HowMany.One s values.now) target.entry }
+    {
+        QueryState::new(target, HowMany::One, values)
+    }
+
+    /// Like `query`, where there may be one row: RowCount comes where there is a second one. The answer has one row or none.
+    pub fn query_opt<'a>(&self, target: Target<'a>, values: &'a [Value]) -> QueryState<'a>
+        ensures live { ⟦<QueryState<'a> as Polled>⟧.is_live result }
+        ensures asks { (⟦<QueryState<'a> as Polled>⟧.place result).dialogue ≡ on_target prepare_text (λ s. query HowMany.AtMostOne s values.now) target.entry }
+    {
+        QueryState::new(target, HowMany::AtMostOne, values)
+    }
+
+    /// Like `query`, where the rows have one column, whose values are the answer. At the end of the rows ColumnCount
+    /// comes where they have another number of columns, then FromSql at the first cell that isn't a value of its type.
+    pub fn query_scalar<'a>(&self, target: Target<'a>, values: &'a [Value]) -> QueryScalarState<'a>
+        ensures live { ⟦<QueryScalarState<'a> as Polled>⟧.is_live result }
+        ensures asks { (⟦<QueryScalarState<'a> as Polled>⟧.place result).dialogue ≡ on_target prepare_text (λ s. query_scalar HowMany.Any s values.now) target.entry }
+    {
+        QueryScalarState::new(target, HowMany::Any, values)
+    }
+
+    /// The value of the one column of one row, as a list of one: like `query_scalar` and `query_one`.
+    pub fn query_one_scalar<'a>(
+        &self,
+        target: Target<'a>,
+        values: &'a [Value],
+    ) -> QueryScalarState<'a>
+        ensures live { ⟦<QueryScalarState<'a> as Polled>⟧.is_live result }
+        ensures asks { (⟦<QueryScalarState<'a> as Polled>⟧.place result).dialogue ≡ on_target prepare_text (λ s. query_scalar HowMany.One s values.now) target.entry }
+    {
+        QueryScalarState::new(target, HowMany::One, values)
+    }
+
+    /// The value of the one column of the row, where there is one, as a list: like `query_scalar` and `query_opt`.
+    pub fn query_opt_scalar<'a>(
+        &self,
+        target: Target<'a>,
+        values: &'a [Value],
+    ) -> QueryScalarState<'a>
+        ensures live { ⟦<QueryScalarState<'a> as Polled>⟧.is_live result }
+        ensures asks { (⟦<QueryScalarState<'a> as Polled>⟧.place result).dialogue ≡ on_target prepare_text (λ s. query_scalar HowMany.AtMostOne s values.now) target.entry }
+    {
+        QueryScalarState::new(target, HowMany::AtMostOne, values)
+    }
+
+    /// Executes a statement or a text with these values, and answers how many rows its last command affected, 0 where none
+    /// ended. Rows aren't read. The errors are those of `query`.
+    pub fn execute<'a>(&self, target: Target<'a>, values: &'a [Value]) -> ExecuteState<'a>
+        ensures live { ⟦<ExecuteState<'a> as Polled>⟧.is_live result }
+        ensures asks { (⟦<ExecuteState<'a> as Polled>⟧.place result).dialogue ≡ on_target prepare_text (λ s. execute s values.now) target.entry }
+    {
+        ExecuteState::new(target, values)
+    }
+
+    /// Closes a statement (PostgreSQL documentation, "Extended Query", under Close). Nobody reads the server's reply. Closed
+    /// comes where the desk takes no requests any more. A statement whose name can't be written, which no prepare gives,
+    /// is answered as closed, and nothing is sent.
+    pub fn close(&self, statement: Statement) -> CloseState
+        ensures live { IsLiveClose result }
+        ensures asks { (place_of_close result).dialogue ≡ close statement }
+    {
+        CloseState::new(statement)
+    }
+}

@@ -1,0 +1,12 @@
+//! A client of a connection: its calls, each as a state that is polled.
+#![tactic(auto)]
+
+mod client;
+
+pub use client::Client;
+pub use pg_checks::SessionCheckState;
+pub use pg_client::{BatchExecuteState, CheckConnectionState, SimpleQueryState};
+pub use pg_execute::{HowMany, Target};
+pub use pg_executed::{CloseState, ExecuteState, QueryScalarState, QueryState};
+pub use pg_open::{CancelToken, SessionInfo};
+pub use pg_prepared::PrepareState;
