@@ -7,7 +7,7 @@ use Rattle.pg_core.specs.Behind.{behind}
 use Rattle.pg_query.specs.declared.desk_call.Cleanup.{Cleanup}
 use Rattle.pg_query.specs.declared.desk_call.Cleanup.TheVariants.{Close as CloseFirst, Post, Release}
 use Rattle.pg_core.specs.Runs.{AddsNone, AddsTo, IsTidy, ReadsNothing}
-use Rattle.pg_core.specs.Times.{EndsFirst, EndsNone, ReadsNo, IsSane, IsInTime, IsCommand, LacksMemory, IsFaithful}
+use Rattle.pg_core.specs.Times.{Stage, Free, Opening, Open, stage_of, EndsFirst, EndsNone, ReadsNo, IsSane, IsInTime, IsCommand, LacksMemory, IsFaithful}
 use Rattle.pg_core.proofs.Gone.{no-reads}
 
 -- what is left to do, with more behind it that ends no copy
@@ -94,19 +94,26 @@ module _ {A T : Type 0} (extra : List Cleanup) (none : EndsNone extra) (f : Resu
   tidy-behind (Call q refused next) h = (λ e. tidy-behind (refused e) (h.0 e), λ r fit. tidy-behind (next r) (h.1 r fit))
   tidy-behind (Hear next) h = tt
 
-  sane-behind : (opened : Bool) (d : Dialogue A) → IsSane opened d → IsSane opened (behind extra d f)
-  sane-behind true (Answer r) h = absurd h
-  sane-behind false (Answer r) h = (later r).sane
-  sane-behind opened (Ask c p d) h = (h.0, sane-behind c d h.1)
-  sane-behind opened (Send p refused d) h = (λ e. sane-behind opened (refused e) (h.0 e), sane-behind opened d h.1)
-  sane-behind opened (Leave k d) h = absurd h
-  sane-behind opened (Read cleanup decides next) h = (ends-first-behind opened cleanup extra none h.0, λ ms e. sane-behind opened (next ms) (h.1 ms e))
-  sane-behind opened (Put cleanup p d) h = (h.0, ends-first-behind true cleanup extra none h.1, sane-behind true d h.2)
-  sane-behind opened (Finish p d) h = (h.0, sane-behind false d h.1)
-  sane-behind opened (Close p d) h = (h.0, no-behind d h.1, sane-behind false d h.2)
-  sane-behind opened (HangUp d) h = (h.0, no-behind d h.1, sane-behind false d h.2)
-  sane-behind opened (Call q refused next) h = (λ e. sane-behind opened (refused e) (h.0 e), λ r fit. sane-behind opened (next r) (h.1 r fit))
-  sane-behind opened (Hear next) h = tt
+  sane-behind : (stage : Stage) (d : Dialogue A) → IsSane stage d → IsSane stage (behind extra d f)
+  sane-behind Free (Answer r) h = (later r).sane
+  sane-behind (Opening came) (Answer r) h = absurd h
+  sane-behind Open (Answer r) h = absurd h
+  sane-behind stage (Ask c p d) h = (h.0, sane-behind (stage_of c) d h.1)
+  sane-behind Free (Send p refused d) h = (λ e. sane-behind Free (refused e) (h.0 e), sane-behind Free d h.1)
+  sane-behind (Opening came) (Send p refused d) h = absurd h
+  sane-behind Open (Send p refused d) h = (λ e. sane-behind Open (refused e) (h.0 e), sane-behind Open d h.1)
+  sane-behind stage (Leave k d) h = absurd h
+  sane-behind Free (Read cleanup decides next) h = (ends-first-behind false cleanup extra none h.0, λ ms e. sane-behind Free (next ms) (h.1 ms e))
+  sane-behind (Opening came) (Read cleanup decides next) h = (ends-first-behind true cleanup extra none h.0, h.1, λ ms e. sane-behind Open (next ms) (h.2 ms e))
+  sane-behind Open (Read cleanup decides next) h = absurd h
+  sane-behind stage (Put cleanup p d) h = (h.0, ends-first-behind true cleanup extra none h.1, sane-behind Open d h.2)
+  sane-behind stage (Finish p d) h = (h.0, sane-behind Free d h.1)
+  sane-behind stage (Close p d) h = (h.0, no-behind d h.1, sane-behind Free d h.2)
+  sane-behind stage (HangUp d) h = (h.0, no-behind d h.1, sane-behind Free d h.2)
+  sane-behind Free (Call q refused next) h = (λ e. sane-behind Free (refused e) (h.0 e), λ r fit. sane-behind Free (next r) (h.1 r fit))
+  sane-behind (Opening came) (Call q refused next) h = absurd h
+  sane-behind Open (Call q refused next) h = (λ e. sane-behind Open (refused e) (h.0 e), λ r fit. sane-behind Open (next r) (h.1 r fit))
+  sane-behind stage (Hear next) h = tt
 
   time-behind : (d : Dialogue A) → IsInTime d → IsInTime (behind extra d f)
   time-behind (Answer r) h = (later r).in_time
@@ -152,7 +159,7 @@ module _ {A T : Type 0} (extra : List Cleanup) (none : EndsNone extra) (f : Resu
   command-behind g d h = record {
     tidy = tidy-behind d h.tidy;
     nothing = nothing-behind d h.nothing;
-    sane = sane-behind false d h.sane;
+    sane = sane-behind Free d h.sane;
     in_time = time-behind d h.in_time;
     faithful = faithful-behind g d h.faithful;
   }

@@ -1,7 +1,7 @@
 -- A command that hangs up last never asks for a request that is gone.
-use Rattle.std.proofs.Common.{◌≡◌, ◌≢◌, ◌⊎◌, inl, inr, ℕ, suc, ◌+◌, ◌<◌, ◌==◌, ◌||◌, ◌&&◌, not, ◌≤◌, nat_lt, List, [], ◌∷◌, ◌++◌, length, slice_set, Bool, true, false, if◌then◌else◌, Some, option_map, Result, Ok, Err, refl, sym, ap, subst, ◌∙◌, arith}
+use Rattle.std.proofs.Common.{◌≡◌, ◌≢◌, ◌⊎◌, inl, inr, ℕ, suc, ◌+◌, ◌<◌, ◌==◌, ◌||◌, ◌&&◌, not, ◌≤◌, nat_lt, List, [], ◌∷◌, ◌++◌, length, slice_set, Bool, true, false, if◌then◌else◌, Some, option_map, Result, Ok, Err, refl, sym, ap, subst, ◌∙◌, arith, append_assoc}
 use Rattle.std.proofs.lemmas.Bool.Decides.{nat_tests}
-use Rattle.std.proofs.lemmas.List.{length-append}
+use Rattle.std.proofs.lemmas.List.{append-nil, length-append}
 use Rattle.pg_spec.specs.RawMessages.{RawMessage}
 use Rattle.pg_spec.specs.declared.stamps.Stamp.{Stamp}
 use Rattle.pg_desk.specs.declared.event.DeskFault.{DeskFault}
@@ -11,23 +11,28 @@ use Rattle.pg_desk.specs.declared.event.Out.TheVariants as out
 use Rattle.pg_desk.specs.declared.event.Deliver.TheVariants as delivering
 use Rattle.pg_desk.specs.declared.event.Event.{Event}
 use Rattle.pg_desk.specs.declared.event.Event.TheVariants.{Book, Put as PutEvent, EndCopy, Take as TakeEvent, HangUp, NextStatement, NextPortal, Catalog as CatalogEvent, NextOut, Deliver as DeliverEvent, CloseRequests, Fail}
-use Rattle.pg_desk.specs.History.{State, Change, Booked, Added, Ended, LetGo, change_of, changed, start, extended, has_ended, is_in, is_hung_up, may_let_go, is_copying, is_running, waiting, after, after_all, take_answer, take_of_waiting, Allows, IsLegal}
+use Rattle.pg_desk.specs.History.{State, Change, Booked, Added, Ended, LetGo, change_of, changed, start, extended, has_ended, is_in, is_hung_up, may_let_go, is_copying, is_running, waiting, after, after_all, take_answer, take_of_waiting, Allows, IsLegal, Taken, joined, taken}
 use Rattle.pg_desk.specs.Asking.{IsAsking}
 use Rattle.pg_desk.proofs.Parts.{extended-length}
 use Rattle.pg_faults.specs.declared.error.Error.{Error}
 use Rattle.pg_query.specs.Faults.{of_fault}
 use Rattle.pg_query.specs.Dialogue as code
-use Rattle.pg_query.specs.Dialogue.{Dialogue, Answer, feed, feed_one, after_reply, Told, Steps}
+use Rattle.pg_query.specs.Dialogue.{Dialogue, Answer, feed, feed_one, after_reply, fits, Told, Steps}
 use Rattle.pg_query.specs.Lives.{Deed, Leads}
 use Rattle.pg_query.specs.declared.desk_call.DeskCall.{DeskCall}
 use Rattle.pg_query.specs.declared.desk_call.Reply.{Reply}
 use Rattle.pg_query.proofs.LeavingLaws.{told-fits}
 use Rattle.pg_query.proofs.Questions.{told-asks}
+use Rattle.pg_course.specs.Copies.{is_opened}
 use Rattle.pg_course.specs.Dialogues.{decided_after}
-use Rattle.pg_core.specs.Lists.{events_of, IsReached}
+use Rattle.pg_core.specs.Deeds.{taken_from}
+use Rattle.pg_core.specs.Lists.{events_of, got_of, IsReached, SparesAll}
 use Rattle.pg_core.specs.Runs.{ReadsNothing}
+use Rattle.pg_core.proofs.Answering.{decided-alike, decided-behind, decides-as, opened-more}
+use Rattle.pg_core.proofs.Lists.{NoneAhead, ahead-one, spared-one, takes-one}
+use Rattle.pg_core.proofs.Steps.{none-ahead}
 use Rattle.pg_core.proofs.Flags.{AreFlagged, flagged, flagged-one, copying-ended, copying-new, copying-more, copying-other}
-use Rattle.pg_core.specs.Times.{ReadsNo, IsOpen, IsSane, IsThere, IsKept, IsKeptBeside, Fits, IsNoHangUp, HangsUpNone}
+use Rattle.pg_core.specs.Times.{ReadsNo, Stage, Free, Opening, Open, stage_of, takes_parts, IsOpen, IsUnended, IsSane, HasCome, IsThere, IsKept, IsKeptBeside, Fits, IsNoHangUp, HangsUpNone}
 
 -- only requests that are booked are hung up
 abbrev pub NoneHungAhead : State → Type 0
@@ -74,6 +79,9 @@ reads-no-one m (code.HangUp d) h = h
 reads-no-one m (code.Call q refused next) h = (λ e. reads-no-one m (refused e) (h.0 e), λ r fit. reads-no-one m (next r) (h.1 r fit))
 reads-no-one m (code.Hear next) h = tt
 
+decided-first : (decides : List RawMessage → Bool) (m : RawMessage) → decides (m ∷ []) ≡ true → decided_after decides (m ∷ []) ≡ Some (length (m ∷ []))
+decided-first decides m e = ap (λ (b : Bool). if b then Some 1 else option_map (λ n. n + 1) (decided_after (λ l. decides (m ∷ l)) [])) e
+
 behind-one : (decides : List RawMessage → Bool) (m : RawMessage) (ms : List RawMessage) → decides (m ∷ []) ≡ false →
     decided_after (λ l. decides (m ∷ l)) ms ≡ Some (length ms) → decided_after decides (m ∷ ms) ≡ Some (length (m ∷ ms))
 behind-one decides m ms e decided =
@@ -81,49 +89,144 @@ behind-one decides m ms e decided =
     ap (λ (b : Bool). if b then Some 1 else option_map (λ n. n + 1) (decided_after (λ l. decides (m ∷ l)) ms)) e
     ∙ ap (option_map (λ n. n + 1)) decided ∙ ap (λ (n : ℕ). Some n) more
 
-sane-one : {T : Type 0} (m : RawMessage) (opened : Bool) (d : Dialogue T) → IsSane opened d → IsSane opened (feed_one m d)
-sane-one m opened (code.Answer r) h = h
-sane-one m opened (code.Ask c p d) h = h
-sane-one m opened (code.Send p refused d) h = (λ e. sane-one m opened (refused e) (h.0 e), sane-one m opened d h.1)
-sane-one m opened (code.Leave k d) h = absurd h
-sane-one {T} m opened (code.Read cleanup decides next) (first, h) = by (decides (m ∷ [])) refl
-  where
-    by : (b : Bool) → decides (m ∷ []) ≡ b → IsSane opened (if b then next (m ∷ []) else code.Read cleanup (λ ms. decides (m ∷ ms)) (λ ms. next (m ∷ ms)))
-    by true e = h (m ∷ []) (ap (λ (b : Bool). if b then Some 1 else option_map (λ n. n + 1) (decided_after (λ l. decides (m ∷ l)) [])) e)
-    by false e = (first, λ ms decided. h (m ∷ ms) (behind-one decides m ms e decided))
-sane-one m opened (code.Put cleanup p d) h = (h.0, h.1, sane-one m true d h.2)
-sane-one m opened (code.Finish p d) h = (h.0, sane-one m false d h.1)
-sane-one m opened (code.Close p d) h = (h.0, reads-no-one m d h.1, sane-one m false d h.2)
-sane-one m opened (code.HangUp d) h = h
-sane-one m opened (code.Call q refused next) h = (λ e. sane-one m opened (refused e) (h.0 e), λ r fit. sane-one m opened (next r) (h.1 r fit))
-sane-one m opened (code.Hear next) h = tt
+-- ---- what messages that come leave sane
 
-pub sane-fed : {T : Type 0} (ms : List RawMessage) (opened : Bool) (d : Dialogue T) → IsSane opened d → IsSane opened (feed ms d)
-sane-fed [] opened d h = h
-sane-fed (m ∷ ms) opened d h = sane-fed ms opened (feed_one m d) (sane-one m opened d h)
+sane-free : {T : Type 0} (m : RawMessage) (d : Dialogue T) → IsSane Free d → IsSane Free (feed_one m d)
+sane-free m (code.Answer r) h = h
+sane-free m (code.Ask c p d) h = h
+sane-free m (code.Send p refused d) h = (λ e. sane-free m (refused e) (h.0 e), sane-free m d h.1)
+sane-free m (code.Leave k d) h = absurd h
+sane-free {T} m (code.Read cleanup decides next) (first, h) = by (decides (m ∷ [])) refl
+  where
+    by : (b : Bool) → decides (m ∷ []) ≡ b → IsSane Free (if b then next (m ∷ []) else code.Read cleanup (λ ms. decides (m ∷ ms)) (λ ms. next (m ∷ ms)))
+    by true e = h (m ∷ []) (decided-first decides m e)
+    by false e = (first, λ ms decided. h (m ∷ ms) (behind-one decides m ms e decided))
+sane-free m (code.Put cleanup p d) h = absurd h.0
+sane-free m (code.Finish p d) h = absurd h.0
+sane-free m (code.Close p d) h = absurd h.0
+sane-free m (code.HangUp d) h = h
+sane-free m (code.Call q refused next) h = (λ e. sane-free m (refused e) (h.0 e), λ r fit. sane-free m (next r) (h.1 r fit))
+sane-free m (code.Hear next) h = tt
+
+sane-open : {T : Type 0} (m : RawMessage) (d : Dialogue T) → IsSane Open d → IsSane Open (feed_one m d)
+sane-open m (code.Answer r) h = absurd h
+sane-open m (code.Ask c p d) h = absurd h.0
+sane-open m (code.Send p refused d) h = (λ e. sane-open m (refused e) (h.0 e), sane-open m d h.1)
+sane-open m (code.Leave k d) h = absurd h
+sane-open m (code.Read cleanup decides next) h = absurd h
+sane-open m (code.Put cleanup p d) h = (h.0, h.1, sane-open m d h.2)
+sane-open m (code.Finish p d) h = (h.0, sane-free m d h.1)
+sane-open m (code.Close p d) h = (h.0, reads-no-one m d h.1, sane-free m d h.2)
+sane-open m (code.HangUp d) h = absurd h.0
+sane-open m (code.Call q refused next) h = (λ e. sane-open m (refused e) (h.0 e), λ r fit. sane-open m (next r) (h.1 r fit))
+sane-open m (code.Hear next) h = tt
+
+-- Once these came it is sane at a stage at which the desk's copy is as it was, and which tells of what was taken with them.
+abbrev StaysSane : {T : Type 0} → List RawMessage → Stage → Dialogue T → Type 0
+StaysSane ms stage d = (later : Stage) × (takes_parts later ≡ takes_parts stage) × IsSane later d × ((got : List RawMessage) → HasCome got stage → HasCome (got ++ ms) later)
+
+-- where nothing of an opening is read, but more of it came
+come-on : (m : RawMessage) (came : List RawMessage) → (later : Stage) × (takes_parts later ≡ true) × IsUnended later × ((got : List RawMessage) → HasCome got (Opening came) → HasCome (got ++ m ∷ []) later)
+come-on m came = by (is_opened (came ++ m ∷ [])) refl
+  where
+    by : (b : Bool) → is_opened (came ++ m ∷ []) ≡ b → (later : Stage) × (takes_parts later ≡ true) × IsUnended later × ((got : List RawMessage) → HasCome got (Opening came) → HasCome (got ++ m ∷ []) later)
+    by true e = (Open, refl, tt, λ got come. ap (λ (x : List RawMessage). is_opened (x ++ m ∷ [])) come.0 ∙ e)
+    by false e = (Opening (came ++ m ∷ []), refl, tt, λ got come. (ap (λ (x : List RawMessage). x ++ m ∷ []) come.0, e))
+
+sane-opening : {T : Type 0} (m : RawMessage) (came : List RawMessage) (d : Dialogue T) → IsSane (Opening came) d → StaysSane (m ∷ []) (Opening came) (feed_one m d)
+sane-opening m came (code.Answer r) h = absurd h
+sane-opening m came (code.Ask c p d) h = absurd h.0
+sane-opening m came (code.Send p refused d) h = absurd h
+sane-opening m came (code.Leave k d) h = absurd h
+sane-opening {T} m came (code.Read cleanup decides next) (first, exact, h) = by (decides (m ∷ [])) refl
+  where
+    answers : is_opened (came ++ m ∷ []) ≡ decides (m ∷ [])
+    answers = decides-as decides (λ front. is_opened (came ++ front)) m exact
+
+    by : (b : Bool) → decides (m ∷ []) ≡ b → StaysSane (m ∷ []) (Opening came) (if b then next (m ∷ []) else code.Read cleanup (λ ms. decides (m ∷ ms)) (λ ms. next (m ∷ ms)))
+    by true e = (Open, refl, h (m ∷ []) (decided-first decides m e), λ got come. ap (λ (x : List RawMessage). is_opened (x ++ m ∷ [])) come.0 ∙ answers ∙ e)
+    by false e = (
+      Opening (came ++ m ∷ []),
+      refl,
+      (
+        first,
+        λ ms. decided-behind decides (λ front. is_opened (came ++ front)) m exact e ms
+            ∙ decided-alike (λ front. is_opened (came ++ m ∷ front)) (λ front. is_opened ((came ++ m ∷ []) ++ front)) (λ front. ap is_opened (sym (append_assoc came (m ∷ []) front))) ms,
+        λ ms decided. h (m ∷ ms) (behind-one decides m ms e decided),
+      ),
+      λ got come. (ap (λ (x : List RawMessage). x ++ m ∷ []) come.0, answers ∙ e),
+    )
+sane-opening m came (code.Put cleanup p d) h = absurd h.0
+sane-opening m came (code.Finish p d) h = absurd h.0
+sane-opening m came (code.Close p d) h = let o = come-on m came in (o.0, o.1, (o.2, reads-no-one m d h.1, sane-free m d h.2), o.3)
+sane-opening m came (code.HangUp d) h = absurd h.0
+sane-opening m came (code.Call q refused next) h = absurd h
+sane-opening m came (code.Hear next) h = let o = come-on m came in (o.0, o.1, tt, o.3)
+
+sane-one : {T : Type 0} (m : RawMessage) (stage : Stage) (d : Dialogue T) → IsSane stage d → StaysSane (m ∷ []) stage (feed_one m d)
+sane-one m Free d h = (Free, refl, sane-free m d h, λ got come. tt)
+sane-one m (Opening came) d h = sane-opening m came d h
+sane-one m Open d h = (Open, refl, sane-open m d h, λ got come. opened-more got (m ∷ []) come)
+
+pub sane-fed : {T : Type 0} (ms : List RawMessage) (stage : Stage) (d : Dialogue T) → IsSane stage d → StaysSane ms stage (feed ms d)
+sane-fed [] stage d h = (stage, refl, h, λ got come. subst (λ (x : List RawMessage). HasCome x stage) (sym (append-nil got)) come)
+sane-fed (m ∷ ms) stage d h =
+    let one = sane-one m stage d h in
+    let all = sane-fed ms one.0 (feed_one m d) one.2 in
+    (all.0, all.1 ∙ one.1, all.2, λ got come. subst (λ (x : List RawMessage). HasCome x all.0) (append_assoc got (m ∷ []) ms) (all.3 (got ++ m ∷ []) (one.3 got come)))
+
+-- what a request that is sent meanwhile leads to is sane at the same stage
+pub sent-sane : {T : Type 0} (stage : Stage) (p : List ℕ) (refused : Error → Dialogue T) (d : Dialogue T) → IsSane stage (code.Send p refused d) → ((e : Error) → IsSane stage (refused e)) × IsSane stage d
+sent-sane Free p refused d h = h
+sent-sane (Opening came) p refused d h = absurd h
+sent-sane Open p refused d h = h
+
+-- so is what a question leads to
+pub asked-sane : {T : Type 0} (stage : Stage) (q : DeskCall) (refused : Error → Dialogue T) (next : Reply → Dialogue T) → IsSane stage (code.Call q refused next) →
+    ((e : Error) → IsSane stage (refused e)) × ((r : Reply) → fits q r ≡ true → IsSane stage (next r))
+asked-sane Free q refused next h = h
+asked-sane (Opening came) q refused next h = absurd h
+asked-sane Open q refused next h = h
 
 -- ---- where it stands
 
--- what an open copy owes is owed where it is known to be open
-kept-open : {T : Type 0} (s : State) (id : ℕ) (opened : Bool) (x : Dialogue T) → IsOpen opened → IsKept s id opened x → IsThere s id × (is_copying id s.copying ≡ true)
-kept-open s id true x e h = h
-kept-open s id false x e h = absurd e
+-- a request that is booked as a copy takes parts
+begins-so : (copying : Bool) → copying ≡ takes_parts (stage_of copying)
+begins-so true = refl
+begins-so false = refl
 
-pub fits-so : {T : Type 0} (s : State) (opened : Bool) (d : Dialogue T) (id : ℕ) → IsSane opened d → IsKept s id opened d → Fits s d id
-fits-so s opened (code.Answer r) id sane kept = tt
-fits-so s opened (code.Ask c p d) id sane kept = sane.1
-fits-so s opened (code.Send p refused d) id sane kept = (opened, sane, kept)
-fits-so s opened (code.Leave k d) id sane kept = absurd sane
-fits-so s opened (code.Read cleanup decides next) id sane kept = (opened, sane, kept)
-fits-so s opened (code.Put cleanup p d) id sane kept = (sane.1, sane.2, kept-open s id opened (code.Put cleanup p d) sane.0 kept)
-fits-so s opened (code.Finish p d) id sane kept = (sane.1, kept-open s id opened (code.Finish p d) sane.0 kept)
-fits-so s opened (code.Close p d) id sane kept = (sane.2, kept-open s id opened (code.Close p d) sane.0 kept)
-fits-so s opened (code.HangUp d) id sane kept = (sane.1, sane.2)
-fits-so s opened (code.Call q refused next) id sane kept = (opened, sane, kept)
-fits-so s opened (code.Hear next) id sane kept = tt
+unended-so : (stage : Stage) → IsOpen stage → IsUnended stage
+unended-so Free h = absurd h
+unended-so (Opening came) h = absurd h
+unended-so Open h = tt
 
-pub fits-none : {T : Type 0} (s : State) (d : Dialogue T) (id : ℕ) → IsSane false d → ReadsNo d → Fits s d id
-fits-none s d id sane none = fits-so s false d id sane (inl none)
+-- what a copy that isn't ended owes is owed where it is known to take parts
+kept-open : {T : Type 0} (s : State) (id : ℕ) (stage : Stage) (x : Dialogue T) → IsUnended stage → IsKept s id (takes_parts stage) x → IsThere s id × (is_copying id s.copying ≡ true)
+kept-open s id Free x e h = absurd e
+kept-open s id (Opening came) x e h = h
+kept-open s id Open x e h = h
+
+-- of a copy that is open what was taken answers the opening
+come-open : (got : List RawMessage) (stage : Stage) → IsOpen stage → HasCome got stage → HasCome got Open
+come-open got Free h come = absurd h
+come-open got (Opening came) h come = absurd h
+come-open got Open h come = come
+
+pub fits-so : {T : Type 0} (s : State) (stage : Stage) (d : Dialogue T) (id : ℕ) → IsSane stage d → IsKept s id (takes_parts stage) d → HasCome (got_of s id) stage → Fits s d id
+fits-so s stage (code.Answer r) id sane kept come = tt
+fits-so s stage (code.Ask c p d) id sane kept come = sane.1
+fits-so s stage (code.Send p refused d) id sane kept come = (stage, sane, kept, come)
+fits-so s stage (code.Leave k d) id sane kept come = absurd sane
+fits-so s stage (code.Read cleanup decides next) id sane kept come = (stage, sane, kept, come)
+fits-so s stage (code.Put cleanup p d) id sane kept come = (sane.1, sane.2, kept-open s id stage (code.Put cleanup p d) (unended-so stage sane.0) kept, come-open (got_of s id) stage sane.0 come)
+fits-so s stage (code.Finish p d) id sane kept come = (sane.1, kept-open s id stage (code.Finish p d) (unended-so stage sane.0) kept)
+fits-so s stage (code.Close p d) id sane kept come = (sane.2, kept-open s id stage (code.Close p d) sane.0 kept)
+fits-so s stage (code.HangUp d) id sane kept come = (sane.1, sane.2)
+fits-so s stage (code.Call q refused next) id sane kept come = (stage, sane, kept, come)
+fits-so s stage (code.Hear next) id sane kept come = tt
+
+pub fits-none : {T : Type 0} (s : State) (d : Dialogue T) (id : ℕ) → IsSane Free d → ReadsNo d → Fits s d id
+fits-none s d id sane none = fits-so s Free d id sane (inl none) tt
 
 -- where it is there and open still, or not, it is kept
 kept-move : {T : Type 0} (s t : State) (id : ℕ) (opened : Bool) (x y : Dialogue T) → (IsThere s id → IsThere t id) → (IsThere s id → is_copying id t.copying ≡ is_copying id s.copying) → (ReadsNo x → ReadsNo y) →
@@ -256,84 +359,101 @@ kept-as {T} s e d d' id id' is same fits whole not = record {
   not_gone = not;
 }
 
+-- where nothing more was taken
+come-as : (s t : State) (id : ℕ) (stage : Stage) → t.takes ≡ s.takes → HasCome (got_of s id) stage → HasCome (got_of t id) stage
+come-as s t id stage takes come = subst (λ (ts : List Taken). HasCome (joined (taken id ts)) stage) (sym takes) come
+
+-- of a request that is new nothing was taken
+come-new : (s : State) (new : ℕ) (copying : Bool) → new ≡ length s.book → NoneAhead s → HasCome (got_of s new) (stage_of copying)
+come-new s new true is none = (ap (λ (l : List (List RawMessage)). joined l) (none new (omega (arith, is))), refl)
+come-new s new false is none = tt
+
+own-taken : (which id : ℕ) (ms : List RawMessage) → which ≡ id → taken_from id (TakeEvent which (Ok (taking.Batch ms))) ≡ ms
+own-taken which id ms same = let e : (which == id) ≡ true = grind (arith, nat_tests) in ap (λ (b : Bool). if b then ms else []) e
+
 -- a question changes nothing of requests
 data Asks (s : State) (e : Event) : Type 0 where
-  Quiet : ((id : ℕ) → IsThere s id → IsThere (after s e) id) → (after s e).copying ≡ s.copying → (after s e).failed ≡ s.failed → IsNotGone e → Asks s e
+  Quiet : ((id : ℕ) → IsThere s id → IsThere (after s e) id) → (after s e).copying ≡ s.copying → (after s e).takes ≡ s.takes → (after s e).failed ≡ s.failed → IsNotGone e → Asks s e
 
 asks : (s : State) (e : Event) → IsAsking e → Asks s e
-asks s (NextStatement (Ok n)) h = Quiet (λ id there. record { booked = there.booked; kept_up = there.kept_up }) refl refl tt
-asks s (NextStatement (Err f)) h = Quiet (λ id there. there) refl refl tt
-asks s (NextPortal (Ok n)) h = Quiet (λ id there. record { booked = there.booked; kept_up = there.kept_up }) refl refl tt
-asks s (NextPortal (Err f)) h = Quiet (λ id there. there) refl refl tt
-asks s (CatalogEvent call) h = Quiet (λ id there. record { booked = there.booked; kept_up = there.kept_up }) refl refl tt
+asks s (NextStatement (Ok n)) h = Quiet (λ id there. record { booked = there.booked; kept_up = there.kept_up }) refl refl refl tt
+asks s (NextStatement (Err f)) h = Quiet (λ id there. there) refl refl refl tt
+asks s (NextPortal (Ok n)) h = Quiet (λ id there. record { booked = there.booked; kept_up = there.kept_up }) refl refl refl tt
+asks s (NextPortal (Err f)) h = Quiet (λ id there. there) refl refl refl tt
+asks s (CatalogEvent call) h = Quiet (λ id there. record { booked = there.booked; kept_up = there.kept_up }) refl refl refl tt
 asks s e h = absurd h
 
 call-kept : {T : Type 0} (s : State) (q : DeskCall) (refused : Error → Dialogue T) (next : Reply → Dialogue T) (id : ℕ) (e : Event) (r : Result Reply DeskFault) (d' : Dialogue T) (id' : ℕ) → Told q e r → Fits s (code.Call q refused next) id → s.failed ≡ false → Asks s e →
     d' ≡ after_reply r refused next → id' ≡ id → Kept s e d' id'
-call-kept s q refused next id e (Ok r) d' id' told (opened, sane, keeps) whole (Quiet there flags failed not) is same =
+call-kept s q refused next id e (Ok r) d' id' told (stage, sane, keeps, come) whole (Quiet there flags takes failed not) is same =
     let fit = told-fits q e r told in
     kept-as s e (next r) d' id id' is same
-    (fits-so (after s e) opened (next r) id (sane.1 r fit) (kept-move s (after s e) id opened (code.Call q refused next) (next r) (there id) (λ h. ap (is_copying id) flags) (λ h. h.1 r fit) keeps)) (failed ∙ whole) not
-call-kept s q refused next id e (Err f) d' id' told (opened, sane, keeps) whole (Quiet there flags failed not) is same =
+    (fits-so (after s e) stage (next r) id ((asked-sane stage q refused next sane).1 r fit) (kept-move s (after s e) id (takes_parts stage) (code.Call q refused next) (next r) (there id) (λ h. ap (is_copying id) flags) (λ h. h.1 r fit) keeps) (come-as s (after s e) id stage takes come)) (failed ∙ whole) not
+call-kept s q refused next id e (Err f) d' id' told (stage, sane, keeps, come) whole (Quiet there flags takes failed not) is same =
     kept-as s e (refused (of_fault f)) d' id id' is same
-    (fits-so (after s e) opened (refused (of_fault f)) id (sane.0 (of_fault f)) (kept-move s (after s e) id opened (code.Call q refused next) (refused (of_fault f)) (there id) (λ h. ap (is_copying id) flags) (λ h. h.0 (of_fault f)) keeps)) (failed ∙ whole) not
+    (fits-so (after s e) stage (refused (of_fault f)) id ((asked-sane stage q refused next sane).0 (of_fault f)) (kept-move s (after s e) id (takes_parts stage) (code.Call q refused next) (refused (of_fault f)) (there id) (λ h. ap (is_copying id) flags) (λ h. h.0 (of_fault f)) keeps) (come-as s (after s e) id stage takes come)) (failed ∙ whole) not
 
-kept : {T : Type 0} (s : State) (stamp : Stamp) (d : Dialogue T) (id : ℕ) (e : Event) (d' : Dialogue T) (id' : ℕ) → Fits s d id → NoneHungAhead s → AreFlagged s → s.failed ≡ false → Allows s e → Steps stamp d id e d' id' → Kept s e d' id'
-kept s stamp (code.Answer r) id e d' id' fits hung flags whole a st = absurd st
-kept s stamp (code.Ask c p d) id (Book given part copying (Ok new)) d' id' fits hung flags whole a st =
-    kept-as s (Book given part copying (Ok new)) d d' new id' st.3 st.4 (fits-so _ c d new fits (kept-new s given part copying c new d st.2 a.1 hung flags)) whole tt
-kept s stamp (code.Ask c p d) id (Book given part copying (Err f)) d' id' fits hung flags whole a st = kept-as s (Book given part copying (Err f)) (Answer _) d' id id' st.3 st.4 tt whole tt
-kept s stamp (code.Ask c p d) id e d' id' fits hung flags whole a st = absurd st
-kept s stamp (code.Send p refused d) id (Book given part copying (Ok new)) d' id' (opened, sane, keeps) hung flags whole a st =
+kept : {T : Type 0} (s : State) (stamp : Stamp) (d : Dialogue T) (id : ℕ) (e : Event) (d' : Dialogue T) (id' : ℕ) → Fits s d id → NoneHungAhead s → NoneAhead s → AreFlagged s → s.failed ≡ false → Allows s e → Steps stamp d id e d' id' → Kept s e d' id'
+kept s stamp (code.Answer r) id e d' id' fits hung ahead flags whole a st = absurd st
+kept s stamp (code.Ask c p d) id (Book given part copying (Ok new)) d' id' fits hung ahead flags whole a st =
+    kept-as s (Book given part copying (Ok new)) d d' new id' st.3 st.4 (fits-so _ (stage_of c) d new fits (kept-new s given part copying (takes_parts (stage_of c)) new d (st.2 ∙ begins-so c) a.1 hung flags) (come-new s new c a.1 ahead)) whole tt
+kept s stamp (code.Ask c p d) id (Book given part copying (Err f)) d' id' fits hung ahead flags whole a st = kept-as s (Book given part copying (Err f)) (Answer _) d' id id' st.3 st.4 tt whole tt
+kept s stamp (code.Ask c p d) id e d' id' fits hung ahead flags whole a st = absurd st
+kept s stamp (code.Send p refused d) id (Book given part copying (Ok new)) d' id' (stage, sane, keeps, come) hung ahead flags whole a st =
     kept-as s (Book given part copying (Ok new)) (code.Leave new d) d' id id' st.3 st.4 (
-      opened,
-      sane.1,
-      kept-beside s (after s (Book given part copying (Ok new))) id new opened (code.Send p refused d) d (there-booked s given part copying new id) (λ h. copying-more id s.copying copying (subst (λ (n : ℕ). id < n) (sym flags) h.booked)) (λ h. h.1)
+      stage,
+      (sent-sane stage p refused d sane).1,
+      kept-beside s (after s (Book given part copying (Ok new))) id new (takes_parts stage) (code.Send p refused d) d (there-booked s given part copying new id) (λ h. copying-more id s.copying copying (subst (λ (n : ℕ). id < n) (sym flags) h.booked)) (λ h. h.1)
           (λ there same. (let is : new ≡ id = same in let number : new ≡ length s.book = a.1 in let lt = there.booked in omega (arith, is, number, lt))) keeps,
+      come,
     ) whole tt
-kept s stamp (code.Send p refused d) id (Book given part copying (Err f)) d' id' (opened, sane, keeps) hung flags whole a st =
+kept s stamp (code.Send p refused d) id (Book given part copying (Err f)) d' id' (stage, sane, keeps, come) hung ahead flags whole a st =
     kept-as s (Book given part copying (Err f)) (refused (of_fault f)) d' id id' st.3 st.4
-    (fits-so _ opened (refused (of_fault f)) id (sane.0 (of_fault f)) (kept-move s s id opened (code.Send p refused d) (refused (of_fault f)) (λ h. h) (λ h. refl) (λ h. h.0 (of_fault f)) keeps)) whole tt
-kept s stamp (code.Send p refused d) id e d' id' fits hung flags whole a st = absurd st
-kept s stamp (code.Leave sent d) id (HangUp which (Ok x)) d' id' (opened, sane, keeps) hung flags whole a st =
+    (fits-so _ stage (refused (of_fault f)) id ((sent-sane stage p refused d sane).0 (of_fault f)) (kept-move s s id (takes_parts stage) (code.Send p refused d) (refused (of_fault f)) (λ h. h) (λ h. refl) (λ h. h.0 (of_fault f)) keeps) come) whole tt
+kept s stamp (code.Send p refused d) id e d' id' fits hung ahead flags whole a st = absurd st
+kept s stamp (code.Leave sent d) id (HangUp which (Ok x)) d' id' (stage, sane, keeps, come) hung ahead flags whole a st =
     kept-as s (HangUp which (Ok x)) d d' id id' st.1 st.2
-    (fits-so _ opened d id sane (kept-left s (after s (HangUp which (Ok x))) id sent opened d (λ apart there. there-hung s which id (λ same. apart (sym st.0 ∙ same)) there) refl keeps)) whole tt
-kept s stamp (code.Leave sent d) id (HangUp which (Err f)) d' id' fits hung flags whole a st = kept-as s (HangUp which (Err f)) (Answer _) d' id id' st.1 st.2 tt whole tt
-kept s stamp (code.Leave sent d) id e d' id' fits hung flags whole a st = absurd st
-kept s stamp (code.Read cleanup decides next) id (TakeEvent which (Ok (taking.Batch ms))) d' id' (opened, sane, keeps) hung flags whole a st =
+    (fits-so _ stage d id sane (kept-left s (after s (HangUp which (Ok x))) id sent (takes_parts stage) d (λ apart there. there-hung s which id (λ same. apart (sym st.0 ∙ same)) there) refl keeps) come) whole tt
+kept s stamp (code.Leave sent d) id (HangUp which (Err f)) d' id' fits hung ahead flags whole a st = kept-as s (HangUp which (Err f)) (Answer _) d' id id' st.1 st.2 tt whole tt
+kept s stamp (code.Leave sent d) id e d' id' fits hung ahead flags whole a st = absurd st
+kept s stamp (code.Read cleanup decides next) id (TakeEvent which (Ok (taking.Batch ms))) d' id' (stage, sane, keeps, come) hung ahead flags whole a st =
+    let fed = sane-fed ms stage (code.Read cleanup decides next) sane in
     kept-as s (TakeEvent which (Ok (taking.Batch ms))) (feed ms (code.Read cleanup decides next)) d' id id' st.1 st.2
-    (fits-so _ opened (feed ms (code.Read cleanup decides next)) id (sane-fed ms opened (code.Read cleanup decides next) sane)
-    (kept-move s (after s (TakeEvent which (Ok (taking.Batch ms)))) id opened (code.Read cleanup decides next) (feed ms (code.Read cleanup decides next)) (λ there. record { booked = there.booked; kept_up = there.kept_up }) (λ h. refl) (λ h. absurd h) keeps)) whole tt
-kept s stamp (code.Read cleanup decides next) id (TakeEvent which (Ok taking.Empty)) d' id' fits hung flags whole a st = kept-as s (TakeEvent which (Ok taking.Empty)) (code.Read cleanup decides next) d' id id' st.1 st.2 fits whole tt
-kept s stamp (code.Read cleanup decides next) id (TakeEvent which (Ok taking.Over)) d' id' fits hung flags whole a st = kept-as s (TakeEvent which (Ok taking.Over)) (Answer _) d' id id' st.1 st.2 tt whole tt
-kept s stamp (code.Read cleanup decides next) id (TakeEvent which (Ok taking.Gone)) d' id' (opened, sane, keeps) hung flags whole a st =
-    absurd (never-gone s id (a ∙ ap (take_answer s) st.0) (kept-there s id opened (code.Read cleanup decides next) (λ h. h) keeps) whole)
-kept s stamp (code.Read cleanup decides next) id (TakeEvent which (Err f)) d' id' fits hung flags whole a st = kept-as s (TakeEvent which (Err f)) (Answer _) d' id id' st.1 st.2 tt whole tt
-kept s stamp (code.Read cleanup decides next) id e d' id' fits hung flags whole a st = absurd st
-kept s stamp (code.Put cleanup p d) id (PutEvent which part putting.Took) d' id' (first, sane, keeps) hung flags whole a st =
+    (fits-so _ fed.0 (feed ms (code.Read cleanup decides next)) id fed.2
+    (subst (λ (b : Bool). IsKept (after s (TakeEvent which (Ok (taking.Batch ms)))) id b (feed ms (code.Read cleanup decides next))) (sym fed.1)
+    (kept-move s (after s (TakeEvent which (Ok (taking.Batch ms)))) id (takes_parts stage) (code.Read cleanup decides next) (feed ms (code.Read cleanup decides next)) (λ there. record { booked = there.booked; kept_up = there.kept_up }) (λ h. refl) (λ h. absurd h) keeps))
+    (subst (λ (x : List RawMessage). HasCome x fed.0)
+    (sym (takes-one s (TakeEvent which (Ok (taking.Batch ms))) id ∙ ap (λ (x : List RawMessage). got_of s id ++ x) (own-taken which id ms st.0))) (fed.3 (got_of s id) come))) whole tt
+kept s stamp (code.Read cleanup decides next) id (TakeEvent which (Ok taking.Empty)) d' id' fits hung ahead flags whole a st = kept-as s (TakeEvent which (Ok taking.Empty)) (code.Read cleanup decides next) d' id id' st.1 st.2 fits whole tt
+kept s stamp (code.Read cleanup decides next) id (TakeEvent which (Ok taking.Over)) d' id' fits hung ahead flags whole a st = kept-as s (TakeEvent which (Ok taking.Over)) (Answer _) d' id id' st.1 st.2 tt whole tt
+kept s stamp (code.Read cleanup decides next) id (TakeEvent which (Ok taking.Gone)) d' id' (stage, sane, keeps, come) hung ahead flags whole a st =
+    absurd (never-gone s id (a ∙ ap (take_answer s) st.0) (kept-there s id (takes_parts stage) (code.Read cleanup decides next) (λ h. h) keeps) whole)
+kept s stamp (code.Read cleanup decides next) id (TakeEvent which (Err f)) d' id' fits hung ahead flags whole a st = kept-as s (TakeEvent which (Err f)) (Answer _) d' id id' st.1 st.2 tt whole tt
+kept s stamp (code.Read cleanup decides next) id e d' id' fits hung ahead flags whole a st = absurd st
+kept s stamp (code.Put cleanup p d) id (PutEvent which part putting.Took) d' id' (first, sane, keeps, come) hung ahead flags whole a st =
     kept-as s (PutEvent which part putting.Took) d d' id id' st.2 st.3
-    (fits-so _ true d id sane (there-extended s (after s (PutEvent which part putting.Took)) which id part refl refl keeps.0, keeps.1)) whole tt
-kept s stamp (code.Put cleanup p d) id (PutEvent which part (putting.Full back)) d' id' fits hung flags whole a st = kept-as s (PutEvent which part (putting.Full back)) (code.Put cleanup p d) d' id id' st.2 st.3 fits whole tt
-kept s stamp (code.Put cleanup p d) id (PutEvent which part (putting.Gone back)) d' id' (first, sane, keeps) hung flags whole a st = absurd (runs s id which st.0 whole keeps.0 keeps.1 a.1)
-kept s stamp (code.Put cleanup p d) id (PutEvent which part (putting.OutOfMemory back)) d' id' fits hung flags whole a st = kept-as s (PutEvent which part (putting.OutOfMemory back)) (Answer _) d' id id' st.2 st.3 tt whole tt
-kept s stamp (code.Put cleanup p d) id e d' id' fits hung flags whole a st = absurd st
-kept s stamp (code.Finish p d) id (EndCopy which part putting.Took) d' id' (sane, keeps) hung flags whole a st =
+    (fits-so _ Open d id sane (there-extended s (after s (PutEvent which part putting.Took)) which id part refl refl keeps.0, keeps.1) come) whole tt
+kept s stamp (code.Put cleanup p d) id (PutEvent which part (putting.Full back)) d' id' fits hung ahead flags whole a st = kept-as s (PutEvent which part (putting.Full back)) (code.Put cleanup p d) d' id id' st.2 st.3 fits whole tt
+kept s stamp (code.Put cleanup p d) id (PutEvent which part (putting.Gone back)) d' id' (first, sane, keeps, come) hung ahead flags whole a st = absurd (runs s id which st.0 whole keeps.0 keeps.1 a.1)
+kept s stamp (code.Put cleanup p d) id (PutEvent which part (putting.OutOfMemory back)) d' id' fits hung ahead flags whole a st = kept-as s (PutEvent which part (putting.OutOfMemory back)) (Answer _) d' id id' st.2 st.3 tt whole tt
+kept s stamp (code.Put cleanup p d) id e d' id' fits hung ahead flags whole a st = absurd st
+kept s stamp (code.Finish p d) id (EndCopy which part putting.Took) d' id' (sane, keeps) hung ahead flags whole a st =
     kept-as s (EndCopy which part putting.Took) d d' id id' st.2 st.3
-    (fits-so _ false d id sane (inr (there-extended s (after s (EndCopy which part putting.Took)) which id part refl refl keeps.0, ended-there which id s.copying st.0))) whole tt
-kept s stamp (code.Finish p d) id (EndCopy which part (putting.Gone back)) d' id' (sane, keeps) hung flags whole a st = absurd (runs s id which st.0 whole keeps.0 keeps.1 a.1)
-kept s stamp (code.Finish p d) id (EndCopy which part (putting.OutOfMemory back)) d' id' fits hung flags whole a st = kept-as s (EndCopy which part (putting.OutOfMemory back)) (Answer _) d' id id' st.2 st.3 tt whole tt
-kept s stamp (code.Finish p d) id e d' id' fits hung flags whole a st = absurd st
-kept s stamp (code.Close p d) id (EndCopy which part putting.Took) d' id' (sane, keeps) hung flags whole a st =
+    (fits-so _ Free d id sane (inr (there-extended s (after s (EndCopy which part putting.Took)) which id part refl refl keeps.0, ended-there which id s.copying st.0)) tt) whole tt
+kept s stamp (code.Finish p d) id (EndCopy which part (putting.Gone back)) d' id' (sane, keeps) hung ahead flags whole a st = absurd (runs s id which st.0 whole keeps.0 keeps.1 a.1)
+kept s stamp (code.Finish p d) id (EndCopy which part (putting.OutOfMemory back)) d' id' fits hung ahead flags whole a st = kept-as s (EndCopy which part (putting.OutOfMemory back)) (Answer _) d' id id' st.2 st.3 tt whole tt
+kept s stamp (code.Finish p d) id e d' id' fits hung ahead flags whole a st = absurd st
+kept s stamp (code.Close p d) id (EndCopy which part putting.Took) d' id' (sane, keeps) hung ahead flags whole a st =
     kept-as s (EndCopy which part putting.Took) d d' id id' st.2 st.3
-    (fits-so _ false d id sane (inr (there-extended s (after s (EndCopy which part putting.Took)) which id part refl refl keeps.0, ended-there which id s.copying st.0))) whole tt
-kept s stamp (code.Close p d) id (EndCopy which part (putting.Gone back)) d' id' (sane, keeps) hung flags whole a st = absurd (runs s id which st.0 whole keeps.0 keeps.1 a.1)
-kept s stamp (code.Close p d) id (EndCopy which part (putting.OutOfMemory back)) d' id' fits hung flags whole a st = kept-as s (EndCopy which part (putting.OutOfMemory back)) (Answer _) d' id id' st.2 st.3 tt whole tt
-kept s stamp (code.Close p d) id e d' id' fits hung flags whole a st = absurd st
-kept s stamp (code.HangUp d) id (HangUp which (Ok x)) d' id' (none, sane) hung flags whole a st = kept-as s (HangUp which (Ok x)) d d' id id' st.1 st.2 (fits-none _ d id sane none) whole tt
-kept s stamp (code.HangUp d) id (HangUp which (Err f)) d' id' fits hung flags whole a st = kept-as s (HangUp which (Err f)) (Answer _) d' id id' st.1 st.2 tt whole tt
-kept s stamp (code.HangUp d) id e d' id' fits hung flags whole a st = absurd st
-kept s stamp (code.Call q refused next) id e d' id' fits hung flags whole a (r, told, is, same) = call-kept s q refused next id e r d' id' told fits whole (asks s e (told-asks q e r told)) is same
-kept s stamp (code.Hear next) id e d' id' fits hung flags whole a st = absurd st
+    (fits-so _ Free d id sane (inr (there-extended s (after s (EndCopy which part putting.Took)) which id part refl refl keeps.0, ended-there which id s.copying st.0)) tt) whole tt
+kept s stamp (code.Close p d) id (EndCopy which part (putting.Gone back)) d' id' (sane, keeps) hung ahead flags whole a st = absurd (runs s id which st.0 whole keeps.0 keeps.1 a.1)
+kept s stamp (code.Close p d) id (EndCopy which part (putting.OutOfMemory back)) d' id' fits hung ahead flags whole a st = kept-as s (EndCopy which part (putting.OutOfMemory back)) (Answer _) d' id id' st.2 st.3 tt whole tt
+kept s stamp (code.Close p d) id e d' id' fits hung ahead flags whole a st = absurd st
+kept s stamp (code.HangUp d) id (HangUp which (Ok x)) d' id' (none, sane) hung ahead flags whole a st = kept-as s (HangUp which (Ok x)) d d' id id' st.1 st.2 (fits-none _ d id sane none) whole tt
+kept s stamp (code.HangUp d) id (HangUp which (Err f)) d' id' fits hung ahead flags whole a st = kept-as s (HangUp which (Err f)) (Answer _) d' id id' st.1 st.2 tt whole tt
+kept s stamp (code.HangUp d) id e d' id' fits hung ahead flags whole a st = absurd st
+kept s stamp (code.Call q refused next) id e d' id' fits hung ahead flags whole a (r, told, is, same) = call-kept s q refused next id e r d' id' told fits whole (asks s e (told-asks q e r told)) is same
+kept s stamp (code.Hear next) id e d' id' fits hung ahead flags whole a st = absurd st
 
 -- ---- a walk
 
@@ -342,19 +462,19 @@ pub record Stays {T : Type 0} (s : State) (ds : List Deed) (q : Dialogue T) (end
   pub fits : Fits (after_all s (events_of ds)) q end
   pub hung : NoneHungAhead (after_all s (events_of ds))
 
-stays : {T : Type 0} (s : State) (d : Dialogue T) (id : ℕ) (ds : List Deed) (q : Dialogue T) (end : ℕ) → Fits s d id → NoneHungAhead s → AreFlagged s → s.failed ≡ false → IsLegal s (events_of ds) → Leads d id ds q end → Stays s ds q end
-stays {T} s d id [] q end fits hung flags whole legal l = record {
+stays : {T : Type 0} (s : State) (d : Dialogue T) (id : ℕ) (ds : List Deed) (q : Dialogue T) (end : ℕ) → Fits s d id → NoneHungAhead s → NoneAhead s → AreFlagged s → s.failed ≡ false → IsLegal s (events_of ds) → Leads d id ds q end → Stays s ds q end
+stays {T} s d id [] q end fits hung ahead flags whole legal l = record {
   none_gone = tt;
   fits = subst (λ (x : Dialogue T). Fits s x end) (sym l.0) (subst (λ (k : ℕ). Fits s d k) (sym l.1) fits);
   hung = hung;
 }
-stays s d id (a ∷ ds) q end fits hung flags whole legal (mid, n, st, l) =
-    let k = kept s a.stamp d id a.event mid n fits hung flags whole legal.0 st in
-    let h = stays (after s a.event) mid n ds q end k.fits (hung-one s a.event hung) (flagged-one s a.event flags) k.failed legal.1 l in
+stays s d id (a ∷ ds) q end fits hung ahead flags whole legal (mid, n, st, l) =
+    let k = kept s a.stamp d id a.event mid n fits hung ahead flags whole legal.0 st in
+    let h = stays (after s a.event) mid n ds q end k.fits (hung-one s a.event hung) (ahead-one s a.event legal.0 ahead) (flagged-one s a.event flags) k.failed legal.1 l in
     record { none_gone = (k.not_gone, h.none_gone); fits = h.fits; hung = h.hung }
 
 pub none-gone : {T : Type 0} (s : State) (d : Dialogue T) (id : ℕ) (ds : List Deed) (q : Dialogue T) (end : ℕ) → IsReached s → Fits s d id → s.failed ≡ false → IsLegal s (events_of ds) → Leads d id ds q end → Stays s ds q end
-none-gone s d id ds q end reached fits whole legal l = stays s d id ds q end fits (none-hung s reached) (flagged s reached) whole legal l
+none-gone s d id ds q end reached fits whole legal l = stays s d id ds q end fits (none-hung s reached) (none-ahead s reached) (flagged s reached) whole legal l
 
 -- ---- turns of others
 
@@ -404,18 +524,28 @@ kept-beside-on s id sent L true x flags none (h, c, apart) = (there-on s id L no
 kept-beside-on s id sent L false x flags none (inl h) = inl h
 kept-beside-on s id sent L false x flags none (inr (h, c, apart)) = inr (there-on s id L none h, copying-on s id L flags none h ∙ c, apart)
 
-fits-flagged : {T : Type 0} (s : State) (d : Dialogue T) (id : ℕ) (L : List Deed) → AreFlagged s → HangsUpNone id L → Fits s d id → Fits (after_all s (events_of L)) d id
-fits-flagged s (code.Leave sent d) id L flags none (opened, sane, h) = (opened, sane, kept-beside-on s id sent L opened d flags none h)
-fits-flagged s (code.Answer r) id L flags none h = tt
-fits-flagged s (code.Ask c p d) id L flags none h = h
-fits-flagged s (code.Send p refused d) id L flags none (opened, sane, h) = (opened, sane, kept-on s id L opened (code.Send p refused d) flags none h)
-fits-flagged s (code.Read cleanup decides next) id L flags none (opened, sane, h) = (opened, sane, kept-on s id L opened (code.Read cleanup decides next) flags none h)
-fits-flagged s (code.Put cleanup p d) id L flags none (first, sane, h) = (first, sane, kept-on s id L true d flags none h)
-fits-flagged s (code.Finish p d) id L flags none (sane, h) = (sane, kept-on s id L true d flags none h)
-fits-flagged s (code.Close p d) id L flags none (sane, h) = (sane, kept-on s id L true d flags none h)
-fits-flagged s (code.HangUp d) id L flags none h = h
-fits-flagged s (code.Call q refused next) id L flags none (opened, sane, h) = (opened, sane, kept-on s id L opened (code.Call q refused next) flags none h)
-fits-flagged s (code.Hear next) id L flags none h = tt
+-- others took nothing of it
+got-on : (s : State) (k : ℕ) (L : List Deed) → SparesAll k L → got_of (after_all s (events_of L)) k ≡ got_of s k
+got-on s k [] h = refl
+got-on s k (a ∷ L) h =
+    let own : (k == k) ≡ true = grind (arith, nat_tests) in
+    got-on (after s a.event) k L h.1 ∙ takes-one s a.event k ∙ ap (λ (x : List RawMessage). got_of s k ++ x) (spared-one a.event (λ j. j == k) k h.0 own) ∙ append-nil (got_of s k)
 
-pub fits-on : {T : Type 0} (s : State) (d : Dialogue T) (id : ℕ) (L : List Deed) → IsReached s → HangsUpNone id L → Fits s d id → Fits (after_all s (events_of L)) d id
-fits-on s d id L reached none h = fits-flagged s d id L (flagged s reached) none h
+come-spared : (s : State) (id : ℕ) (L : List Deed) (stage : Stage) → SparesAll id L → HasCome (got_of s id) stage → HasCome (got_of (after_all s (events_of L)) id) stage
+come-spared s id L stage spares come = subst (λ (x : List RawMessage). HasCome x stage) (sym (got-on s id L spares)) come
+
+fits-flagged : {T : Type 0} (s : State) (d : Dialogue T) (id : ℕ) (L : List Deed) → AreFlagged s → SparesAll id L → HangsUpNone id L → Fits s d id → Fits (after_all s (events_of L)) d id
+fits-flagged s (code.Leave sent d) id L flags spares none (stage, sane, h, come) = (stage, sane, kept-beside-on s id sent L (takes_parts stage) d flags none h, come-spared s id L stage spares come)
+fits-flagged s (code.Answer r) id L flags spares none h = tt
+fits-flagged s (code.Ask c p d) id L flags spares none h = h
+fits-flagged s (code.Send p refused d) id L flags spares none (stage, sane, h, come) = (stage, sane, kept-on s id L (takes_parts stage) (code.Send p refused d) flags none h, come-spared s id L stage spares come)
+fits-flagged s (code.Read cleanup decides next) id L flags spares none (stage, sane, h, come) = (stage, sane, kept-on s id L (takes_parts stage) (code.Read cleanup decides next) flags none h, come-spared s id L stage spares come)
+fits-flagged s (code.Put cleanup p d) id L flags spares none (first, sane, h, come) = (first, sane, kept-on s id L true d flags none h, come-spared s id L Open spares come)
+fits-flagged s (code.Finish p d) id L flags spares none (sane, h) = (sane, kept-on s id L true d flags none h)
+fits-flagged s (code.Close p d) id L flags spares none (sane, h) = (sane, kept-on s id L true d flags none h)
+fits-flagged s (code.HangUp d) id L flags spares none h = h
+fits-flagged s (code.Call q refused next) id L flags spares none (stage, sane, h, come) = (stage, sane, kept-on s id L (takes_parts stage) (code.Call q refused next) flags none h, come-spared s id L stage spares come)
+fits-flagged s (code.Hear next) id L flags spares none h = tt
+
+pub fits-on : {T : Type 0} (s : State) (d : Dialogue T) (id : ℕ) (L : List Deed) → IsReached s → SparesAll id L → HangsUpNone id L → Fits s d id → Fits (after_all s (events_of L)) d id
+fits-on s d id L reached spares none h = fits-flagged s d id L (flagged s reached) spares none h

@@ -20,10 +20,11 @@ pub mod Counted
 pub mod Timely
 pub mod Refused
 pub mod Flags
+pub mod Requests
+pub mod Answering
 pub mod Gone
 pub mod Upright
 pub mod Opened
-pub mod Requests
 pub mod Copying
 pub mod Glued
 pub mod Owned

@@ -128,7 +128,7 @@ spared-take id k ms mine foreign own = elim (eqb_tells id k) [
   | inr apart ↦ ap (λ (b : Bool). if b then ms else []) apart.0
 ]
 
-spared-one : (e : Event) (mine : ℕ → Bool) (k : ℕ) → Spares mine e → mine k ≡ true → taken_from k e ≡ []
+pub spared-one : (e : Event) (mine : ℕ → Bool) (k : ℕ) → Spares mine e → mine k ≡ true → taken_from k e ≡ []
 spared-one (TakeEvent id (Ok (taking.Batch ms))) mine k foreign own = spared-take id k ms mine foreign own
 spared-one e mine k foreign own = refl
 

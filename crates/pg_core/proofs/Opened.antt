@@ -1,22 +1,25 @@
--- Where a command waits, its copy is open where the desk's is.
-use Rattle.std.proofs.Common.{◌≡◌, inl, inr, ℕ, List, Bool, true, false}
+-- Where a command waits, its copy takes parts where the desk's does.
+use Rattle.std.proofs.Common.{◌≡◌, inl, inr, ℕ}
 use Rattle.pg_desk.specs.History.{State, is_copying}
 use Rattle.pg_query.specs.Dialogue.{Dialogue, Answer, Ask, Send, Leave, Read, Put, Finish, Close, HangUp, Call, Hear}
 use Rattle.pg_query.specs.Scripts.{cleanup_of}
+use Rattle.pg_core.specs.Lists.{got_of}
 use Rattle.pg_core.specs.Runs.{MayWait}
-use Rattle.pg_core.specs.Times.{EndsFirst, Fits, IsKept, IsSane}
+use Rattle.pg_core.specs.Times.{EndsFirst, Fits, IsKept, IsSane, Stage, Free, HasCome, Opening, Open, takes_parts}
 
-pub opened-so : {T : Type 0} (s : State) (d : Dialogue T) (id : ℕ) → Fits s d id → MayWait d → (opened : Bool) × IsSane opened d × (is_copying id s.copying ≡ opened) × EndsFirst opened (cleanup_of d)
-opened-so {T} s (Read cleanup decides next) id (opened, sane, kept) (inl reads) = by opened sane kept
+pub opened-so : {T : Type 0} (s : State) (d : Dialogue T) (id : ℕ) → Fits s d id → MayWait d →
+    (stage : Stage) × IsSane stage d × (is_copying id s.copying ≡ takes_parts stage) × EndsFirst (takes_parts stage) (cleanup_of d) × HasCome (got_of s id) stage
+opened-so {T} s (Read cleanup decides next) id (stage, sane, kept, come) (inl reads) = by stage sane kept come
   where
-    by : (b : Bool) → IsSane b (Read cleanup decides next) → IsKept s id b (Read cleanup decides next) →
-        (opened : Bool) × IsSane opened (Read cleanup decides next) × (is_copying id s.copying ≡ opened) × EndsFirst opened cleanup
-    by true sane k = (true, sane, k.1, sane.0)
-    by false sane (inl none) = absurd none
-    by false sane (inr k) = (false, sane, k.1, sane.0)
+    by : (at : Stage) → IsSane at (Read cleanup decides next) → IsKept s id (takes_parts at) (Read cleanup decides next) → HasCome (got_of s id) at →
+        (stage : Stage) × IsSane stage (Read cleanup decides next) × (is_copying id s.copying ≡ takes_parts stage) × EndsFirst (takes_parts stage) cleanup × HasCome (got_of s id) stage
+    by Free sane (inl none) come = absurd none
+    by Free sane (inr k) come = (Free, sane, k.1, sane.0, come)
+    by (Opening came) sane k come = (Opening came, sane, k.1, sane.0, come)
+    by Open sane k come = absurd sane
 opened-so s (Read cleanup decides next) id fits (inr puts) = absurd puts
 opened-so s (Put cleanup part d) id fits (inl reads) = absurd reads
-opened-so s (Put cleanup part d) id (first, sane, kept) (inr puts) = (true, (tt, first, sane), kept.1, first)
+opened-so s (Put cleanup part d) id (first, sane, kept, come) (inr puts) = (Open, (tt, first, sane), kept.1, first, come)
 opened-so s (Answer r) id fits (inl h) = absurd h
 opened-so s (Answer r) id fits (inr h) = absurd h
 opened-so s (Ask copying part d) id fits (inl h) = absurd h

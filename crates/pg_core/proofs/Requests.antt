@@ -7,12 +7,12 @@ use Rattle.pg_query.specs.Requests.{asks, reads_unless}
 use Rattle.pg_query.specs.Dialogue.{Dialogue}
 use Rattle.pg_course.specs.Dialogues.{decided_after}
 use Rattle.pg_core.specs.Runs.{AddsNone, IsTidy}
-use Rattle.pg_core.specs.Times.{ReadsNo, IsSane, IsInTime, DecidesInTime, IsFaithful, IsCommand}
+use Rattle.pg_core.specs.Times.{ReadsNo, Free, IsSane, IsInTime, DecidesInTime, IsFaithful, IsCommand}
 
 record All-so {T : Type 0} (d : Dialogue T) : Type 0 where
   tidy : IsTidy d
   adds : AddsNone d
-  sane : IsSane false d
+  sane : IsSane Free d
   reads_no : ReadsNo d
   in_time : IsInTime d
   faithful : IsFaithful d
@@ -41,7 +41,7 @@ in-time-by decides h (m ∷ ms) e = decides-some decides m ms (h (m ∷ ms) e)
 -- what a reading to the answer owes
 pub record ReadsSo {T : Type 0} (d : Dialogue T) : Type 0 where
   pub tidy : IsTidy d
-  pub sane : IsSane false d
+  pub sane : IsSane Free d
   pub in_time : IsInTime d
   pub faithful : IsFaithful d
 
@@ -58,7 +58,7 @@ pub request-so : {T : Type 0} (stops : Bool) (frame : List ℕ) (reading : List 
 request-so {T} stops frame reading h = by (reading [])
   where
     behind : (o : Option (Result T Error)) →
-        AddsNone (reads_unless stops reading o) × IsTidy (reads_unless stops reading o) × IsSane false (reads_unless stops reading o) × IsInTime (reads_unless stops reading o) × IsFaithful (reads_unless stops reading o)
+        AddsNone (reads_unless stops reading o) × IsTidy (reads_unless stops reading o) × IsSane Free (reads_unless stops reading o) × IsInTime (reads_unless stops reading o) × IsFaithful (reads_unless stops reading o)
     behind (Some r) = (tt, (tt, tt), (tt, tt, tt), tt, tt)
     behind None = let r = reads-so stops reading h in (λ ms e. (ends-so stops (reading ms)).adds, r.tidy, r.sane, r.in_time, r.faithful)
 

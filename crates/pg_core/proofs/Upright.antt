@@ -86,7 +86,7 @@ upright-others {T} d trail s p L h legal spares none = record {
   reached = reached-on s (events_of L) h.reached legal;
   runs = runs;
   timely = timely;
-  fits = fits-on s p.dialogue p.reads L h.reached none h.fits;
+  fits = fits-on s p.dialogue p.reads L h.reached spares none h.fits;
   faithful = h.faithful;
 }
   where

@@ -1,5 +1,5 @@
 -- Commands that decide in time: a reading decides at the latest by the ReadyForQuery of its request.
-use Rattle.std.specs.Prelude.{◌≡◌, ◌≢◌, ◌⊎◌, ℕ, ◌<◌, List, [], ◌∷◌, length, take, Bool, true, false, Option, Some, Result, Ok, Err}
+use Rattle.std.specs.Prelude.{◌≡◌, ◌≢◌, ◌⊎◌, ℕ, ◌<◌, List, [], ◌∷◌, ◌++◌, length, take, Bool, true, false, Option, Some, Result, Ok, Err}
 use Rattle.std.specs.List.{list_any}
 use Rattle.pg_spec.specs.RawMessages.{RawMessage, is_ready, ends_in}
 use Rattle.pg_desk.specs.History.{State, is_copying, is_hung_up}
@@ -11,6 +11,7 @@ use Rattle.pg_query.specs.Lives.{Deed}
 use Rattle.pg_query.specs.declared.desk_call.Cleanup.{Cleanup}
 use Rattle.pg_query.specs.declared.desk_call.Cleanup.TheVariants.{Close as CloseFirst}
 use Rattle.pg_query.specs.declared.desk_call.Reply.{Reply}
+use Rattle.pg_course.specs.Copies.{is_opened}
 use Rattle.pg_course.specs.Dialogues.{decided_after}
 use Rattle.pg_faults.specs.declared.error.Error.{Error}
 use Rattle.pg_faults.specs.declared.error.Error.TheVariants.{OutOfMemory}
@@ -55,15 +56,43 @@ IsInTime (Hear next) = Unit {0}
 abbrev pub IsTimely : {T : Type 0} → (ℕ → List RawMessage) → Option ℕ → ℕ → Dialogue T → Type 0
 IsTimely came at n d = IsInTime d × (ReadsNo d ⊎ (list_any is_ready (take n (of_request came at)) ≡ false))
 
--- the copy that is read is open
-abbrev pub IsOpen : Bool → Type 0
-IsOpen true = Unit {0}
-IsOpen false = ⊥
+-- What becomes of the copy that is read.
+pub data Stage : Type 0 where
+  -- none is open: the request is no copy, or the copy was ended
+  Free : Stage
+  -- its opening was sent, and so much came of the reply to that, which doesn't answer it
+  Opening : (came : List RawMessage) → Stage
+  -- the opening was answered
+  Open : Stage
 
--- no copy that is read is open: none is, or it was ended
-abbrev pub IsEnded : Bool → Type 0
-IsEnded true = ⊥
-IsEnded false = Unit {0}
+-- at the desk the copy takes parts: it was booked, and isn't ended
+abbrev pub takes_parts : Stage → Bool
+takes_parts Free = false
+takes_parts (Opening came) = true
+takes_parts Open = true
+
+-- where a request begins
+abbrev pub stage_of : (copying : Bool) → Stage
+stage_of true = Opening []
+stage_of false = Free
+
+-- no copy that is read is open
+abbrev pub IsFree : Stage → Type 0
+IsFree Free = Unit {0}
+IsFree (Opening came) = ⊥
+IsFree Open = ⊥
+
+-- the copy that is read isn't ended
+abbrev pub IsUnended : Stage → Type 0
+IsUnended Free = ⊥
+IsUnended (Opening came) = Unit {0}
+IsUnended Open = Unit {0}
+
+-- its opening was answered too
+abbrev pub IsOpen : Stage → Type 0
+IsOpen Free = ⊥
+IsOpen (Opening came) = ⊥
+IsOpen Open = Unit {0}
 
 -- no copy is ended by it
 abbrev pub EndsNone : List Cleanup → Type 0
@@ -77,28 +106,36 @@ EndsFirst true (CloseFirst part ∷ cs) = EndsNone cs
 EndsFirst true _ = ⊥
 EndsFirst false cs = EndsNone cs
 
--- From here on, where the request that is read is a copy that is open, or isn't: parts are added to an open copy alone, and it is ended
--- before it is hung up, before another request is read, before the answer, and first of all where the command is given up. Behind a hang-up,
--- and behind an end at which what is left of the reply isn't wanted (`Close`), nothing is read before the next request. No `Leave` stands in it (a walk comes to one behind a request that it sent).
-abbrev pub IsSane : {T : Type 0} → (opened : Bool) → Dialogue T → Type 0
-IsSane opened (Answer r) = IsEnded opened
-IsSane opened (Ask copying part d) = IsEnded opened × IsSane copying d
-IsSane opened (Send part refused d) = ((e : Error) → IsSane opened (refused e)) × IsSane opened d
-IsSane opened (Leave id d) = ⊥
-IsSane opened (Read cleanup decides next) = EndsFirst opened cleanup × ((ms : List RawMessage) → decided_after decides ms ≡ Some (length ms) → IsSane opened (next ms))
-IsSane opened (Put cleanup part d) = IsOpen opened × EndsFirst true cleanup × IsSane true d
-IsSane opened (Finish part d) = IsOpen opened × IsSane false d
-IsSane opened (Close part d) = IsOpen opened × ReadsNo d × IsSane false d
-IsSane opened (HangUp d) = IsEnded opened × ReadsNo d × IsSane false d
-IsSane opened (Call q refused next) = ((e : Error) → IsSane opened (refused e)) × ((r : Reply) → fits q r ≡ true → IsSane opened (next r))
-IsSane opened (Hear next) = Unit {0}
+-- From here on. Once a copy is booked, the reply to its opening is read, exactly up to the message that answers it. Then parts are added to it, and
+-- nothing is read before it is ended. It is ended before it is hung up, before another request is booked that is read, before the answer, and first of all where the
+-- command is given up. Until its opening is answered it is read or ended by `Close`, and nothing else. Behind a hang-up, and behind an end at which
+-- what is left of the reply isn't wanted (`Close`), nothing is read before the next request. No `Leave` stands in it (a walk comes to one behind a
+-- request that it sent).
+abbrev pub IsSane : {T : Type 0} → Stage → Dialogue T → Type 0
+IsSane stage (Answer r) = IsFree stage
+IsSane stage (Ask copying part d) = IsFree stage × IsSane (stage_of copying) d
+IsSane (Opening came) (Send part refused d) = ⊥
+IsSane stage (Send part refused d) = ((e : Error) → IsSane stage (refused e)) × IsSane stage d
+IsSane stage (Leave id d) = ⊥
+IsSane Free (Read cleanup decides next) = EndsFirst false cleanup × ((ms : List RawMessage) → decided_after decides ms ≡ Some (length ms) → IsSane Free (next ms))
+IsSane (Opening came) (Read cleanup decides next) =
+    EndsFirst true cleanup × ((ms : List RawMessage) → decided_after decides ms ≡ decided_after (λ front. is_opened (came ++ front)) ms)
+    × ((ms : List RawMessage) → decided_after decides ms ≡ Some (length ms) → IsSane Open (next ms))
+IsSane Open (Read cleanup decides next) = ⊥
+IsSane stage (Put cleanup part d) = IsOpen stage × EndsFirst true cleanup × IsSane Open d
+IsSane stage (Finish part d) = IsOpen stage × IsSane Free d
+IsSane stage (Close part d) = IsUnended stage × ReadsNo d × IsSane Free d
+IsSane stage (HangUp d) = IsFree stage × ReadsNo d × IsSane Free d
+IsSane (Opening came) (Call q refused next) = ⊥
+IsSane stage (Call q refused next) = ((e : Error) → IsSane stage (refused e)) × ((r : Reply) → fits q r ≡ true → IsSane stage (next r))
+IsSane stage (Hear next) = Unit {0}
 
 -- the request that is read is booked, and nobody hung it up
 pub record IsThere (s : State) (id : ℕ) : Type 0 where
   pub booked : id < length s.book
   pub kept_up : is_hung_up s id ≡ false
 
--- The request that is read is there where this is read or added to. Its copy is open where the desk's takes parts, and only there.
+-- The request that is read is there where this is read or added to. It is a copy of which the desk takes parts where one that isn't ended stands here, and only there.
 abbrev pub IsKept : {T : Type 0} → State → (id : ℕ) → (opened : Bool) → Dialogue T → Type 0
 IsKept s id true d = IsThere s id × (is_copying id s.copying ≡ true)
 IsKept s id false d = ReadsNo d ⊎ (IsThere s id × (is_copying id s.copying ≡ false))
@@ -108,18 +145,24 @@ abbrev pub IsKeptBeside : {T : Type 0} → State → (id sent : ℕ) → (opened
 IsKeptBeside s id sent true d = IsThere s id × (is_copying id s.copying ≡ true) × (sent ≢ id)
 IsKeptBeside s id sent false d = ReadsNo d ⊎ (IsThere s id × (is_copying id s.copying ≡ false) × (sent ≢ id))
 
+-- what was taken of a reply is what came where the opening is read, and doesn't answer that; where the copy is open it does
+abbrev pub HasCome : (got : List RawMessage) → Stage → Type 0
+HasCome got Free = Unit {0}
+HasCome got (Opening came) = (got ≡ came) × (is_opened came ≡ false)
+HasCome got Open = is_opened got ≡ true
+
 -- where a walk stands: it reads nothing, or its request is there
 abbrev pub Fits : {T : Type 0} → State → Dialogue T → ℕ → Type 0
-Fits s (Leave sent d) id = (opened : Bool) × IsSane opened d × IsKeptBeside s id sent opened d
+Fits s (Leave sent d) id = (stage : Stage) × IsSane stage d × IsKeptBeside s id sent (takes_parts stage) d × HasCome (got_of s id) stage
 Fits s (Answer r) id = Unit {0}
-Fits s (Ask copying part d) id = IsSane copying d
-Fits s (Send part refused d) id = (opened : Bool) × IsSane opened (Send part refused d) × IsKept s id opened (Send part refused d)
-Fits s (Read cleanup decides next) id = (opened : Bool) × IsSane opened (Read cleanup decides next) × IsKept s id opened (Read cleanup decides next)
-Fits s (Put cleanup part d) id = EndsFirst true cleanup × IsSane true d × IsKept s id true d
-Fits s (Finish part d) id = IsSane false d × IsKept s id true d
-Fits s (Close part d) id = IsSane false d × IsKept s id true d
-Fits s (HangUp d) id = ReadsNo d × IsSane false d
-Fits s (Call q refused next) id = (opened : Bool) × IsSane opened (Call q refused next) × IsKept s id opened (Call q refused next)
+Fits s (Ask copying part d) id = IsSane (stage_of copying) d
+Fits s (Send part refused d) id = (stage : Stage) × IsSane stage (Send part refused d) × IsKept s id (takes_parts stage) (Send part refused d) × HasCome (got_of s id) stage
+Fits s (Read cleanup decides next) id = (stage : Stage) × IsSane stage (Read cleanup decides next) × IsKept s id (takes_parts stage) (Read cleanup decides next) × HasCome (got_of s id) stage
+Fits s (Put cleanup part d) id = EndsFirst true cleanup × IsSane Open d × IsKept s id true d × HasCome (got_of s id) Open
+Fits s (Finish part d) id = IsSane Free d × IsKept s id true d
+Fits s (Close part d) id = IsSane Free d × IsKept s id true d
+Fits s (HangUp d) id = ReadsNo d × IsSane Free d
+Fits s (Call q refused next) id = (stage : Stage) × IsSane stage (Call q refused next) × IsKept s id (takes_parts stage) (Call q refused next) × HasCome (got_of s id) stage
 Fits s (Hear next) id = Unit {0}
 
 -- where memory lacked it reads and asks nothing more, and answers that
@@ -149,7 +192,7 @@ IsFaithful (Hear next) = Unit {0}
 pub record IsCommand {T : Type 0} (d : Dialogue T) : Type 0 where
   pub tidy : IsTidy d
   pub nothing : ReadsNothing d
-  pub sane : IsSane false d
+  pub sane : IsSane Free d
   pub in_time : IsInTime d
   pub faithful : IsFaithful d
 
@@ -179,9 +222,9 @@ pub data TurnedWell {T : Type 0} (d : Dialogue T) (trail : List Moment) (s : Sta
   AnsweredWell : (r : Result T Error) → q.dialogue ≡ Answer r → (ran_by d trail).left ≡ Answer r → TurnedWell d trail s q
   LackedMemory : q.dialogue ≡ Answer (Err OutOfMemory) → TurnedWell d trail s q
 
--- it is sane, where its copy is open or isn't
+-- it is sane, whatever becomes of its copy
 abbrev pub IsSaneSo : {T : Type 0} → Dialogue T → Type 0
-IsSaneSo d = (opened : Bool) × IsSane opened d
+IsSaneSo d = (stage : Stage) × IsSane stage d
 
 -- A place of another command, as one who reads request `k` sees it: it reads and adds to another, or to none yet, and lets go of another.
 abbrev pub IsOff : {T : Type 0} → (k : ℕ) → Dialogue T → ℕ → Type 0

@@ -1,23 +1,24 @@
 //! What the polls of a command come to: its outcome over any desk, and how it unfolds turn by turn over one
 //! legal list of what all did.
 
-ghost use Rattle.std.specs.Prelude.{◌≡◌, ◌<◌, ◌≤◌, ◌⊎◌, ◌==◌, ◌&&◌, [], ◌∷◌, ◌++◌, map, Bool, false, true, List, ℕ, Option, Result, Err, is_some, filter, length, Ok, Some};
+ghost use Rattle.std.specs.Prelude.{◌≡◌, ◌≢◌, ◌<◌, ◌≤◌, ◌⊎◌, ◌==◌, ◌&&◌, [], ◌∷◌, ◌++◌, map, Bool, false, true, List, ℕ, Option, Result, Err, is_some, filter, length, Ok, Some};
 ghost use Rattle.std.specs.List.{list_any};
-ghost use Rattle.pg_core.specs.Copying.{copies};
+ghost use Rattle.pg_core.specs.Copying.{copies, puts};
 ghost use Rattle.pg_core.specs.Counters.{Counts, ToldSo, tells};
 ghost use Rattle.pg_core.specs.Deeds.{Addition, Serves, IsNew, got_after, additions_in, bookings_in, answers_in};
 ghost use Rattle.pg_core.specs.Lists.{IsApart, IsReached, SparesAll, came_of, events_of, got_of, state_behind};
 ghost use Rattle.pg_core.specs.Outcomes.{AreBegun, LivesSo, asked};
 ghost use Rattle.pg_core.specs.Runs.{At, Holds, IsTidy, MayWait, ReadsNothing, Comes, of_request, run};
-ghost use Rattle.pg_core.specs.Times.{EndsFirst, EndsNone, HangsUpNone, IsCommand, IsOff, IsSane, IsUpright, LacksMemory, TurnedWell};
+ghost use Rattle.pg_core.specs.Times.{EndsFirst, EndsNone, HangsUpNone, HasCome, IsCommand, IsOff, IsSane, IsUpright, LacksMemory, Stage, TurnedWell, takes_parts};
 ghost use Rattle.pg_core.specs.Trails.{AllUnder, AreMet, AreNumbered, AreToldIn, AreTurnsOf, BooksSo, CameBy, HasNoneOf, HoldsRequests, IsNext, IsRunning, IsTurnOf, Moment, OwnTurn, PollEnds, PollsOn, begun_at, goes_on, moment_of, point_of, ran_by, with_all};
+ghost use Rattle.pg_course.specs.Copies.{is_opened};
 ghost use Rattle.pg_course.specs.Dialogues.{decided_after};
 ghost use Rattle.pg_course.specs.Courses.{Asked, Course, Request, Unfolds, begun_in, nowhere, questions_of, requests_of, Who, stamp_of};
 ghost use Rattle.pg_desk.specs.History.{IsFrontOf, IsLegal, IsSound, State, after_all, ended, is_copying, kept, received, reply, start};
 ghost use Rattle.pg_faults.specs.declared.error.Error.{Error};
 ghost use Rattle.pg_faults.specs.declared.error.Error.TheVariants.{OutOfMemory};
 ghost use Rattle.pg_core.specs.Behind.{behind};
-ghost use Rattle.pg_query.specs.Dialogue.{Dialogue, Answer, Ask, Finish, HangUp, Put, Read, feed};
+ghost use Rattle.pg_query.specs.Dialogue.{Dialogue, Answer, Ask, Call, Finish, HangUp, Put, Read, feed};
 ghost use Rattle.pg_query.specs.Lives.{Deed, Turn, Leads, Lives, deeds};
 ghost use Rattle.pg_query.specs.Meaning.{Place};
 ghost use Rattle.pg_query.specs.Requests.{asks};
@@ -130,20 +131,29 @@ pub fn a_request_is_a_command<T>()
         IsCommand (asks stops frame reading) }
 {}
 
-/// A copy is one that the core takes, whatever its parts are, where its opening and its answer are decided at their ReadyForQuery, and
-/// the messages by which it is opened hold none.
+/// A copy is one that the core takes, whatever its parts are, where its opening is decided exactly where it is answered, its answer is
+/// decided at its ReadyForQuery, and the messages by which it is opened hold none.
 pub fn a_copy_is_a_command<T>()
     ensures { (opening failing ending : List ℕ) (parts : List (List ℕ)) (opened : List RawMessage → Option (Result (Unit {0}) Error)) (reading : List RawMessage → Option (Result T Error)) →
-        ((ms : List RawMessage) → ends_in is_ready ms ≡ true → is_some (opened ms) ≡ true) → ((ms : List RawMessage) (x : Unit {0}) → decided_after (λ l. is_some (opened l)) ms ≡ Some (length ms) → list_any is_ready ms ≡ true → opened ms ≡ Some (Ok x) → ⊥) →
+        ((ms : List RawMessage) → decided_after (λ l. is_some (opened l)) ms ≡ decided_after is_opened ms) → ((ms : List RawMessage) (x : Unit {0}) → decided_after (λ l. is_some (opened l)) ms ≡ Some (length ms) → list_any is_ready ms ≡ true → opened ms ≡ Some (Ok x) → ⊥) →
         ((ms : List RawMessage) → ends_in is_ready ms ≡ true → is_some (reading ms) ≡ true) → IsCommand (copies opening failing ending parts opened reading) }
 {}
 
-/// What is no command: a copy that is hung up or answers before it is ended, one that gets a part behind its end, and one that is hung up
-/// before it is ended where it is given up.
+/// What is no command: a copy that is hung up or answers before it is ended, one that gets a part, is ended, or asks something, before its opening is answered, one that
+/// decides its opening elsewhere than where it is answered, one that reads before it is ended, behind any number of parts, one that gets a part
+/// behind its end, and one that is hung up before it is ended where it is given up.
 pub fn what_no_copy_does<T>()
     ensures hung_up { (part : List ℕ) (d : Dialogue T) → IsCommand (Ask true part (HangUp d)) → ⊥ }
     ensures answered { (part : List ℕ) (r : Result T Error) → IsCommand (Ask true part (Answer r)) → ⊥ }
-    ensures behind_its_end { (part ending more : List ℕ) (left : List Cleanup) (d : Dialogue T) → IsCommand (Ask true part (Finish ending (Put left more d))) → ⊥ }
+    ensures put_unopened { (part more : List ℕ) (left : List Cleanup) (d : Dialogue T) → IsCommand (Ask true part (Put left more d)) → ⊥ }
+    ensures ended_unopened { (part ending : List ℕ) (d : Dialogue T) → IsCommand (Ask true part (Finish ending d)) → ⊥ }
+    ensures asked_unopened { (part : List ℕ) (q : DeskCall) (refused : Error → Dialogue T) (next : Reply → Dialogue T) → IsCommand (Ask true part (Call q refused next)) → ⊥ }
+    ensures decided_elsewhere { (part : List ℕ) (left : List Cleanup) (decides : List RawMessage → Bool) (next : List RawMessage → Dialogue T) (ms : List RawMessage) →
+        decided_after decides ms ≢ decided_after is_opened ms → IsCommand (Ask true part (Read left decides next)) → ⊥ }
+    ensures read_open { (part failing : List ℕ) (parts : List (List ℕ)) (first left : List Cleanup) (opens decides : List RawMessage → Bool) (next later : List RawMessage → Dialogue T) (ms : List RawMessage) →
+        decided_after opens ms ≡ Some (length ms) → next ms ≡ puts failing parts (Read left decides later) → IsCommand (Ask true part (Read first opens next)) → ⊥ }
+    ensures behind_its_end { (part ending more : List ℕ) (first left : List Cleanup) (opens : List RawMessage → Bool) (next : List RawMessage → Dialogue T) (ms : List RawMessage) (d : Dialogue T) →
+        decided_after opens ms ≡ Some (length ms) → next ms ≡ Finish ending (Put left more d) → IsCommand (Ask true part (Read first opens next)) → ⊥ }
     ensures given_up_open { (part : List ℕ) (left : List Cleanup) (decides : List RawMessage → Bool) (next : List RawMessage → Dialogue T) → IsCommand (Ask true part (Read (Release ∷ left) decides next)) → ⊥ }
 {}
 
@@ -152,10 +162,11 @@ pub fn a_command_begins_upright<T>()
     ensures { (d : Dialogue T) (s : State) (p : Place T) → IsCommand d → p.dialogue ≡ d → IsReached s → IsUpright d [] s p }
 {}
 
-/// Where an upright command waits, its copy is open exactly where the desk's is, and what is left to do there ends it first.
+/// Where an upright command waits, its copy takes parts exactly where the desk's does, and what is left to do there ends it first. Where it reads
+/// the reply to the opening, what it took doesn't answer that, and where it puts a part, that does.
 pub fn its_copy_is_open_at_the_desk<T>()
     ensures { (d : Dialogue T) (trail : List Moment) (s : State) (p : Place T) → IsUpright d trail s p → MayWait p.dialogue →
-        (opened : Bool) × IsSane opened p.dialogue × (is_copying p.reads s.copying ≡ opened) × EndsFirst opened (cleanup_of p.dialogue) }
+        (stage : Stage) × IsSane stage p.dialogue × (is_copying p.reads s.copying ≡ takes_parts stage) × EndsFirst (takes_parts stage) (cleanup_of p.dialogue) × HasCome (got_of s p.reads) stage }
 {}
 
 /// A turn of its own, in a legal list of an open hub: it waits and stays upright, or it answers as its equations say, or memory lacked.

@@ -1,4 +1,5 @@
 pub mod Dialogues
+pub mod Copies
 pub mod Courses
 pub mod Meanings
 pub mod Isolation

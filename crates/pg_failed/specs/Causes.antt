@@ -1,6 +1,6 @@
 -- When a session of any commands may answer each failure: as one of simple queries, and it may stall too where a copy's opening isn't
 -- answered (PostgreSQL documentation, "COPY Operations").
-use Rattle.std.specs.Prelude.{◌≡◌, ℕ, ◌+◌, ◌-◌, ◌^◌, ◌≤◌, ◌<◌, ◌⊎◌, Bool, not, IsTrue, IsFalse, List, [], Some, None, slice_get, ◌==◌}
+use Rattle.std.specs.Prelude.{◌≡◌, ℕ, ◌+◌, ◌-◌, ◌^◌, ◌≤◌, ◌<◌, ◌⊎◌, Bool, IsTrue, IsFalse, List, [], Some, None, slice_get, ◌==◌}
 use Rattle.std.specs.List.{list_any}
 use Rattle.std.specs.Str.{byte}
 use Rattle.pg_promises.specs.Causes as landed
@@ -10,6 +10,7 @@ use Rattle.pg_spec.specs.Links.{Rose, next_count}
 use Rattle.pg_spec.specs.RawMessages.{RawMessage, groups, ends_in}
 use Rattle.pg_spec.specs.Sent.{units, whole_units}
 use Rattle.pg_spec.specs.Settings.{Settings}
+use Rattle.pg_course.specs.Copies.{is_opened}
 use Rattle.pg_failed.specs.Calls.{Call, apart}
 
 -- Flush, which gives the server the turn and ends no request (PostgreSQL documentation, "Extended Query")
@@ -19,10 +20,6 @@ is_flush frame = frame.tag == byte "H"
 -- the last request that was sent is a copy's opening, up to its Flush, and nothing of it is behind that
 abbrev pub awaits_opening : List ℕ → Bool
 awaits_opening sent = list_any (ends_in is_flush) (units sent)
-
--- a copy's opening is answered: behind BindComplete stands CopyInResponse, or an error or anything else that isn't BindComplete
-abbrev pub is_opened : List RawMessage → Bool
-is_opened reply = list_any (λ m. not (m.tag == byte "2")) reply
 
 -- the group behind the whole ones, as far as it came
 abbrev pub open_group : List RawMessage → List RawMessage

@@ -1,6 +1,7 @@
 -- When a session of any commands must end well: valid input over a link that conforms (PostgreSQL documentation, "Message Flow").
 use Rattle.std.specs.Prelude.{◌≡◌, ℕ, ◌++◌, Bool, true, false, IsTrue, IsFalse, List, [], ◌∷◌, map, filter, drop, Some, None, Result, Ok, Err, if◌then◌else◌, ⊤}
 use Rattle.std.specs.List.{concat, list_any}
+use Rattle.pg_course.specs.Copies.{is_opened}
 use Rattle.pg_course.specs.Meanings.{Meaning}
 use Rattle.pg_promises.specs.ConnectionStrings.{Means}
 use Rattle.pg_promises.specs.Promises.{AnswersStartup, IsOneReply, IsValid}
@@ -10,7 +11,7 @@ use Rattle.pg_spec.specs.RawMessages.{messages, is_ready, sync_of}
 use Rattle.pg_spec.specs.Sent.{after_startup_frame, asked_for_tls, gives_turn}
 use Rattle.pg_spec.specs.Settings.{Settings}
 use Rattle.pg_failed.specs.Calls.{Call, apart}
-use Rattle.pg_failed.specs.Causes.{is_flush, is_opened}
+use Rattle.pg_failed.specs.Causes.{is_flush}
 use Rattle.pg_failed.specs.Sent.{SentInOrder}
 
 -- ---- a server that conforms

@@ -9,13 +9,13 @@ use Rattle.pg_query.specs.declared.desk_call.Reply.{Reply}
 use Rattle.pg_course.specs.Courses.{Course, Who}
 use Rattle.pg_core.specs.Lists.{SparesAll, events_of}
 use Rattle.pg_core.specs.Runs.{MayWait}
-use Rattle.pg_core.specs.Times.{Fits, HangsUpNone, IsCommand, IsKept, IsOff, IsSaneSo, IsThere}
+use Rattle.pg_core.specs.Times.{Free, Open, takes_parts, Fits, HangsUpNone, IsCommand, IsKept, IsOff, IsSaneSo, IsThere}
 use Rattle.pg_core.proofs.Off.{left-alone, off-none, off-other}
 use Rattle.pg_lives.specs.Kept.{IsUnderWay, Now}
 
 -- where a command waits its request is there
 fits-waits : {T : Type 0} (s : State) (d : Dialogue T) (id : ℕ) → Fits s d id → MayWait d → IsSaneSo d × IsThere s id
-fits-waits s (Read cleanup decides next) id (opened, sane, kept) (inl reads) = ((opened, sane), by opened kept)
+fits-waits s (Read cleanup decides next) id (stage, sane, kept, come) (inl reads) = ((stage, sane), by (takes_parts stage) kept)
   where
     by : (b : Bool) → IsKept s id b (Read cleanup decides next) → IsThere s id
     by true h = h.0
@@ -23,7 +23,7 @@ fits-waits s (Read cleanup decides next) id (opened, sane, kept) (inl reads) = (
     by false (inr h) = h.0
 fits-waits s (Read cleanup decides next) id fits (inr puts) = absurd puts
 fits-waits s (Put cleanup part d) id fits (inl reads) = absurd reads
-fits-waits s (Put cleanup part d) id (first, sane, kept) (inr puts) = ((true, (tt, first, sane)), kept.0)
+fits-waits s (Put cleanup part d) id (first, sane, kept, come) (inr puts) = ((Open, (tt, first, sane)), kept.0)
 fits-waits s (Answer r) id fits (inl h) = absurd h
 fits-waits s (Answer r) id fits (inr h) = absurd h
 fits-waits s (Ask copying part d) id fits (inl h) = absurd h
@@ -51,7 +51,7 @@ is-booked course who d free now p h = (fits-waits now.state p.dialogue p.reads h
 pub begin-spares : {T : Type 0} (d : Dialogue T) (s : State) (p : Place T) (ds : List Deed) (q : Dialogue T) (end k : ℕ) → IsCommand d → p.dialogue ≡ d → IsLegal s (events_of ds) → Leads p.dialogue p.reads ds q end →
     k < length s.book → SparesAll k ds × HangsUpNone k ds
 begin-spares {T} d s p ds q end k h is legal l lt =
-    left-alone k s p.dialogue p.reads ds q end (subst (λ (x : Dialogue T). IsOff k x p.reads) (sym is) (off-none k d p.reads (false, h.sane) h.nothing)) lt legal l
+    left-alone k s p.dialogue p.reads ds q end (subst (λ (x : Dialogue T). IsOff k x p.reads) (sym is) (off-none k d p.reads (Free, h.sane) h.nothing)) lt legal l
 
 -- one that runs leaves each other alone
 pub poll-spares : {T : Type 0} (course : Course DeskCall Reply) (who : Who) (d : Dialogue T) (free : ℕ) (now : Now) (p : Place T) (ds : List Deed) (q : Dialogue T) (end k : ℕ) → IsUnderWay course who d free now p →

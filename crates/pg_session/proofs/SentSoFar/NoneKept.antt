@@ -31,7 +31,7 @@ use Rattle.pg_core.specs.Counters.{tells}
 use Rattle.pg_core.specs.Deeds.{AreGranted}
 use Rattle.pg_core.specs.Outcomes.{asked}
 use Rattle.pg_core.specs.Runs.{MayWait, ReadsNothing, run}
-use Rattle.pg_core.specs.Times.{IsSane}
+use Rattle.pg_core.specs.Times.{Free, IsSane}
 use Rattle.pg_core.specs.Trails.{AreTurnsOf, Moment, goes_on, ran_by, said_booking}
 use Rattle.pg_core.proofs.Extended.{holds-now}
 use Rattle.pg_wire.specs.LinkCalls.{Keeps}
@@ -156,7 +156,7 @@ abbrev IsAsk : {T : Type 0} → code.Dialogue T → Type 0
 IsAsk (code.Ask copying part d) = Unit {0}
 IsAsk other = ⊥
 
-asks-first : {T B : Type 0} (d : code.Dialogue T) (f : Result T Error → B) → IsSane false d → ReadsNothing d → BeginsWithRequest (behind (asked d) (λ r. Answers (f r))) → IsAsk d
+asks-first : {T B : Type 0} (d : code.Dialogue T) (f : Result T Error → B) → IsSane Free d → ReadsNothing d → BeginsWithRequest (behind (asked d) (λ r. Answers (f r))) → IsAsk d
 asks-first (code.Answer r) f sane nothing begins = absurd begins
 asks-first (code.Ask copying part d) f sane nothing begins = tt
 asks-first (code.Send part refused d) f sane nothing begins = absurd begins
