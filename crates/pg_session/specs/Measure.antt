@@ -1,11 +1,14 @@
 -- How much is left to do in a session: numbers of which the first that changes falls, in each turn in which something moves.
-use Rattle.std.specs.Prelude.{◌≡◌, ◌⊎◌, ◌<◌, ◌≤◌, ℕ, suc, ◌+◌, ◌-◌, ◌*◌, Bool, true, false, List, [], ◌∷◌, drop, length, Option, Some, None}
+use Rattle.std.specs.Prelude.{◌≡◌, ◌⊎◌, ◌<◌, ◌≤◌, ℕ, suc, ◌+◌, ◌-◌, ◌*◌, Bool, true, false, if◌then◌else◌, List, [], ◌∷◌, drop, length, Option, Some, None}
 use Rattle.pg_faults.specs.declared.error.Error.{Error}
 use Rattle.pg_spec.specs.RawMessages.{RawMessage}
 use Rattle.pg_connect.specs.declared.streams.Streams.{Streams}
 use Rattle.pg_connect.specs.Passes.{waiting, delayed_in, goodbye}
+use Rattle.pg_desk.specs.declared.event.Booking.{Booking}
 use Rattle.pg_desk.specs.History.{State}
 use Rattle.pg_hub.specs.Fits.{Fits}
+use Rattle.pg_hub.specs.Rests.{Rest}
+use Rattle.pg_hub.specs.Standing.{Standing}
 use Rattle.pg_hub.specs.Waiting.{undelivered_of}
 use Rattle.pg_core.specs.Runs.{MayWait}
 use Rattle.pg_query.specs.Dialogue.{Dialogue, Answer, Ask, Send, Leave, Read, Put, Finish, Close, HangUp, Call, Hear, fits}
@@ -69,6 +72,29 @@ AllMayPut bound [] (handle ∷ handles) n = (own : ℕ) × (others : ℕ) × May
 AllMayPut bound (script ∷ scripts) (handle ∷ handles) n =
     (own : ℕ) × (others : ℕ) × MayPut bound script handle.running (length handle.answers) own × AllMayPut bound scripts handles others × (n ≡ own + others)
 
+-- How many parts were put in a request: all behind its opening, but its end where it is ended. One that is no copy has one part.
+abbrev pub put_to : Booking → (copying : Bool) → ℕ
+put_to b copying = length b.parts - (if copying then 1 else 2)
+
+-- the same of all requests, by what of each hasn't gone out
+abbrev pub put_in : List Booking → List Rest → ℕ
+put_in [] rs = 0
+put_in (b ∷ bs) [] = 0
+put_in (b ∷ bs) (r ∷ rs) = put_to b r.copying + put_in bs rs
+
+-- of a hub
+abbrev pub put_of : Standing → ℕ
+put_of hub = put_in hub.book hub.outgoing
+
+-- how many parts the commands of all scripts may put, from the first to the last
+abbrev pub bounds_in : {C : Type 0} → (bound : C → ℕ) → List (List C) → ℕ
+bounds_in bound [] = 0
+bounds_in bound (script ∷ scripts) = bounds_of bound script + bounds_in bound scripts
+
+-- how many of them are still to be put, over a hub in which some were
+abbrev pub still_to_put : {C : Type 0} → (bound : C → ℕ) → List (List C) → Standing → ℕ
+still_to_put bound scripts hub = bounds_in bound scripts - put_of hub
+
 -- ---- the connection
 
 -- A byte that may still come counts two, and one once it is buffered. A message leaves five there or more: one that
@@ -100,6 +126,10 @@ left_with scripts parts s = record {
   unsent = s.hub.unsent + unsent_left s.streams;
 }
 
+-- of a session whose commands put at most so many parts each, by the parts that were put
+abbrev pub left_within : {C T A E : Type 0} → (bound : C → ℕ) → List (List C) → SessionState T A E → Left
+left_within bound scripts s = left_with scripts (still_to_put bound scripts s.hub) s
+
 -- of a session whose commands put none
 abbrev pub left_to_do : {C T A E : Type 0} → List (List C) → SessionState T A E → Left
 left_to_do scripts s = record {
@@ -118,6 +148,10 @@ pub data IsLess (x y : Left) : Type 0 where
 abbrev pub Nears : (moved : Bool) → (before after : Left) → Type 0
 Nears true before after = IsLess after before
 Nears false before after = IsLess after before ⊎ (after ≡ before)
+
+-- the same of a session whose commands put at most so many parts each
+abbrev pub IsNearerWithin : {C T A E : Type 0} → (bound : C → ℕ) → List (List C) → (moved : Bool) → SessionState T A E → SessionState T A E → Type 0
+IsNearerWithin bound scripts moved s t = Nears moved (left_within bound scripts s) (left_within bound scripts t)
 
 -- the same of a session whose commands put no part
 abbrev pub IsNearer : {C T A E : Type 0} → List (List C) → (moved : Bool) → SessionState T A E → SessionState T A E → Type 0
@@ -148,6 +182,12 @@ pub record IsUnderWayWith {C T A E : Type 0} (bound : C → ℕ) (scripts : List
   pub waits : AllWait s.handles
   pub puts : AllMayPut bound scripts s.handles parts
 
+-- The same, and no more parts were put and may still be than the commands of its scripts may put.
+pub record IsUnderWayWithin {C T A E : Type 0} (bound : C → ℕ) (scripts : List (List C)) (s : SessionState T A E) : Type 0 where
+  pub parts : ℕ
+  pub under_way : IsUnderWayWith bound scripts parts s
+  pub few : parts + put_of s.hub ≤ bounds_in bound scripts
+
 -- a command that runs waits for a message, and puts no part
 abbrev pub RunReads : {T : Type 0} → Option (Place T) → Type 0
 RunReads None = Unit {0}
@@ -164,8 +204,9 @@ pub record IsUnderWay {T A E : Type 0} (s : SessionState T A E) : Type 0 where
   pub fits : Fits state s.hub
   pub handles : AllRead s.handles
 
--- Behind a turn commands may still put so many parts, and less is left to do where something moved.
+-- Behind a turn commands may still put so many parts, no more than before, and less is left to do where something moved.
 pub record LeavesLess {C T A E : Type 0} (bound : C → ℕ) (scripts : List (List C)) (parts : ℕ) (moved : Bool) (s t : SessionState T A E) : Type 0 where
   pub left : ℕ
+  pub no_more : left ≤ parts
   pub under_way : IsUnderWayWith bound scripts left t
   pub nearer : Nears moved (left_with scripts parts s) (left_with scripts left t)

@@ -18,7 +18,8 @@ pub use events::each_request_reads_its_reply;
 pub use lives::what_came;
 pub use main_theorem::every_session_ends_well;
 pub use measure::{
-    a_copy_puts_its_parts, each_turn_is_nearer, each_turn_leaves_less, turns_leave_no_more,
+    a_copy_puts_its_parts, each_turn_is_nearer, each_turn_is_nearer_within, each_turn_leaves_less,
+    turns_leave_no_more, turns_leave_no_more_parts, turns_leave_no_more_within,
 };
 pub use sent::{
     the_link_stays_open_where_it_failed, what_was_asked_where_it_stalled,

@@ -84,3 +84,11 @@ falls-by-command by x y u c = split (cases_lt x.unread y.unread)
     split : (x.unread < y.unread) ⊎ (y.unread ≤ x.unread) → Falls by x y
     split (inl less) = Unread less
     split (inr more) = Commands (omega (arith, u, more)) c
+
+-- what is read is as it was, what commands do doesn't grow, and what is sent falls
+pub falls-sent : (by : ℕ) (x y : Left) → x.unread ≡ y.unread → x.commands ≤ y.commands → x.unsent + by ≤ y.unsent → Falls by x y
+falls-sent by x y u c s = split (cases_lt x.commands y.commands)
+  where
+    split : (x.commands < y.commands) ⊎ (y.commands ≤ x.commands) → Falls by x y
+    split (inl less) = Commands u less
+    split (inr more) = Unsent u (omega (arith, c, more)) s

@@ -22,8 +22,9 @@ use Rattle.pg_desk.specs.Kept.{legal-if-exact}
 use Rattle.pg_hub.specs.Fits.{Fits, HubBecomes}
 use Rattle.pg_hub.specs.Standing.{Standing}
 use Rattle.pg_hub.specs.Waiting.{undelivered_of}
-use Rattle.pg_session.specs.Measure.{Left, unsent_left, reading_left}
+use Rattle.pg_session.specs.Measure.{Left, put_of, unsent_left, reading_left}
 use Rattle.pg_turns.specs.Turns.{HandsOn, moved_in_poll}
+use Rattle.pg_session.proofs.Nearer.Counted.{becomes-counted, engine-puts-none}
 use Rattle.pg_session.proofs.Nearer.Falling.{one_if, one-or, Falls, falls-either}
 use Rattle.pg_session.proofs.Nearer.Hub.{batches_left, wire_left, hub-batches, hub-parts, calls-passed}
 
@@ -130,6 +131,7 @@ left_of_link commands hub s = record { unread = undelivered_of hub + reading_lef
 pub record LinkLess (commands : ℕ) (a b : Standing) (s t : Streams) (moved : Bool) : Type 0 where
   pub state : State
   pub fits : Fits state b
+  pub put : put_of b ≡ put_of a
   pub falls : Falls (one_if moved) (left_of_link commands b t) (left_of_link commands a s)
 
 -- a connection that isn't over wasn't given the link's end
@@ -149,6 +151,7 @@ or-none false over h = ap one_if h
 record TurnedLess (commands : ℕ) (a b : Standing) (s t : Streams) (handed : List RawMessage) : Type 0 where
   state : State
   fits : Fits state b
+  put : put_of b ≡ put_of a
   moves : Falls (one_if t.moved) (left_of_link commands b t) (left_of_link commands a s)
   hands : Falls (length handed) (left_of_link commands b t) (left_of_link commands a s)
 
@@ -172,11 +175,14 @@ turned-less commands st a b s t l m end fits h within =
     let some = moved-something p.got p.sent h.turns.handed goes.events in
     let read = length p.got + (length (delivered_by goes.events) + length h.turns.handed) in
     let sent = length p.sent + length (parts_out_by goes.events) in
+    let counted = becomes-counted st a goes.events b fits goes.became in
+    let none = engine-puts-none goes.events goes.calls in
     let unread : (undelivered_of b + reading_left t) + read ≤ undelivered_of a + reading_left s = omega (arith, less.unread, batches, batches_behind) in
     let unsent : (b.unsent + unsent_left t) + sent ≤ a.unsent + unsent_left s = omega (arith, less.unsent, parts, parts_behind) in
     record {
       state = after_all st goes.events;
       fits = next.1;
+      put = omega (arith, counted, none);
       moves = falls-either (one_if t.moved) read sent (left_of_link commands b t) (left_of_link commands a s) unread refl unsent (omega (arith, moved, some, hub.moves));
       hands = falls-either (length h.turns.handed) read sent (left_of_link commands b t) (left_of_link commands a s) unread refl unsent (omega arith);
     }
@@ -185,10 +191,10 @@ pub poll-less : (commands : ℕ) (st : State) (a b : Standing) (s t : Streams) (
     PollAnswers HubBecomes a b s t l m answer → HandsOn answer old new false → t.given ≤ t.max_bytes → LinkLess commands a b s t (moved_in_poll answer t)
 poll-less commands st a b s t l m old new Pending fits h hands within =
     let less = turned-less commands st a b s t l m _ fits h within in
-    record { state = less.state; fits = less.fits; falls = less.moves }
+    record { state = less.state; fits = less.fits; put = less.put; falls = less.moves }
 poll-less commands st a b s t l m old new (Ready None) fits h hands within = let no : false ≡ true = hands.1 in absurd cc
 poll-less commands st a b s t l m old new (Ready (Some (Ok message))) fits h hands within =
     let less = turned-less commands st a b s t l m _ fits h within in
     let one : length h.turns.handed ≡ 1 = ap (λ (l : List RawMessage). length l) h.turns.which.alone in
-    record { state = less.state; fits = less.fits; falls = subst (λ (n : ℕ). Falls n (left_of_link commands b t) (left_of_link commands a s)) one less.hands }
+    record { state = less.state; fits = less.fits; put = less.put; falls = subst (λ (n : ℕ). Falls n (left_of_link commands b t) (left_of_link commands a s)) one less.hands }
 poll-less commands st a b s t l m old new (Ready (Some (Err e))) fits h hands within = absurd hands

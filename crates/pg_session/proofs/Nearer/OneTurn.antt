@@ -1,6 +1,5 @@
 -- A turn of a handle leaves less to do where something moved in it.
-use Rattle.std.proofs.Common.{◌≡◌, inl, inr, ◌⊎◌, ℕ, zero, suc, ◌+◌, ◌-◌, ◌*◌, ◌<◌, ◌≤◌, List, [], ◌∷◌, ◌++◌, drop, length, Bool, true, false, ◌||◌, Option, Some, None, Ok, refl, sym, ap, subst, ◌∙◌, arith}
-use Rattle.std.proofs.lemmas.Bool.{cases_lt}
+use Rattle.std.proofs.Common.{◌≡◌, inl, inr, ℕ, zero, suc, ◌+◌, ◌-◌, ◌*◌, ◌<◌, ◌≤◌, List, [], ◌∷◌, ◌++◌, drop, length, Bool, true, false, ◌||◌, Option, Some, None, Ok, refl, sym, ap, subst, ◌∙◌, arith}
 use Rattle.std.specs.Prelude.{slice_get}
 use Rattle.std.proofs.lemmas.List.{length_push}
 use Rattle.pg_desk.specs.declared.event.Event.TheVariants.{CloseRequests}
@@ -21,8 +20,9 @@ use Rattle.pg_turns.specs.Handles.{HandleState}
 use Rattle.pg_turns.specs.HandleTurns.{AsksCommand, StartsAt, Idles, Waits, Answers}
 use Rattle.pg_turns.specs.Speeches.{Speech}
 use Rattle.pg_turns.specs.Turns.{HandleTurns, untouched, Closes, ClosesBehind, moved_by}
-use Rattle.pg_session.specs.Measure.{Left, MayPut, PutWithin, PutsAtMost, RunWaits, bounds_of, script_left}
-use Rattle.pg_session.proofs.Nearer.Falling.{one_if, Falls, Unread, Unsent, falls-beside, falls-by-command}
+use Rattle.pg_session.specs.Measure.{Left, MayPut, PutWithin, PutsAtMost, RunWaits, bounds_of, put_of, script_left}
+use Rattle.pg_session.proofs.Nearer.Counted.{becomes-counted}
+use Rattle.pg_session.proofs.Nearer.Falling.{one_if, Falls, Unread, falls-beside, falls-by-command, falls-sent}
 use Rattle.pg_session.proofs.Nearer.Handle.{walk-calls, WaitOn, TookSome, PutSome, FoundNone, waits-on}
 use Rattle.pg_session.proofs.Nearer.Puts.{bounds-next, puts-walk, puts_in}
 use Rattle.pg_session.proofs.Nearer.Hub.{hub-batches, hub-parts, none-given, calls-add-none}
@@ -67,25 +67,28 @@ goes-on-waiting stamp s a b p q fits still g from to =
 
 -- ---- what is done behind the poll
 
--- as many batches and bytes wait as before
+-- as many batches and bytes wait as before, and no part was put
 pub record Same (a b : Standing) : Type 0 where
   pub state : State
   pub fits : Fits state b
   pub batches : undelivered_of b ≡ undelivered_of a
   pub unsent : b.unsent ≡ a.unsent
+  pub put : put_of b ≡ put_of a
 
 same : (s : State) (a b : Standing) → Fits s a → b ≡ a → Same a b
-same s a b fits h = subst (λ (x : Standing). Same a x) (sym h) (record { state = s; fits = fits; batches = refl; unsent = refl })
+same s a b fits h = subst (λ (x : Standing). Same a x) (sym h) (record { state = s; fits = fits; batches = refl; unsent = refl; put = refl })
 
 pub closes : (left : ℕ) (s : State) (a b : Standing) → Fits s a → Closes left a b → Same a b
 closes zero s a b fits h =
     let next = h.stands s fits in
     let t = after_all s (CloseRequests (Ok tt) ∷ []) in
+    let counted = becomes-counted s a (CloseRequests (Ok tt) ∷ []) b fits h in
     record {
       state = t;
       fits = next.1;
       batches = hub-batches t b next.1 ∙ sym (hub-batches s a fits);
       unsent = hub-parts t b next.1 ∙ sym (hub-parts s a fits);
+      put = omega (arith, counted);
     }
 closes (suc n) s a b fits h = same s a b fits h
 
@@ -93,7 +96,7 @@ closes-behind : (did : Polling) (left : ℕ) (s : State) (a b : Standing) → Fi
 closes-behind polling.Idle left s a b fits h = same s a b fits h
 closes-behind polling.Began left s a b fits h = same s a b fits h
 closes-behind polling.Waits left s a b fits h =
-    subst (λ (x : Standing). Same a x) (sym h) (record { state = s; fits = fits-touched s a false fits; batches = refl; unsent = refl })
+    subst (λ (x : Standing). Same a x) (sym h) (record { state = s; fits = fits-touched s a false fits; batches = refl; unsent = refl; put = refl })
 closes-behind polling.Answered left s a b fits h = closes (left - 1) s a b fits h
 
 -- ---- a turn
@@ -102,14 +105,17 @@ closes-behind polling.Answered left s a b fits h = closes (left - 1) s a b fits 
 abbrev pub left_of : {C T A E : Type 0} → List C → Standing → HandleState T A E → (parts : ℕ) → Left
 left_of script hub h parts = record { unread = undelivered_of hub; commands = script_left script h.running (length h.answers) + parts; unsent = hub.unsent }
 
--- what a turn of a handle left of its script and of its hub
+-- What a turn of a handle left of its script and of its hub, where so many parts were put: less is left to do, by any numbers of parts that
+-- may still be put, of which the second is less by those.
 pub record HandleLess {C T A E : Type 0} (bound : C → ℕ) (script : List C) (parts : ℕ) (a b : Standing) (old new : HandleState T A E) (moved : Bool) : Type 0 where
   pub state : State
   pub fits : Fits state b
   pub left : ℕ
   pub may : MayPut bound script new.running (length new.answers) left
-  pub no_more : left ≤ parts
-  pub falls : Falls (one_if moved) (left_of script b new left) (left_of script a old parts)
+  pub put : ℕ
+  pub few : left + put ≤ parts
+  pub counted : put_of b ≡ put_of a + put
+  pub falls : (before after : ℕ) → after + put ≤ before → Falls (one_if moved) (left_of script b new after) (left_of script a old before)
   pub runs : RunWaits new.running
 
 share : {C T : Type 0} (script : List C) (running next : Option (Place T)) (answered : ℕ) → running ≡ next → script_left script running answered ≡ script_left script next answered
@@ -126,7 +132,17 @@ idles : {C T A E : Type 0} (bound : C → ℕ) (script : List C) (parts : ℕ) (
 idles {C} {T} {A} {E} bound script parts s a b old new fits runs may h =
     subst (λ (x : Standing). HandleLess bound script parts a x old new false) (sym h.desk)
     (subst (λ (x : HandleState T A E). HandleLess bound script parts a a old x false) (sym h.handle)
-    (record { state = s; fits = fits; left = parts; may = may; no_more = omega arith; falls = Unsent refl refl (omega arith); runs = runs }))
+    (record {
+      state = s;
+      fits = fits;
+      left = parts;
+      may = may;
+      put = 0;
+      few = omega arith;
+      counted = omega arith;
+      falls = λ before after le. falls-sent 0 (left_of script a old after) (left_of script a old before) refl (omega (arith, le)) (omega arith);
+      runs = runs;
+    }))
 
 -- how much of its share is left behind a poll, where it had so much of its own
 record Shares {C T : Type 0} (bound : C → ℕ) (script : List C) (answered parts put : ℕ) (to : Place T) : Type 0 where
@@ -169,8 +185,7 @@ module _ {C T A E : Type 0} (speech : Speech C T A E) (bound : C → ℕ) (withi
       let less = goes-no-more stamp s a b h.from h.to fits h.pauses.goes in
       let left = less.left in
       let share_left = shares script stamp (length old.answers) parts a b h.from h.to (had script old parts true h.from h.starts may) h.pauses.goes in
-      let fewer = share_left.few in
-      let before = share script old.running None (length old.answers) h.starts.none_runs in
+      let was = share script old.running None (length old.answers) h.starts.none_runs in
       let lt = has-next script (length old.answers) h.starts.next h.starts.stands in
       subst (λ (x : HandleState T A E). HandleLess bound script parts a b old x true) (sym h.handle)
       (record {
@@ -178,8 +193,10 @@ module _ {C T A E : Type 0} (speech : Speech C T A E) (bound : C → ℕ) (withi
         fits = less.fits;
         left = share_left.left;
         may = share_left.may;
-        no_more = omega (arith, fewer);
-        falls = falls-by-command 1 _ _ left (omega (arith, before, lt, fewer));
+        put = puts_in h.pauses.goes.events;
+        few = share_left.few;
+        counted = becomes-counted s a h.pauses.goes.events b fits h.pauses.goes.became;
+        falls = λ before after le. falls-by-command 1 _ _ left (omega (arith, was, lt, le));
         runs = may-wait h.to h.pauses.goes.events h.pauses.waits;
       })
 
@@ -190,31 +207,29 @@ module _ {C T A E : Type 0} (speech : Speech C T A E) (bound : C → ℕ) (withi
       let to = may-wait h.to h.pauses.goes.events h.pauses.waits in
       let less = goes-no-more stamp s a b h.from h.to fits h.pauses.goes in
       let share_left = shares script stamp (length old.answers) parts a b h.from h.to (had script old parts false h.from h.starts may) h.pauses.goes in
-      let fewer = share_left.few in
-      let before = share script old.running (Some h.from) (length old.answers) h.starts in
+      let was = share script old.running (Some h.from) (length old.answers) h.starts in
       subst (λ (x : HandleState T A E). HandleLess bound script parts a b old x b.touched) (sym h.handle)
       (record {
         state = less.state;
         fits = less.fits;
         left = share_left.left;
         may = share_left.may;
-        no_more = omega (arith, fewer);
-        falls = by share_left.left before less.left fewer (goes-on-waiting stamp s a b h.from h.to fits still h.pauses.goes from to);
+        put = puts_in h.pauses.goes.events;
+        few = share_left.few;
+        counted = becomes-counted s a h.pauses.goes.events b fits h.pauses.goes.became;
+        falls = λ before after le. by before after was less.left le (goes-on-waiting stamp s a b h.from h.to fits still h.pauses.goes from to);
         runs = to;
       })
     where
-      after : HandleState T A E
-      after = record { running = Some h.to; answers = old.answers; own = old.own }
+      next : HandleState T A E
+      next = record { running = Some h.to; answers = old.answers; own = old.own }
 
-      by : (left : ℕ) → script_left script old.running (length old.answers) ≡ script_left script (Some h.from) (length old.answers) → undelivered_of b ≤ undelivered_of a → left + puts_in h.pauses.goes.events ≤ parts →
-          WaitsOn (puts_in h.pauses.goes.events) a b → Falls (one_if b.touched) (left_of script b after left) (left_of script a old parts)
-      by left before low fewer (TookOne less) = Unread (omega (arith, less))
-      by left before low fewer (PutOne some) = falls-by-command (one_if b.touched) _ _ low (omega (arith, before, fewer, some))
-      by left before low fewer (TookNone batches unsent untouched) = split (cases_lt left parts)
-        where
-          split : (left < parts) ⊎ (parts ≤ left) → Falls (one_if b.touched) (left_of script b after left) (left_of script a old parts)
-          split (inl less) = falls-by-command (one_if b.touched) _ _ low (omega (arith, before, less))
-          split (inr more) = Unsent batches (omega (arith, before, more, fewer)) (omega (arith, unsent, ap one_if untouched))
+      by : (before after : ℕ) → script_left script old.running (length old.answers) ≡ script_left script (Some h.from) (length old.answers) → undelivered_of b ≤ undelivered_of a →
+          after + puts_in h.pauses.goes.events ≤ before → WaitsOn (puts_in h.pauses.goes.events) a b → Falls (one_if b.touched) (left_of script b next after) (left_of script a old before)
+      by before after was low le (TookOne less) = Unread (omega (arith, less))
+      by before after was low le (PutOne some) = falls-by-command (one_if b.touched) _ _ low (omega (arith, was, le, some))
+      by before after was low le (TookNone batches unsent untouched) =
+          falls-sent (one_if b.touched) (left_of script b next after) (left_of script a old before) batches (omega (arith, was, le)) (omega (arith, unsent, ap one_if untouched))
 
   -- it answers in the turn in which it begins, or later
   fewer : (script : List C) (old : HandleState T A E) (x : A) (begins : Bool) (p : Place T) (command : C) → slice_get script (length old.answers) ≡ Some command → StartsAt speech script old begins p →
@@ -229,18 +244,22 @@ module _ {C T A E : Type 0} (speech : Speech C T A E) (bound : C → ℕ) (withi
       let x = (speech.ends old.own h.command h.answer).answer in
       let less = goes-no-more stamp s a b h.from h.goes.last fits h.goes.goes in
       let few = fewer script old x h.begins h.from h.command h.stands h.starts in
-      let total = (had script old parts h.begins h.from h.starts may).total in
+      let events = h.goes.goes.events in
+      let its = had script old parts h.begins h.from h.starts may in
+      let total = its.total in
+      let spent = (puts-walk stamp its.own h.from.dialogue h.from.reads events h.goes.last.dialogue h.goes.last.reads its.puts h.goes.goes.walked).fewer in
       let one : length (old.answers ++ x ∷ []) ≡ suc (length old.answers) = length_push old.answers x ∙ omega arith in
       let rest : bounds_of bound (drop (length (old.answers ++ x ∷ [])) script) ≡ bounds_of bound (drop (suc (length old.answers)) script) = ap (λ (n : ℕ). bounds_of bound (drop n script)) one in
-      let low : bounds_of bound (drop (length (old.answers ++ x ∷ [])) script) ≤ parts = omega (arith, total, rest) in
       subst (λ (y : HandleState T A E). HandleLess bound script parts a b old y true) (sym h.handle)
       (record {
         state = less.state;
         fits = less.fits;
         left = bounds_of bound (drop (length (old.answers ++ x ∷ [])) script);
         may = refl;
-        no_more = low;
-        falls = falls-by-command 1 _ _ less.left (omega (arith, few, low));
+        put = puts_in events;
+        few = omega (arith, total, rest, spent);
+        counted = becomes-counted s a events b fits h.goes.goes.became;
+        falls = λ before after le. falls-by-command 1 _ _ less.left (omega (arith, few, le));
         runs = tt;
       })
 
@@ -259,13 +278,18 @@ module _ {C T A E : Type 0} (speech : Speech C T A E) (bound : C → ℕ) (withi
   handle-less did script parts stamp left s a b c old new fits runs may h behind =
       let turn = polled did script parts stamp s (untouched a) b old new (fits-touched s a false fits) refl runs may h in
       let end = closes-behind did left turn.state b c turn.fits behind in
+      let counted = turn.counted in
+      let same_put = end.put in
       record {
         state = end.state;
         fits = end.fits;
         left = turn.left;
         may = turn.may;
-        no_more = turn.no_more;
-        falls = falls-beside (one_if (moved_by did b)) (left_of script b new turn.left) (left_of script (untouched a) old parts) (left_of script c new turn.left) (left_of script a old parts) turn.falls
+        put = turn.put;
+        few = turn.few;
+        counted = omega (arith, counted, same_put);
+        falls = λ before after le.
+            falls-beside (one_if (moved_by did b)) (left_of script b new after) (left_of script (untouched a) old before) (left_of script c new after) (left_of script a old before) (turn.falls before after le)
             (omega (arith, end.batches)) (omega arith) (omega (arith, end.unsent));
         runs = turn.runs;
       }

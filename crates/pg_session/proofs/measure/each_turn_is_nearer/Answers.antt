@@ -1,7 +1,10 @@
 use Rattle.std.proofs.Common.{false}
-use Rattle.pg_session.proofs.Nearer.{nearer-so, new-under-way, turn-nearer}
+use Rattle.pg_session.proofs.Nearer.{nearer-so, new-under-way, none-left, turn-nearer}
 use Rattle.pg_turns.specs.Turns.{moved_in}
 use Rattle.pg_session.proofs.measure.each_turn_is_nearer.Goals as goal
+
+pub returns-clause-left : goal.returns-clause-left
+returns-clause-left g c = none-left
 
 pub returns-clause-begins : goal.returns-clause-begins
 returns-clause-begins g c = new-under-way
