@@ -8,6 +8,7 @@ pub mod Closing
 pub mod Histories
 pub mod HasRun
 pub mod Readers
+pub mod HeldUp
 pub mod Quiet
 pub mod Stalled
 pub mod LimitsKept

@@ -1,5 +1,6 @@
 pub mod Measure
 pub mod Lives
+pub mod HeldUp
 pub mod Events
 pub mod Crossed
 pub mod Failures

@@ -5,6 +5,7 @@ mod causes;
 mod completeness;
 mod crossed;
 mod events;
+mod held_up;
 mod lives;
 mod main_theorem;
 mod measure;
@@ -15,6 +16,7 @@ pub use causes::each_failure_has_its_cause;
 pub use completeness::{valid_input_ends_well, what_may_fail_over_a_link_that_conforms};
 pub use crossed::what_crossed;
 pub use events::each_request_reads_its_reply;
+pub use held_up::none_pauses_where_it_could_go_on;
 pub use lives::what_came;
 pub use main_theorem::every_session_ends_well;
 pub use measure::{
