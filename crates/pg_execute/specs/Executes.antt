@@ -13,7 +13,7 @@ use Rattle.pg_query.specs.Dialogue.{Dialogue, Answer, Send}
 use Rattle.pg_query.specs.Reading.{reads}
 use Rattle.pg_core.specs.Behind.{behind}
 use Rattle.pg_scripts.specs.Sequences.{then_do}
-use Rattle.pg_lookup.specs.Composing.{asks_for}
+use Rattle.pg_lookup.specs.Composing.{asks_for, or_encode}
 use Rattle.pg_execute.specs.Counts.{count_read, nothing_counted}
 use Rattle.pg_execute.specs.Parameters.{execute_request}
 use Rattle.pg_execute.specs.Rows.{nothing_got, rows_read}
@@ -77,9 +77,14 @@ abbrev pub posts_before : {T : Type 0} → Option (List ℕ) → Result T Error 
 posts_before (Some part) r = Send part (λ e. Answer (Err e)) (Answer r)
 posts_before None r = Answer r
 
--- close: Close and Sync are sent for a statement, and nobody reads the reply
+-- A request is sent, and nobody reads its reply. Where it can't be written, or the desk refuses it, that error is the answer.
+abbrev pub sends : Result (List ℕ) Error → Dialogue (Unit {0})
+sends (Ok part) = Send part (λ e. Answer (Err e)) (Answer (Ok tt))
+sends (Err e) = Answer (Err e)
+
+-- close: Close and Sync are sent for a statement
 abbrev pub close : Statement → Dialogue (Unit {0})
-close s = posts_before (close_part s.name) (Ok tt)
+close s = sends (or_encode (close_request s.name))
 
 -- a dialogue, and this request behind it, also where it is given up
 abbrev pub closed_by : {T : Type 0} → Option (List ℕ) → Dialogue T → Dialogue T

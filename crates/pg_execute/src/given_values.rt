@@ -11,13 +11,13 @@ use pg_types::{IsNull, ToSql, Type, Value, ValueFault};
 use std::alloc::{AllocError, Global};
 
 /// The binary form of a value.
-pub(crate) const BINARY: i16 = 1;
+pub const BINARY: i16 = 1;
 
 /// Values as Bind has them: the form of each, and a length and the bytes of each, or -1 for null.
 #[derive(Drop)]
-pub(crate) struct GivenValues {
-    pub(crate) formats: Vec<i16>,
-    pub(crate) bytes: BytesMut,
+pub struct GivenValues {
+    pub formats: Vec<i16>,
+    pub bytes: BytesMut,
 }
 
 impl GivenValues {
@@ -84,7 +84,7 @@ fn front<T>(items: &[T]) -> Option<(&T, &[T])>
 }
 
 /// The values under the types of their parameters. The first that is refused decides.
-pub(crate) fn given_values(
+pub fn given_values(
     alloc: Global,
     types: &[Type],
     values: &[Value],

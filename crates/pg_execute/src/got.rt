@@ -2,6 +2,7 @@
 
 ghost use Rattle.std.specs.Prelude.{◌≡◌};
 ghost use Rattle.pg_execute.specs.Rows.{nothing_got};
+ghost use Rattle.pg_execute.specs.Typed.{columns_came};
 
 use pg_query::Cells;
 use pg_types::List;
@@ -11,19 +12,30 @@ use std::alloc::Global;
 #[derive(Drop)]
 pub struct Got {
     /// BindComplete came.
-    pub(crate) bound: bool,
-    pub(crate) rows: List<Cells>,
+    pub bound: bool,
+    pub rows: List<Cells>,
     /// How many rows the last command affected, where one ended.
-    pub(crate) affected: Option<u64>,
+    pub affected: Option<u64>,
 }
 
 impl Got {
     /// Nothing yet. It takes no memory.
-    pub(crate) fn nothing(alloc: Global) -> Got
+    pub fn nothing(alloc: Global) -> Got
         ensures { result ≡ nothing_got }
     {
         Got {
             bound: false,
+            rows: List::empty(alloc),
+            affected: None,
+        }
+    }
+
+    /// BindComplete came, before the columns of the rows, and nothing else yet. It takes no memory.
+    pub fn columns_came(alloc: Global) -> Got
+        ensures { result ≡ columns_came }
+    {
+        Got {
+            bound: true,
             rows: List::empty(alloc),
             affected: None,
         }

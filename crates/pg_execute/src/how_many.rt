@@ -13,7 +13,7 @@ pub enum HowMany {
 
 impl HowMany {
     /// There may be so many rows, and more may come.
-    pub(crate) fn may_have(self, rows: usize) -> bool
+    pub fn may_have(self, rows: usize) -> bool
         ensures { result ≡ may_have self rows }
     {
         match self {
@@ -23,7 +23,7 @@ impl HowMany {
     }
 
     /// So many rows are enough.
-    pub(crate) fn is_enough(self, rows: usize) -> bool
+    pub fn is_enough(self, rows: usize) -> bool
         ensures { result ≡ is_enough self rows }
     {
         match self {

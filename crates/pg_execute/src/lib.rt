@@ -7,7 +7,7 @@ mod count_reading;
 mod either;
 mod executes;
 mod form;
-mod given_values;
+pub mod given_values;
 mod got;
 mod handed;
 mod how_many;
@@ -37,7 +37,8 @@ pub use laws::{
 pub use make::{Make, Scalars, WholeRows};
 pub use on_statement::OnStatement;
 pub use on_text::{Closes, OnText};
-pub use request::close_bytes;
+pub use request::{ask, close_bytes, close_request, execute_request};
 pub use result_set::ResultSet;
 pub use rows_reading::RowsReading;
+pub use said::{Said, said_by};
 pub use target::{OnTarget, Target, on_target};

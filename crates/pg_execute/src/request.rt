@@ -6,7 +6,7 @@ ghost use Rattle.pg_wire.specs.Writes.{IsRefusal};
 ghost use Rattle.pg_query.specs.Reading.{reads};
 ghost use Rattle.pg_query.specs.SingleRequests.{dialogue_of, steps_of};
 ghost use Rattle.pg_lookup.specs.Composing.{asks_for, or_encode};
-ghost use Rattle.pg_execute.specs.Executes.{close_part, close_request};
+ghost use Rattle.pg_execute.specs.Executes as executing;
 ghost use Rattle.pg_execute.specs.GivenValues.{IsGiven};
 ghost use Rattle.pg_execute.specs.Parameters as spec;
 
@@ -64,7 +64,7 @@ fn request_with(
 
 /// The request that executes a statement with these values, or why they are refused: by their number, by the first
 /// that can't stand where it does, or by the frames.
-pub(crate) fn execute_request(
+pub fn execute_request(
     alloc: Global,
     statement: &Statement,
     values: &[Value],
@@ -82,10 +82,7 @@ pub(crate) fn execute_request(
 }
 
 /// Sends a request and reads its reply, or answers why it can't be sent.
-pub(crate) fn ask<R: Reading>(
-    reading: R,
-    request: Result<Bytes, Error>,
-) -> SingleRequest<R, R::Output>
+pub fn ask<R: Reading>(reading: R, request: Result<Bytes, Error>) -> SingleRequest<R, R::Output>
     ensures dialogue { dialogue_of R.reading result ≡ asks_for request (reads false (R.reading reading)) }
     ensures steps { steps_of result ≤ 2 }
 {
@@ -98,8 +95,8 @@ pub(crate) fn ask<R: Reading>(
 /// Close of a statement, and Sync.
 fn close_frames(alloc: Global, name: &str) -> Result<Bytes, FrameFault>
     ensures { MatchResult result
-        (λ bytes. close_request name.now ≡ Ok bytes)
-        (λ fault. IsRefusal (close_request name.now) (frame_fault fault)) }
+        (λ bytes. executing.close_request name.now ≡ Ok bytes)
+        (λ fault. IsRefusal (executing.close_request name.now) (frame_fault fault)) }
 {
     let mut out = BytesMut::new(alloc);
     close(b'S', name, &mut out)?;
@@ -110,9 +107,20 @@ fn close_frames(alloc: Global, name: &str) -> Result<Bytes, FrameFault>
     }
 }
 
+/// The request that closes the statement of this name, or why it can't be written.
+pub fn close_request(alloc: Global, name: &str) -> Result<Result<Bytes, Error>, AllocError>
+    ensures { IfOk result (λ request. request ≡ or_encode (executing.close_request name.now)) }
+{
+    match close_frames(alloc, name) {
+        Ok(request) => Ok(Ok(request)),
+        Err(FrameFault::OutOfMemory) => Err(AllocError),
+        Err(fault) => Ok(Err(Error::Encode(Cause::Frame(fault)))),
+    }
+}
+
 /// What closes the statement of this name. A name that was prepared can be written.
 pub fn close_bytes(alloc: Global, name: &str) -> Result<Option<Bytes>, AllocError>
-    ensures { IfOk result (λ part. part ≡ close_part name.now) }
+    ensures { IfOk result (λ part. part ≡ executing.close_part name.now) }
 {
     match close_frames(alloc, name) {
         Ok(part) => Ok(Some(part)),

@@ -8,6 +8,7 @@ ghost use Rattle.pg_prepare.specs.Described.{Does};
 ghost use Rattle.pg_execute.specs.Rows.{at_end, behind_row, nothing_got, rows_by, rows_read};
 ghost use Rattle.pg_execute.specs.RowsReadings.{reading_of_rows};
 ghost use Rattle.pg_execute.specs.Saying.{said_view, FailsAtFault};
+ghost use Rattle.pg_execute.specs.Typed.{columns_came};
 
 use crate::got::Got;
 use crate::how_many::HowMany;
@@ -44,6 +45,23 @@ impl<M: Make> RowsReading<M> {
             how_many,
             make,
             got: Got::nothing(alloc),
+        }
+    }
+
+    /// The same where BindComplete and the columns came before. It takes no memory.
+    pub fn behind_columns(
+        alloc: Global,
+        statement: Statement,
+        how_many: HowMany,
+        make: M,
+    ) -> RowsReading<M>
+        ensures { reading_of_rows M.makes result ≡ rows_read how_many (length statement.columns) (M.makes make statement) columns_came }
+    {
+        RowsReading {
+            statement,
+            how_many,
+            make,
+            got: Got::columns_came(alloc),
         }
     }
 

@@ -88,7 +88,7 @@ fn said_behind(alloc: Global, columns: usize, message: &Message) -> Result<Said,
 }
 
 /// What a message says, which may be malformed.
-pub(crate) fn said_by(
+pub fn said_by(
     alloc: Global,
     bound: bool,
     columns: usize,

@@ -13,20 +13,20 @@ use Rattle.pg_query.specs.Reading.{ends, reads}
 use Rattle.pg_core.specs.Times.{EndsNone, LacksMemory}
 use Rattle.pg_core.proofs.Requests.{request-so}
 use Rattle.pg_turns.specs.Speeches.{BooksWhole, IsWholeRequest}
-use Rattle.pg_lookup.specs.Composing.{asks_for}
+use Rattle.pg_lookup.specs.Composing.{asks_for, or_encode}
 use Rattle.pg_lookup.specs.Lookups.{prepare}
 use Rattle.pg_lookup.specs.QueryReplies.{told_by}
 use Rattle.pg_lookup_laws.proofs.Commands as lookup
 use Rattle.pg_lookup_laws.proofs.Commands.{answers, behinds, preparing-text, thens}
 use Rattle.pg_execute.specs.Counts.{count_next, nothing_counted}
-use Rattle.pg_execute.specs.Executes.{close, close_part, closed_by, execute, on_text, posts, posts_before, query, query_scalar, scalars, whole_rows}
+use Rattle.pg_execute.specs.Executes.{close, close_part, close_request, closed_by, execute, on_text, posts, posts_before, query, query_scalar, scalars, sends, whole_rows}
 use Rattle.pg_execute.specs.Parameters.{execute_request}
 use Rattle.pg_execute.specs.Rows.{nothing_got}
 use Rattle.pg_execute.specs.declared.got.Got.{Got}
 use Rattle.pg_execute.specs.declared.how_many.HowMany.{HowMany}
 use Rattle.pg_execute_laws.specs.Taken.{IsTaken}
 use Rattle.pg_execute_laws.proofs.Readings.{count-decides, count-free, rows_next, rows-decides, rows-free}
-use Rattle.pg_execute_laws.proofs.Requests.{whole-close, whole-execution}
+use Rattle.pg_execute_laws.proofs.Requests.{made-ok, whole-close, whole-closing, whole-execution}
 
 -- as the laws of lookups say it
 pub as-taken : {T : Type 0} (d : Dialogue T) → lookup.IsTaken d → IsTaken d
@@ -84,9 +84,18 @@ posts-end-none : (part : Option (List ℕ)) → EndsNone (posts part)
 posts-end-none None = tt
 posts-end-none (Some part) = tt
 
+-- a request that is sent
+sending : (request : Result (List ℕ) Error) → ((x : List ℕ) → request ≡ Ok x → IsWholeRequest x) → lookup.IsTaken (sends request)
+sending (Err e) whole = answers (Err e)
+sending (Ok part) whole = record {
+  command = record { tidy = (λ e. tt, tt); nothing = (λ e. tt, tt); sane = (λ e. tt, tt); in_time = (λ e. tt, tt); faithful = (refl, tt) };
+  lets_go = (λ e. tt, tt);
+  whole = (whole part refl, λ e. tt, tt);
+}
+
 -- a statement is closed
 pub closes-taken : (s : Statement) → lookup.IsTaken (close s)
-closes-taken s = posting (close_part s.name) (Ok tt) (whole-close s.name)
+closes-taken s = sending (or_encode (close_request s.name)) (λ part e. whole-closing s.name part (made-ok (close_request s.name) part e))
 
 closing : {T : Type 0} (name : List ℕ) (d : Dialogue T) → lookup.IsTaken d → lookup.IsTaken (closed_by (close_part name) d)
 closing name d h = behinds (posts (close_part name)) (posts-end-none (close_part name)) d (posts_before (close_part name)) h (λ r. posting (close_part name) r (whole-close name)) (posting-lacks (close_part name))

@@ -1,3 +1,4 @@
 pub mod Commands
+mod Leaving
 mod Readings
 mod Requests

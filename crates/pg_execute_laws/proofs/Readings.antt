@@ -146,7 +146,7 @@ ready-says bound columns m h = by (message_of m) refl h
     by (Ok message) e k = read bound message e k
     by (Err fault) e k = absurd k
 
-rows-tell : {A : Type 0} (how : HowMany) (columns : ℕ) (makes : Got → Result A Error) → TellsAtReady (rows_next how columns makes)
+pub rows-tell : {A : Type 0} (how : HowMany) (columns : ℕ) (makes : Got → Result A Error) → TellsAtReady (rows_next how columns makes)
 rows-tell {A} how columns makes g m x h = by (said_by g.bound columns m) refl h
   where
     none : (s : Said) → (SaysReady s → ⊥) → rows_by how makes g s ≡ Answers (Ok x) → is_ready m ≡ true

@@ -1,5 +1,5 @@
 -- A command that was made leaves nothing to do before its begin.
-use Rattle.std.proofs.Common.{◌≡◌, ℕ, List, [], Option, Some, None, Result, Ok, Err, refl}
+use Rattle.std.proofs.Common.{◌≡◌, ℕ, List, [], Option, Result, Ok, Err, refl}
 use Rattle.pg_types.specs.declared.value.Value.{Value}
 use Rattle.pg_faults.specs.declared.error.Error.{Error}
 use Rattle.pg_statements.specs.declared.statement.Described.{Described}
@@ -7,7 +7,7 @@ use Rattle.pg_spec.specs.RawMessages.{RawMessage}
 use Rattle.pg_query.specs.Dialogue.{Dialogue}
 use Rattle.pg_query.specs.Scripts.{cleanup_of}
 use Rattle.pg_lookup.specs.Composing.{asks_for}
-use Rattle.pg_execute.specs.Executes.{executes, posts_before}
+use Rattle.pg_execute.specs.Executes.{executes, sends}
 use Rattle.pg_execute.specs.Parameters.{execute_request}
 use Rattle.pg_execute.specs.Targets.{on_target}
 use Rattle.pg_execute.specs.declared.target.Target.{Target}
@@ -24,7 +24,7 @@ target-clean reading vs (Query text) = refl
 target-clean reading vs (Statement s) = asks-clean (execute_request s.now vs) _
 target-clean reading vs (Owned s) = asks-clean (execute_request s vs) _
 
--- what is sent before an answer
-pub posts-clean : {T : Type 0} (part : Option (List ℕ)) (r : Result T Error) → cleanup_of (posts_before part r) ≡ []
-posts-clean (Some part) r = refl
-posts-clean None r = refl
+-- a request whose reply nobody reads
+pub sends-clean : (request : Result (List ℕ) Error) → cleanup_of (sends request) ≡ []
+sends-clean (Ok part) = refl
+sends-clean (Err e) = refl

@@ -1,7 +1,7 @@
 //! A statement is closed, step by step.
 
 use pg_errors::Error;
-use pg_execute::close_bytes;
+use pg_execute::close_request;
 use pg_query::{Action, Cleanup, Reply, Script, Want};
 use pg_statements::Statement;
 use pg_wire::{Message, WireFault};
@@ -34,9 +34,9 @@ impl Script for Closing {
 
     fn next(&mut self, alloc: Global) -> Result<Want<()>, AllocError> {
         match mem::replace(self, Closing::Done) {
-            Closing::New(statement) => match close_bytes(alloc, statement.name())? {
-                Some(part) => Ok(Want::Act(Action::Send(part))),
-                None => Ok(Want::Answer(Ok(()))),
+            Closing::New(statement) => match close_request(alloc, statement.name())? {
+                Ok(request) => Ok(Want::Act(Action::Send(request))),
+                Err(error) => Ok(Want::Answer(Err(error))),
             },
             Closing::Done => Ok(Want::Answer(Ok(()))),
         }
