@@ -16,5 +16,6 @@ pub mod Counts
 pub mod Cells
 pub mod Pairs
 pub mod Cuttings
+mod Empties
 pub mod BatchLaws
 pub mod SaslNames

@@ -1,6 +1,6 @@
 //! Whole messages of one request, which are read one after another.
 
-ghost use Rattle.std.specs.Prelude.{◌≡◌, [], IfOk, length, true};
+ghost use Rattle.std.specs.Prelude.{◌≡◌, ◌==◌, [], IfOk, length, true};
 ghost use Rattle.pg_spec.specs.Batches.{is_batch};
 ghost use Rattle.pg_spec.specs.RawMessages.{messages, ends_in, is_ready};
 ghost use Rattle.pg_wire.specs.Backend.{HoldsBatch, Nexts};
@@ -47,6 +47,13 @@ impl BackendMessages {
         ensures { result ≡ messages bytes }
     {
         BackendMessages { bytes }
+    }
+
+    /// Whether none is left.
+    pub fn is_empty(&self) -> bool
+        ensures { result ≡ (length self.now == 0) }
+    {
+        self.bytes.is_empty()
     }
 
     /// How many messages they are.

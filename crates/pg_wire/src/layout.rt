@@ -197,10 +197,14 @@ fn row_description(mut body: Bytes) -> Result<Message, WireFault>
 fn data_row(mut body: Bytes) -> Result<Message, WireFault>
     ensures { LaidOut (spec.counted spec.DataRow body) result }
 {
-    match body.try_get_u16() {
-        Ok(count) => Ok(Message::DataRow(DataRowBody { count, cells: body })),
-        Err(_) => Err(WireFault::Layout),
-    }
+    let [a, b, ..] = *body.as_slice() else {
+        return Err(WireFault::Layout);
+    };
+    body.advance(2);
+    Ok(Message::DataRow(DataRowBody {
+        count: u16::from_be_bytes([a, b]),
+        cells: body,
+    }))
 }
 
 fn parameter_description(mut body: Bytes) -> Result<Message, WireFault>

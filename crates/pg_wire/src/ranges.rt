@@ -7,6 +7,7 @@ ghost use Rattle.pg_wire.specs.Steps.{CellSteps, Refuses, IsWithin, cell_in};
 use crate::body::DataRowBody;
 use bytes::Buf;
 use pg_faults::WireFault;
+use pg_types::OutOfMemory;
 use std::marker::Model;
 use std::ops::Range;
 
@@ -46,6 +47,16 @@ impl DataRowBody {
         ensures { result.now ≡ self.now.cells }
     {
         self.cells.as_slice()
+    }
+
+    /// The same row once more. It shares the bytes that were received.
+    pub fn share(&self) -> Result<DataRowBody, OutOfMemory>
+        ensures { IfOk result (λ row. row ≡ self.now) }
+    {
+        Ok(DataRowBody {
+            count: self.count,
+            cells: self.cells.clone()?,
+        })
     }
 
     /// How many cells the row says it has.
