@@ -12,19 +12,18 @@ ghost use Rattle.pg_execute.specs.Targets.{on_target};
 ghost use Rattle.pg_executed.specs.States.{place_of_close, IsLiveClose};
 ghost use Rattle.pg_executed.specs.Texts.{prepare_text};
 ghost use Rattle.pg_lookup.specs.Lookups.{prepare};
-ghost use Rattle.pg_query.specs.Faults.{of_fault};
 ghost use Rattle.pg_calls.specs.Clearing.{Clears};
 
 use pg_checks::SessionCheckState;
 use pg_client::{BatchExecuteState, CheckConnectionState, SimpleQueryState};
 use pg_config::TargetSessionAttrs;
-use pg_desk::{Desk, DeskFault};
-use pg_errors::{Cause, Error};
+use pg_desk::Desk;
+use pg_errors::Error;
 use pg_execute::{HowMany, Target};
 use pg_executed::{CloseState, ExecuteState, QueryScalarState, QueryState};
 use pg_open::{CancelToken, SessionInfo};
 use pg_prepared::PrepareState;
-use pg_query::Polled;
+use pg_query::{Polled, error_of};
 use pg_statements::Statement;
 use pg_types::{Oid, Value};
 
@@ -35,17 +34,6 @@ use pg_types::{Oid, Value};
 pub struct Client {
     owner: u32,
     info: SessionInfo,
-}
-
-/// The error of a call that the desk refused.
-fn error_of(fault: DeskFault) -> Error
-    ensures { result ≡ of_fault fault }
-{
-    match fault {
-        DeskFault::Closed => Error::Closed,
-        DeskFault::Encode => Error::Encode(Cause::Counter),
-        DeskFault::OutOfMemory => Error::OutOfMemory,
-    }
 }
 
 impl Client {
@@ -215,8 +203,8 @@ impl Client {
     }
 
     /// Closes a statement (PostgreSQL documentation, "Extended Query", under Close). Nobody reads the server's reply. Closed
-    /// comes where the desk takes no requests any more. A statement whose name can't be written, which no prepare gives,
-    /// is answered as closed, and nothing is sent.
+    /// comes where the desk takes no requests any more; Encode where the statement's name can't be written, which no prepare
+    /// gives, and nothing is sent then.
     pub fn close(&self, statement: Statement) -> CloseState
         ensures live { IsLiveClose result }
         ensures asks { (place_of_close result).dialogue ≡ close statement }

@@ -32,6 +32,13 @@ impl Model for NewColumn {
 }
 
 impl NewColumn {
+    /// The oid of its type.
+    pub fn type_oid(&self) -> Oid
+        ensures { result ≡ self.now.type_oid }
+    {
+        self.type_oid
+    }
+
     /// The column, of its type.
     pub(crate) fn of_type(self, type_: Type) -> Column
         ensures { result ≡ column_of self type_ }

@@ -45,7 +45,7 @@ fn param_oids(alloc: Global, body: &ParameterDescriptionBody) -> Result<List<Oid
 }
 
 /// The columns of a RowDescription.
-fn new_columns(alloc: Global, body: &RowDescriptionBody) -> Result<List<NewColumn>, WireFault>
+pub fn new_columns(alloc: Global, body: &RowDescriptionBody) -> Result<List<NewColumn>, WireFault>
     ensures { ReadsAll (bodies.fields_of body.now.count body.now.fields) result }
 {
     let mut fields = body.fields();

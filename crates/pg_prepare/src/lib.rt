@@ -13,8 +13,9 @@ mod ready;
 
 pub use describes::{Describes, Numbers, Parses, Parsing};
 pub use description::{Description, NewColumn, NewStatement};
-pub use description_reading::DescriptionReading;
+pub use description_reading::{DescriptionReading, new_columns};
 pub use finder::Finder;
 pub use known_types::{Known, KnownTypes};
+pub use making::columns_of;
 pub use prepares::{FindsTypes, Makes, MakesStatement, Prepares};
 pub use ready::{Answered, Ready};

@@ -45,7 +45,7 @@ fn split_off(alloc: Global, types: &mut Vec<Type>, count: usize) -> Result<Vec<T
 }
 
 /// The columns, each of its type.
-fn columns_of(
+pub fn columns_of(
     alloc: Global,
     columns: List<NewColumn>,
     types: Vec<Type>,
