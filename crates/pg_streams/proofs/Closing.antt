@@ -1,0 +1,142 @@
+-- Where a request leads that closes a statement.
+use Rattle.std.proofs.Common.{◌≡◌, ℕ, false, List, [], ◌∷◌, ◌++◌, Option, Some, None, Result, Ok, Err, refl, sym, ◌∙◌, ap, subst, inl}
+use Rattle.pg_spec.specs.RawMessages.{RawMessage}
+use Rattle.pg_spec.specs.declared.stamps.Stamp.{Stamp}
+use Rattle.pg_desk.specs.declared.event.DeskFault.{DeskFault}
+use Rattle.pg_desk.specs.declared.event.Event.{Event}
+use Rattle.pg_desk.specs.declared.event.Event.TheVariants as call
+use Rattle.pg_faults.specs.declared.error.Error.{Error}
+use Rattle.pg_query.specs.Dialogue.{Dialogue, Answer, Send, Leave, HangUp, Walks, cleaning}
+use Rattle.pg_query.specs.Faults.{of_fault}
+use Rattle.pg_query.specs.Meaning.{Place, GoesToAnswer}
+use Rattle.pg_query.specs.declared.desk_call.Cleanup.TheVariants.{Release}
+use Rattle.pg_streams.specs.Collecting.{posts, posts_before, Drops, Dropped, Kept, Posts, Sends, Sent, Refused, hung, stands}
+use Rattle.pg_streams.specs.Families.{AnswersFor}
+use Rattle.pg_streams.specs.declared.giving.Told.{Told}
+use Rattle.pg_streams.specs.declared.giving.Told.TheVariants.{Ends, Fails}
+use Rattle.pg_streams.specs.declared.items.Items.{Items}
+use Rattle.pg_streams.proofs.Going.{Joins}
+
+-- where it is answered so
+abbrev pub settled : {T : Type 0} → Result T Error → Result (Unit {0}) Error → Dialogue T
+settled r (Ok x) = Answer r
+settled r (Err e) = Answer (Err e)
+
+-- the events of it, and where they lead from any answer
+pub record Closes {D : Type 0} (becomes : D → List Event → D → Type 0) (stamp : Stamp) (a : D) (close : Option (List ℕ)) (b : D) (T : Type 0) (id : ℕ) (said : Result (Unit {0}) Error) : Type 0 where
+  pub events : List Event
+  pub became : becomes a events b
+  pub walked : (r : Result T Error) → Walks stamp (posts_before close r) id events (settled r said) id
+
+sent-said : {D : Type 0} (becomes : D → List Event → D → Type 0) (stamp : Stamp) (a : D) (part : List ℕ) (b : D) (T : Type 0) (id sent : ℕ) (answer : Result (Unit {0}) DeskFault) →
+    becomes a (call.Book stamp part false (Ok sent) ∷ call.HangUp sent answer ∷ []) b → Closes becomes stamp a (Some part) b T id (hung answer)
+sent-said becomes stamp a part b T id sent (Ok x) ev = record {
+  events = call.Book stamp part false (Ok sent) ∷ call.HangUp sent (Ok x) ∷ [];
+  became = ev;
+  walked = λ r. (Leave sent (Answer r), id, (refl, refl, refl, refl, refl), (Answer r, id, (refl, refl, refl), (refl, refl)));
+}
+sent-said becomes stamp a part b T id sent (Err e) ev = record {
+  events = call.Book stamp part false (Ok sent) ∷ call.HangUp sent (Err e) ∷ [];
+  became = ev;
+  walked = λ r. (Leave sent (Answer r), id, (refl, refl, refl, refl, refl), (Answer (Err (of_fault e)), id, (refl, refl, refl), (refl, refl)));
+}
+
+by-sending : {D : Type 0} (becomes : D → List Event → D → Type 0) (stamp : Stamp) (a : D) (part : List ℕ) (b : D) (T : Type 0) (id : ℕ) (said : Result (Unit {0}) Error) →
+    Sends becomes stamp a part b said → Closes becomes stamp a (Some part) b T id said
+by-sending becomes stamp a part b T id said (Sent sent answer ev is) = subst (λ (x : Result (Unit {0}) Error). Closes becomes stamp a (Some part) b T id x) (sym is) (sent-said becomes stamp a part b T id sent answer ev)
+by-sending becomes stamp a part b T id said (Refused fault ev is) = subst (λ (x : Result (Unit {0}) Error). Closes becomes stamp a (Some part) b T id x) (sym is) (record {
+  events = call.Book stamp part false (Err fault) ∷ [];
+  became = ev;
+  walked = λ r. (Answer (Err (of_fault fault)), id, (refl, refl, refl, refl, refl), (refl, refl));
+})
+
+-- of a request that there may be
+pub closes : {D : Type 0} (becomes : D → List Event → D → Type 0) → ((a : D) → becomes a [] a) → (stamp : Stamp) (a : D) (close : Option (List ℕ)) (b : D) (T : Type 0) (id : ℕ) (said : Result (Unit {0}) Error) →
+    Posts becomes stamp a close b said → Closes becomes stamp a close b T id said
+closes becomes stays stamp a (Some part) b T id said h = by-sending becomes stamp a part b T id said h
+closes becomes stays stamp a None b T id said h =
+    subst (λ (x : Result (Unit {0}) Error). Closes becomes stamp a None b T id x) (sym h.1) (record {
+      events = [];
+      became = subst (λ (x : _). becomes a [] x) (sym h.0) (stays a);
+      walked = λ r. (refl, refl);
+    })
+
+-- the events of a hanging up and a close, and where they lead from any answer
+pub record Leads {D : Type 0} (becomes : D → List Event → D → Type 0) (stamp : Stamp) (a : D) (id : ℕ) (close : Option (List ℕ)) (b : D) (T : Type 0) (said : Result (Unit {0}) Error) : Type 0 where
+  pub events : List Event
+  pub became : becomes a events b
+  pub walked : (r : Result T Error) → Walks stamp (HangUp (posts_before close r)) id events (settled r said) id
+
+pub drops : {D : Type 0} (becomes : D → List Event → D → Type 0) → ((a : D) → becomes a [] a) → Joins becomes → (stamp : Stamp) (a : D) (id : ℕ) (close : Option (List ℕ)) (b : D) (T : Type 0) (said : Result (Unit {0}) Error) →
+    Drops becomes stamp a id close b said → Leads becomes stamp a id close b T said
+drops becomes stays joins stamp a id close b T said (Dropped mid ev posted) =
+    let k = closes becomes stays stamp mid close b T id said posted in
+    record {
+      events = call.HangUp id (Ok tt) ∷ k.events;
+      became = joins a mid b (call.HangUp id (Ok tt) ∷ []) k.events ev k.became;
+      walked = λ r. (posts_before close r, id, (refl, refl, refl), k.walked r);
+    }
+drops becomes stays joins stamp a id close b T said (Kept fault ev is) =
+    subst (λ (x : Result (Unit {0}) Error). Leads becomes stamp a id close b T x) (sym is) (record {
+      events = call.HangUp id (Err fault) ∷ [];
+      became = ev;
+      walked = λ r. (Answer (Err (of_fault fault)), id, (refl, refl, refl), (refl, refl));
+    })
+
+-- what is left to do of a stream is to close it behind nothing
+pub left-cleaned : (close : Option (List ℕ)) → cleaning (Release ∷ posts close) ≡ HangUp (posts_before close (Ok tt))
+left-cleaned None = refl
+left-cleaned (Some part) = refl
+
+-- a settled answer is that answer
+pub answered : (said : Result (Unit {0}) Error) → settled (Ok tt) said ≡ Answer said
+answered (Ok x) = refl
+answered (Err e) = refl
+
+-- they are given up
+pub given-up : {D : Type 0} (becomes : D → List Event → D → Type 0) → ((a : D) → becomes a [] a) → Joins becomes → (stamp : Stamp) (a : D) (id : ℕ) (close : Option (List ℕ)) (b : D) (said : Result (Unit {0}) Error) →
+    Drops becomes stamp a id close b said → GoesToAnswer becomes stamp a (record { dialogue = cleaning (Release ∷ posts close); reads = id }) b said
+given-up becomes stays joins stamp a id close b said h =
+    let k = drops becomes stays joins stamp a id close b (Unit {0}) said h in
+    record {
+      last = record { dialogue = settled (Ok tt) said; reads = id };
+      goes = record {
+        events = k.events;
+        became = k.became;
+        walked = subst (λ (d : Dialogue (Unit {0})). Walks stamp d id k.events (settled (Ok tt) said) id) (sym (left-cleaned close)) (k.walked (Ok tt));
+      };
+      answers = inl (answered said);
+    }
+
+-- ---- what was told is settled
+
+-- an answer, where the close was answered so
+abbrev pub unless : {T : Type 0} → Result T Error → Result (Unit {0}) Error → Result T Error
+unless r (Ok x) = r
+unless r (Err e) = Err e
+
+settled-unless : {T : Type 0} (r : Result T Error) (said : Result (Unit {0}) Error) → settled r said ≡ Answer (unless r said)
+settled-unless r (Ok x) = refl
+settled-unless r (Err e) = refl
+
+module _ {D G I W : Type 0} {becomes : D → List Event → D → Type 0} (stays : (a : D) → becomes a [] a) (joins : Joins becomes) {stamp : Stamp} {a b : D}
+    (tells : G → List RawMessage → Option (Result W Error)) (with_item : I → W → W) (at_end : G → W) (s : Items G) (close : Option (List ℕ)) (same : close ≡ s.close) (said : Result (Unit {0}) Error) where
+  -- the end
+  pub end-settled : (told : Told I) → told ≡ Ends → Posts becomes stamp a close b said → AnswersFor becomes stamp a (stands tells with_item at_end told s) b (λ before. unless (Ok (before (at_end s.giving))) said)
+  end-settled told is h =
+      let k = closes becomes stays stamp a s.close b W s.id said (subst (λ (o : Option (List ℕ)). Posts becomes stamp a o b said) same h) in
+      subst (λ (t : Told I). AnswersFor becomes stamp a (stands tells with_item at_end t s) b (λ before. unless (Ok (before (at_end s.giving))) said)) (sym is) (record {
+        last = λ before. record { dialogue = settled (Ok (before (at_end s.giving))) said; reads = s.id };
+        goes = record { events = k.events; became = k.became; walked = λ before. k.walked (Ok (before (at_end s.giving))) };
+        answers = λ before. inl (settled-unless (Ok (before (at_end s.giving))) said);
+      })
+
+  -- an error
+  pub error-settled : (told : Told I) (e : Error) → told ≡ Fails e → Drops becomes stamp a s.id close b said → AnswersFor becomes stamp a (stands tells with_item at_end told s) b (λ before. unless (Err e) said)
+  error-settled told e is h =
+      let k = drops becomes stays joins stamp a s.id s.close b W said (subst (λ (o : Option (List ℕ)). Drops becomes stamp a s.id o b said) same h) in
+      subst (λ (t : Told I). AnswersFor becomes stamp a (stands tells with_item at_end t s) b (λ before. unless (Err e) said)) (sym is) (record {
+        last = λ before. record { dialogue = settled (Err e) said; reads = s.id };
+        goes = record { events = k.events; became = k.became; walked = λ before. k.walked (Err e) };
+        answers = λ before. inl (settled-unless (Err e) said);
+      })

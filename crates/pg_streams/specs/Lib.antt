@@ -1,0 +1,4 @@
+pub mod Families
+pub mod Telling
+pub mod Collecting
+pub mod Handing

@@ -1,0 +1,47 @@
+//! What the state of a command is to the one who polls it, where it hands on a stream of its reply.
+
+ghost use Rattle.pg_query.specs.Meaning.{Place, GivesUp, MatchPoll, Pauses};
+ghost use Rattle.pg_streams.specs.Handing.{HandsOn};
+
+use futures::task::Poll;
+use pg_desk::{Desk, Stamp};
+use pg_errors::Error;
+use std::alloc::Global;
+
+/// A command that is polled over a desk, until it hands on a stream of its reply. Its meaning is what one asks and is answered
+/// who collects that stream.
+pub trait Opens {
+    type Stream;
+
+    /// What one has who collected the stream.
+    ghost Whole: { Type 0 };
+
+    /// Where he stands, and the request that is read.
+    ghost place: { Self → Place Whole };
+
+    /// Where he stands once he has the stream.
+    ghost stands: { Self.Stream → Place Whole };
+
+    /// The stream gives more.
+    ghost is_open: { Self.Stream → Type 0 };
+
+    /// It hasn't answered.
+    ghost is_live: { Self → Type 0 };
+
+    /// Goes on until it hands on the stream, or an error, or no message is there.
+    fn poll<D: Desk>(
+        &mut self,
+        alloc: Global,
+        desk: &mut D,
+        stamp: Stamp,
+    ) -> Poll<Result<Self::Stream, Error>>
+        requires { is_live self.old }
+        ensures { MatchPoll result
+            (λ r. HandsOn D.becomes stands is_open stamp desk.old (place self.old) desk.new r)
+            (Pauses D.becomes stamp desk.old (place self.old) desk.new (place self.new) × is_live self.new) };
+
+    /// Ends it without an answer, and does what is left to do.
+    fn hang_up<D: Desk>(self, alloc: Global, desk: &mut D, stamp: Stamp) -> Result<(), Error>
+        requires { is_live self }
+        ensures { GivesUp D.becomes stamp desk.old (place self) desk.new result };
+}
