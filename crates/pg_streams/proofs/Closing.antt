@@ -10,7 +10,8 @@ use Rattle.pg_query.specs.Dialogue.{Dialogue, Answer, Send, Leave, HangUp, Walks
 use Rattle.pg_query.specs.Faults.{of_fault}
 use Rattle.pg_query.specs.Meaning.{Place, GoesToAnswer}
 use Rattle.pg_query.specs.declared.desk_call.Cleanup.TheVariants.{Release}
-use Rattle.pg_streams.specs.Collecting.{posts, posts_before, Drops, Dropped, Kept, Posts, Sends, Sent, Refused, hung, stands}
+use Rattle.pg_execute.specs.Executes.{posts, posts_before}
+use Rattle.pg_streams.specs.Collecting.{Drops, Dropped, Kept, Posts, Sends, Sent, Refused, hung, stands}
 use Rattle.pg_streams.specs.Families.{AnswersFor}
 use Rattle.pg_streams.specs.declared.giving.Told.{Told}
 use Rattle.pg_streams.specs.declared.giving.Told.TheVariants.{Ends, Fails}

@@ -1,3 +1,6 @@
 pub mod Telling
 pub mod Going
 pub mod Closing
+pub mod Asking
+pub mod Rows
+pub mod Parts

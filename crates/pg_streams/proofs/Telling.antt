@@ -14,7 +14,8 @@ use Rattle.pg_query.specs.Meaning.{Place}
 use Rattle.pg_query.specs.Reading.{ends, reads}
 use Rattle.pg_query.specs.declared.desk_call.Cleanup.TheVariants.{Release}
 use Rattle.pg_query.proofs.Walking.{feed-answer, feed-hang-up}
-use Rattle.pg_streams.specs.Collecting.{IsRefused, Keeps, Reads, collects, place_behind, posts, posts_before, stands, told_end}
+use Rattle.pg_execute.specs.Executes.{posts, posts_before}
+use Rattle.pg_streams.specs.Collecting.{IsRefused, Keeps, Reads, collects, place_behind, stands, told_end}
 use Rattle.pg_streams.specs.Telling.{told_behind, GivesOn}
 use Rattle.pg_streams.specs.declared.giving.Told.{Told}
 use Rattle.pg_streams.specs.declared.giving.Told.TheVariants.{Item, Ends, Fails}

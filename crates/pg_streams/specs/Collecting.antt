@@ -12,11 +12,11 @@ use Rattle.pg_faults.specs.declared.error.Error.{Error}
 use Rattle.pg_faults.specs.declared.fault.WireFault.{WireFault}
 use Rattle.pg_wire.specs.Faults.{wire_fault}
 use Rattle.pg_faults.specs.declared.error.Error.TheVariants.{OutOfMemory, UnexpectedMessage}
-use Rattle.pg_query.specs.Dialogue.{Dialogue, Answer, Send, Read, HangUp, feed, cleaning}
+use Rattle.pg_query.specs.Dialogue.{Dialogue, Answer, Read, HangUp, feed, cleaning}
 use Rattle.pg_query.specs.Faults.{of_fault}
 use Rattle.pg_query.specs.Meaning.{Place}
-use Rattle.pg_query.specs.declared.desk_call.Cleanup.{Cleanup}
-use Rattle.pg_query.specs.declared.desk_call.Cleanup.TheVariants.{Release, Post}
+use Rattle.pg_query.specs.declared.desk_call.Cleanup.TheVariants.{Release}
+use Rattle.pg_execute.specs.Executes.{posts, posts_before}
 use Rattle.pg_streams.specs.Families.{GoesFor, AnswersFor, PausesFor}
 use Rattle.pg_streams.specs.Telling.{told_behind}
 use Rattle.pg_streams.specs.declared.giving.Told.{Told}
@@ -24,16 +24,6 @@ use Rattle.pg_streams.specs.declared.giving.Told.TheVariants.{Item, Ends, Fails}
 use Rattle.pg_streams.specs.declared.items.Items.{Items}
 
 -- ---- where items stand
-
--- this request is left to do, if there is one
-abbrev pub posts : Option (List ℕ) → List Cleanup
-posts (Some part) = Post part ∷ []
-posts None = []
-
--- It is sent before an answer is given, and nobody reads its reply. Where the desk refuses it, that error is the answer.
-abbrev pub posts_before : {W : Type 0} → Option (List ℕ) → Result W Error → Dialogue W
-posts_before (Some part) r = Send part (λ e. Answer (Err e)) (Answer r)
-posts_before None r = Answer r
 
 -- behind what is told: at an error the request is hung up, and then the statement is closed by this request, if there is one
 abbrev pub told_end : {W : Type 0} → (close : Option (List ℕ)) → Option (Result W Error) → Dialogue W

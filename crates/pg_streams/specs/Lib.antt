@@ -2,3 +2,11 @@ pub mod Families
 pub mod Telling
 pub mod Collecting
 pub mod Handing
+pub mod RowStreams
+pub mod RowTelling
+pub mod RowLaws
+pub mod RowStates
+pub mod SimpleStreams
+pub mod PartTelling
+pub mod PartLaws
+pub mod SimpleStates

@@ -1,0 +1,6 @@
+use Rattle.pg_wire.specs.Messages.{message_view}
+use Rattle.pg_streams.proofs.Rows.{gives-seen}
+use Rattle.pg_streams.proofs.row_giving.RowGivingGiving.message.Goals as goal
+
+pub returns-clause-gives : goal.returns-clause-gives
+returns-clause-gives c raw means = gives-seen c.args.self.now c.see.new.self raw (message_view c.args.message) means c.see.result c.see.ensures.shows

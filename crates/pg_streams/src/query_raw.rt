@@ -1,0 +1,192 @@
+//! A statement that is queried, whose rows are given one by one.
+
+ghost use Rattle.std.specs.Prelude.{◌≡◌, false, IfOk, MatchResult, Err};
+ghost use Rattle.pg_query.specs.Meaning.{Goes, GoesToAnswer, MatchPoll, Pauses};
+ghost use Rattle.pg_streams.specs.Collecting.{place_of};
+ghost use Rattle.pg_streams.specs.Handing.{HandsOn};
+ghost use Rattle.pg_streams.specs.RowStates as spec;
+ghost use Rattle.pg_streams.specs.RowStates.{IsLiveAt, opening_told, rows_over, rows_place, stage_place};
+ghost use Rattle.pg_streams.specs.RowStreams.{query_raw};
+
+use crate::items::Items;
+use crate::opens;
+use crate::row_giving::RowOpening;
+use crate::row_stream::RowStream;
+use futures::task::Poll;
+use pg_desk::{Desk, Stamp};
+use pg_errors::Error;
+use pg_execute::execute_request;
+use pg_query::error_of;
+use pg_statements::Statement;
+use pg_types::{OutOfMemory, Value};
+use std::alloc::Global;
+use std::mem;
+
+/// A statement that is handed in.
+#[derive(Drop)]
+pub(crate) enum Handed<'a> {
+    /// It is copied in the first poll.
+    Borrowed(&'a Statement),
+    Owned(Statement),
+}
+
+impl<'a> Handed<'a> {
+    fn into_statement(self) -> Result<Statement, OutOfMemory>
+        ensures { IfOk result (λ statement. statement ≡ spec.handed self.entry) }
+    {
+        match self {
+            Handed::Borrowed(statement) => statement.copy(),
+            Handed::Owned(statement) => Ok(statement),
+        }
+    }
+}
+
+/// How far such a command has come.
+#[derive(Drop)]
+pub(crate) enum Stage<'a> {
+    /// Nothing was done yet.
+    New(Handed<'a>, &'a [Value]),
+    /// The request was booked, and BindComplete hasn't come.
+    Opens(Items<RowOpening>),
+    /// It answered.
+    Done,
+}
+
+/// Books the request that executes a statement with these values.
+fn ask<D: Desk>(
+    alloc: Global,
+    desk: &mut D,
+    stamp: Stamp,
+    statement: Statement,
+    values: &[Value],
+) -> Result<Items<RowOpening>, Error>
+    ensures goes { MatchResult result
+        (λ items. Goes D.becomes stamp desk.old (record { dialogue = query_raw statement values.now; reads = 0 }) desk.new (place_of opening_told items))
+        (λ e. GoesToAnswer D.becomes stamp desk.old (record { dialogue = query_raw statement values.now; reads = 0 }) desk.new (Err e)) }
+    ensures over { IfOk result (λ items. items.over ≡ false) }
+{
+    let request = match execute_request(alloc, &statement, values) {
+        Ok(Ok(request)) => request,
+        Ok(Err(error)) => return Err(error),
+        Err(_) => return Err(Error::OutOfMemory),
+    };
+    match desk.book(alloc, stamp, request, false) {
+        Ok(id) => {
+            let opening = RowOpening {
+                statement,
+                bound: false,
+            };
+            Ok(Items::new(opening, id, None))
+        }
+        Err(fault) => Err(error_of(fault)),
+    }
+}
+
+/// The state that executes a statement as a query whose stream of rows is the answer, once BindComplete came.
+#[derive(Drop)]
+pub struct QueryRawState<'a> {
+    stage: Stage<'a>,
+}
+
+impl<'a> QueryRawState<'a> {
+    /// Makes the state that executes this statement with these values. It takes no memory, and books nothing before its first
+    /// poll. Refused values book nothing: Parameters comes where they aren't as many as the parameters, then ToSql at the first
+    /// that can't stand as its parameter, then Encode where the frames can't be written.
+    pub fn new(statement: &'a Statement, values: &'a [Value]) -> QueryRawState<'a>
+        ensures live { ⟦<QueryRawState<'a> as opens::Opens>⟧.is_live result }
+        ensures asks { (⟦<QueryRawState<'a> as opens::Opens>⟧.place result).dialogue ≡ query_raw statement.now values.now }
+    {
+        QueryRawState {
+            stage: Stage::New(Handed::Borrowed(statement), values),
+        }
+    }
+
+    /// The same of a statement that can't be borrowed for so long.
+    pub fn owned(statement: Statement, values: &'a [Value]) -> QueryRawState<'a>
+        ensures live { ⟦<QueryRawState<'a> as opens::Opens>⟧.is_live result }
+        ensures asks { (⟦<QueryRawState<'a> as opens::Opens>⟧.place result).dialogue ≡ query_raw statement values.now }
+    {
+        QueryRawState {
+            stage: Stage::New(Handed::Owned(statement), values),
+        }
+    }
+
+    /// Reads on to BindComplete.
+    fn open<D: Desk>(
+        &mut self,
+        alloc: Global,
+        desk: &mut D,
+        stamp: Stamp,
+        items: Items<RowOpening>,
+    ) -> Poll<Result<RowStream, Error>>
+        requires { items.over ≡ false }
+        ensures { MatchPoll result
+            (λ r. HandsOn D.becomes rows_place (λ s. rows_over s ≡ false) stamp desk.old (place_of opening_told items) desk.new r)
+            (Pauses D.becomes stamp desk.old (place_of opening_told items) desk.new (stage_place self.new.stage) × IsLiveAt self.new.stage) }
+    {
+        let mut items = items;
+        match items.poll_next(alloc, desk, stamp) {
+            Poll::Pending => {
+                self.stage = Stage::Opens(items);
+                Poll::Pending
+            }
+            Poll::Ready(Some(Ok(()))) => match RowStream::opened(items) {
+                Some(stream) => Poll::Ready(Ok(stream)),
+                // It is given where BindComplete came.
+                None => Poll::Ready(Err(Error::OutOfMemory)),
+            },
+            Poll::Ready(Some(Err(error))) => Poll::Ready(Err(error)),
+            // The reply doesn't end before.
+            Poll::Ready(None) => Poll::Ready(Err(Error::OutOfMemory)),
+        }
+    }
+}
+
+impl<'a> opens::Opens for QueryRawState<'a> {
+    ghost use Rattle.std.specs.Prelude.{◌≡◌, false};
+    ghost use Rattle.pg_streams.specs.RowStates.{IsLiveAt, rows_over, rows_place, stage_place};
+    ghost use Rattle.pg_streams.specs.RowStreams as streams;
+
+    type Stream = RowStream;
+
+    ghost Whole = { streams.RowsGiven };
+
+    ghost place = { λ s. stage_place s.stage };
+
+    ghost stands = { rows_place };
+
+    ghost is_open = { λ s. rows_over s ≡ false };
+
+    ghost is_live = { λ s. IsLiveAt s.stage };
+
+    fn poll<D: Desk>(
+        &mut self,
+        alloc: Global,
+        desk: &mut D,
+        stamp: Stamp,
+    ) -> Poll<Result<RowStream, Error>> {
+        match mem::replace(&mut self.stage, Stage::Done) {
+            Stage::New(handed, values) => {
+                let Ok(statement) = handed.into_statement() else {
+                    return Poll::Ready(Err(Error::OutOfMemory));
+                };
+                match ask(alloc, desk, stamp, statement, values) {
+                    Ok(items) => self.open(alloc, desk, stamp, items),
+                    Err(error) => Poll::Ready(Err(error)),
+                }
+            }
+            Stage::Opens(items) => self.open(alloc, desk, stamp, items),
+            Stage::Done => Poll::Ready(Err(Error::Closed)),
+        }
+    }
+
+    fn hang_up<D: Desk>(self, alloc: Global, desk: &mut D, stamp: Stamp) -> Result<(), Error> {
+        let QueryRawState { stage } = self;
+        match stage {
+            Stage::Opens(items) => items.hang_up(alloc, desk, stamp),
+            // Nothing was asked yet.
+            Stage::New(_, _) => Ok(()),
+            Stage::Done => Ok(()),
+        }
+    }
+}

@@ -1,0 +1,90 @@
+//! A simple query whose reply is given part by part.
+
+ghost use Rattle.std.specs.Prelude.{◌≡◌};
+ghost use Rattle.pg_streams.specs.SimpleStreams.{IsFrameOf, simple_query_raw};
+
+use crate::opens::Opens;
+use crate::simple_query_stream::SimpleQueryStream;
+use bytes::{Bytes, BytesMut};
+use futures::task::Poll;
+use pg_desk::{Desk, Stamp};
+use pg_errors::{Cause, Error};
+use pg_query::error_of;
+use pg_wire::{FrameFault, query};
+use std::alloc::Global;
+
+/// The frame of a text, or the error of one that can't be sent.
+fn query_frame(alloc: Global, text: &str) -> Result<Bytes, Error>
+    ensures { IsFrameOf text.now result }
+{
+    let mut out = BytesMut::new(alloc);
+    match query(text, &mut out) {
+        Ok(()) => match out.freeze() {
+            Ok(frame) => Ok(frame),
+            Err(_) => Err(Error::OutOfMemory),
+        },
+        Err(FrameFault::OutOfMemory) => Err(Error::OutOfMemory),
+        Err(fault) => Err(Error::Encode(Cause::Frame(fault))),
+    }
+}
+
+/// The state of a simple query whose stream is the answer, in its first poll.
+#[derive(Drop)]
+pub struct SimpleQueryRawState<'a> {
+    /// None once it was polled.
+    text: Option<&'a str>,
+}
+
+impl<'a> SimpleQueryRawState<'a> {
+    /// Makes the state of a simple query of this text. It takes no memory, and books nothing before its first poll. Encode is
+    /// the answer exactly where the text holds a zero byte or is too long for its frame; nothing is booked then.
+    pub fn new(text: &'a str) -> SimpleQueryRawState<'a>
+        ensures live { ⟦<SimpleQueryRawState<'a> as Opens>⟧.is_live result }
+        ensures asks { (⟦<SimpleQueryRawState<'a> as Opens>⟧.place result).dialogue ≡ simple_query_raw text.now }
+    {
+        SimpleQueryRawState { text: Some(text) }
+    }
+}
+
+impl<'a> Opens for SimpleQueryRawState<'a> {
+    ghost use Rattle.std.specs.Prelude as prelude;
+    ghost use Rattle.std.specs.Prelude.{◌≡◌, false, option_map};
+    ghost use Rattle.pg_streams.specs.declared.simple_query_message.SimpleQueryMessage as part;
+    ghost use Rattle.pg_streams.specs.SimpleStates.{IsNew, asks_text, parts_over, parts_place};
+
+    type Stream = SimpleQueryStream;
+
+    ghost Whole = { prelude.List part.SimpleQueryMessage };
+
+    ghost place = { λ s. record { dialogue = asks_text (option_map (λ t. t.now) s.text); reads = 0 } };
+
+    ghost stands = { parts_place };
+
+    ghost is_open = { λ s. parts_over s ≡ false };
+
+    ghost is_live = { λ s. IsNew s.text };
+
+    fn poll<D: Desk>(
+        &mut self,
+        alloc: Global,
+        desk: &mut D,
+        stamp: Stamp,
+    ) -> Poll<Result<SimpleQueryStream, Error>> {
+        let Some(text) = self.text.take() else {
+            return Poll::Ready(Err(Error::Closed));
+        };
+        let frame = match query_frame(alloc, text) {
+            Ok(frame) => frame,
+            Err(error) => return Poll::Ready(Err(error)),
+        };
+        match desk.book(alloc, stamp, frame, false) {
+            Ok(id) => Poll::Ready(Ok(SimpleQueryStream::new(id))),
+            Err(fault) => Poll::Ready(Err(error_of(fault))),
+        }
+    }
+
+    fn hang_up<D: Desk>(self, alloc: Global, desk: &mut D, stamp: Stamp) -> Result<(), Error> {
+        // Nothing was asked yet.
+        Ok(())
+    }
+}
