@@ -12,6 +12,8 @@ ghost use Rattle.pg_execute.specs.Targets.{on_target};
 ghost use Rattle.pg_executed.specs.States.{place_of_close, IsLiveClose};
 ghost use Rattle.pg_executed.specs.Texts.{prepare_text};
 ghost use Rattle.pg_lookup.specs.Lookups.{prepare};
+ghost use Rattle.pg_streams.specs.RowStreams.{query_raw};
+ghost use Rattle.pg_streams.specs.SimpleStreams.{simple_query_raw};
 ghost use Rattle.pg_calls.specs.Clearing.{Clears};
 
 use pg_checks::SessionCheckState;
@@ -25,6 +27,7 @@ use pg_open::{CancelToken, SessionInfo};
 use pg_prepared::PrepareState;
 use pg_query::{Polled, error_of};
 use pg_statements::Statement;
+use pg_streams::{Opens, QueryRawState, SimpleQueryRawState};
 use pg_types::{Oid, Value};
 
 /// A client of a connection. It holds no connection: a call makes a state, which is polled over the desk of the
@@ -65,7 +68,10 @@ impl Client {
     pub fn clear_type_cache<D: Desk>(&self, desk: &mut D) -> Result<(), Error>
         ensures { Clears D.becomes desk.old desk.new result }
     {
-        desk.clear_type_cache().map_err(error_of)
+        match desk.clear_type_cache() {
+            Ok(()) => Ok(()),
+            Err(fault) => Err(error_of(fault)),
+        }
     }
 
     /// Whether the connection takes no request any more.
@@ -84,6 +90,15 @@ impl Client {
         ensures asks { (place_of_query result).dialogue ≡ simple_query query.now None }
     {
         SimpleQueryState::new(query, None)
+    }
+
+    /// Like `simple_query`, where its reply is handed on as a stream, in the first poll. Encode and Closed come in that poll, the
+    /// other errors from the stream.
+    pub fn simple_query_raw<'a>(&self, query: &'a str) -> SimpleQueryRawState<'a>
+        ensures live { ⟦<SimpleQueryRawState<'a> as Opens>⟧.is_live result }
+        ensures asks { (⟦<SimpleQueryRawState<'a> as Opens>⟧.place result).dialogue ≡ simple_query_raw query.now }
+    {
+        SimpleQueryRawState::new(query)
     }
 
     /// A batch of the statements of this text. Like `simple_query`, errors too, with the end alone as its answer.
@@ -143,6 +158,15 @@ impl Client {
         QueryState::new(target, HowMany::Any, values)
     }
 
+    /// Like `query` of a statement, where its rows are handed on as a stream, once the server took the values. The errors are
+    /// those of `query`; from then on they come from the stream.
+    pub fn query_raw<'a>(&self, statement: &'a Statement, values: &'a [Value]) -> QueryRawState<'a>
+        ensures live { ⟦<QueryRawState<'a> as Opens>⟧.is_live result }
+        ensures asks { (⟦<QueryRawState<'a> as Opens>⟧.place result).dialogue ≡ query_raw statement.now values.now }
+    {
+        QueryRawState::new(statement, values)
+    }
+
     /// Like `query`, where there must be one row, which is the answer's only one: RowCount comes where there is none, or a
     /// second one.
     pub fn query_one<'a>(&self, target: Target<'a>, values: &'a [Value]) -> QueryState<'a>
@@ -200,6 +224,14 @@ impl Client {
         ensures asks { (⟦<ExecuteState<'a> as Polled>⟧.place result).dialogue ≡ on_target prepare_text (λ s. execute s values.now) target.entry }
     {
         ExecuteState::new(target, values)
+    }
+
+    /// The same as `execute`: values are a slice in both.
+    pub fn execute_raw<'a>(&self, target: Target<'a>, values: &'a [Value]) -> ExecuteState<'a>
+        ensures live { ⟦<ExecuteState<'a> as Polled>⟧.is_live result }
+        ensures asks { (⟦<ExecuteState<'a> as Polled>⟧.place result).dialogue ≡ on_target prepare_text (λ s. execute s values.now) target.entry }
+    {
+        self.execute(target, values)
     }
 
     /// Closes a statement (PostgreSQL documentation, "Extended Query", under Close). Nobody reads the server's reply. Closed

@@ -10,3 +10,6 @@ pub use pg_execute::{HowMany, Target};
 pub use pg_executed::{CloseState, ExecuteState, QueryScalarState, QueryState};
 pub use pg_open::{CancelToken, SessionInfo};
 pub use pg_prepared::PrepareState;
+pub use pg_streams::{
+    QueryRawState, RowStream, SimpleQueryMessage, SimpleQueryRawState, SimpleQueryStream,
+};
