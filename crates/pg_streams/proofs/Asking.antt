@@ -1,5 +1,5 @@
 -- Where a request leads whose reply is given item by item.
-use Rattle.std.proofs.Common.{◌≡◌, ◌⊎◌, ℕ, false, List, [], ◌∷◌, ◌++◌, Option, Some, None, Result, Ok, Err, refl, sym, ◌∙◌, ap, subst, inl, inr}
+use Rattle.std.proofs.Common.{◌≡◌, ℕ, false, List, [], ◌∷◌, ◌++◌, Option, Some, None, Result, Ok, Err, refl, sym, ◌∙◌, ap, subst, inl, inr}
 use Rattle.futures.specs.declared.task.Poll.{Poll}
 use Rattle.futures.specs.declared.task.Poll.TheVariants.{Ready, Pending}
 use Rattle.pg_spec.specs.Faults as spec
@@ -16,7 +16,6 @@ use Rattle.pg_query.specs.Faults.{of_fault}
 use Rattle.pg_query.specs.Meaning.{Place, Goes, GoesToAnswer, MatchPoll, Pauses}
 use Rattle.pg_query.specs.Reading.{reads}
 use Rattle.pg_query.specs.Scripts.{cleanup_of}
-use Rattle.pg_query.specs.declared.desk_call.Cleanup.{Cleanup}
 use Rattle.pg_query.proofs.Walking.{goes-joined, answer-joined, end-joined}
 use Rattle.pg_query.specs.Meaning.{ForMessage, ForRoom, WaitsAt}
 use Rattle.pg_lookup.specs.Composing.{asks_for}

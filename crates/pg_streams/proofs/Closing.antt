@@ -1,14 +1,14 @@
 -- Where a request leads that closes a statement.
-use Rattle.std.proofs.Common.{◌≡◌, ℕ, false, List, [], ◌∷◌, ◌++◌, Option, Some, None, Result, Ok, Err, refl, sym, ◌∙◌, ap, subst, inl}
+use Rattle.std.proofs.Common.{◌≡◌, ℕ, false, List, [], ◌∷◌, Option, Some, None, Result, Ok, Err, refl, sym, subst, inl}
 use Rattle.pg_spec.specs.RawMessages.{RawMessage}
 use Rattle.pg_spec.specs.declared.stamps.Stamp.{Stamp}
 use Rattle.pg_desk.specs.declared.event.DeskFault.{DeskFault}
 use Rattle.pg_desk.specs.declared.event.Event.{Event}
 use Rattle.pg_desk.specs.declared.event.Event.TheVariants as call
 use Rattle.pg_faults.specs.declared.error.Error.{Error}
-use Rattle.pg_query.specs.Dialogue.{Dialogue, Answer, Send, Leave, HangUp, Walks, cleaning}
+use Rattle.pg_query.specs.Dialogue.{Dialogue, Answer, Leave, HangUp, Walks, cleaning}
 use Rattle.pg_query.specs.Faults.{of_fault}
-use Rattle.pg_query.specs.Meaning.{Place, GoesToAnswer}
+use Rattle.pg_query.specs.Meaning.{GoesToAnswer}
 use Rattle.pg_query.specs.declared.desk_call.Cleanup.TheVariants.{Release}
 use Rattle.pg_execute.specs.Executes.{posts, posts_before}
 use Rattle.pg_streams.specs.Collecting.{Drops, Dropped, Kept, Posts, Sends, Sent, Refused, hung, stands}

@@ -1,5 +1,5 @@
 -- Events of one call and of the next, for all plans.
-use Rattle.std.proofs.Common.{◌≡◌, ◌⊎◌, ℕ, List, [], ◌∷◌, ◌++◌, Option, Some, None, Result, Ok, Err, refl, sym, ◌∙◌, ap, subst, inl, inr}
+use Rattle.std.proofs.Common.{◌≡◌, List, [], ◌∷◌, ◌++◌, Option, Some, None, Result, Ok, Err, refl, sym, ap, subst, inl}
 use Rattle.pg_spec.specs.RawMessages.{RawMessage}
 use Rattle.pg_spec.specs.declared.stamps.Stamp.{Stamp}
 use Rattle.pg_desk.specs.declared.event.DeskFault.{DeskFault}
@@ -7,14 +7,14 @@ use Rattle.pg_desk.specs.declared.event.Event.{Event}
 use Rattle.pg_desk.specs.declared.event.Event.TheVariants as call
 use Rattle.pg_desk.specs.declared.event.Take.TheVariants as taking
 use Rattle.pg_faults.specs.declared.error.Error.{Error}
-use Rattle.pg_faults.specs.declared.error.Error.TheVariants.{Closed, OutOfMemory}
+use Rattle.pg_faults.specs.declared.error.Error.TheVariants.{Closed}
 use Rattle.pg_query.specs.Dialogue.{Dialogue, Answer, HangUp, feed, Walks}
 use Rattle.pg_query.specs.Faults.{of_fault}
 use Rattle.pg_query.specs.Meaning.{Place, Leaves, ForMessage, left_by}
 use Rattle.pg_query.specs.Scripts.{IsRead}
 use Rattle.pg_query.proofs.Walking.{walk-joined}
 use Rattle.pg_streams.specs.Collecting.{Awaits, Comes, Gives, Reads, collects, place_behind, stands}
-use Rattle.pg_streams.specs.Families.{GoesFor, AnswersFor, PausesFor}
+use Rattle.pg_streams.specs.Families.{GoesFor, AnswersFor}
 use Rattle.pg_streams.specs.Telling.{told_behind}
 use Rattle.pg_streams.specs.declared.giving.Told.{Told}
 use Rattle.pg_streams.specs.declared.items.Items.{Items}

@@ -1,33 +1,17 @@
 -- What a message of the reply to a simple query tells a stream of its parts.
-use Rattle.std.proofs.Common.{◌≡◌, ℕ, List, [], ◌∷◌, map, Option, Some, None, Result, Ok, Err, refl, sym, ◌∙◌, ap, subst}
-use Rattle.std.specs.declared.alloc.AllocError.{AllocError}
-use Rattle.pg_spec.specs.Bodies.{Field, cells_of}
+use Rattle.std.proofs.Common.{◌≡◌, List, [], ◌∷◌, Option, Some, Result, Ok, Err, sym, ◌∙◌, ap, subst}
 use Rattle.pg_spec.specs.Faults as spec
-use Rattle.pg_spec.specs.Messages as message
 use Rattle.pg_spec.specs.Messages.{Message, message_of}
 use Rattle.pg_spec.specs.RawMessages.{RawMessage}
 use Rattle.pg_faults.specs.declared.error.Error.{Error}
-use Rattle.pg_faults.specs.declared.error.Error.TheVariants.{UnexpectedMessage}
-use Rattle.pg_spec.specs.SimpleQuery.{unreadable}
-use Rattle.pg_query.specs.Replies.{IsRefusedFor, unreadable_error}
-use Rattle.pg_rows.specs.Rows.{RowOf, row_of}
 use Rattle.pg_rows.specs.declared.simple_column.SimpleColumn.{SimpleColumn}
-use Rattle.pg_wire.specs.Messages.{message_view}
-use Rattle.pg_wire.specs.declared.body.CommandCompleteBody.{CommandCompleteBody}
-use Rattle.pg_wire.specs.declared.body.DataRowBody.{DataRowBody}
-use Rattle.pg_wire.specs.declared.body.ErrorResponseBody.{ErrorResponseBody}
-use Rattle.pg_wire.specs.declared.body.ReadyForQueryBody.{ReadyForQueryBody}
-use Rattle.pg_wire.specs.declared.body.RowDescriptionBody.{RowDescriptionBody}
-use Rattle.pg_wire.specs.declared.message.Message as wire_message
-use Rattle.pg_wire.specs.declared.message.Message.TheVariants as wire
-use Rattle.pg_streams.specs.PartTelling.{ColumnsRead, Shows}
-use Rattle.pg_streams.specs.SimpleStreams.{Said, Part, Ready, Wrong, columns_said, named, row_said, simple_said, said_by, told_by, parts_from}
-use Rattle.pg_streams.specs.Telling.{GivesOn, told_behind}
+use Rattle.pg_streams.specs.PartTelling.{Shows}
+use Rattle.pg_streams.specs.SimpleStreams.{Said, Part, Ready, Wrong, simple_said, said_by, told_by, parts_from}
+use Rattle.pg_streams.specs.Telling.{GivesOn}
 use Rattle.pg_streams.specs.declared.giving.Told.{Told}
 use Rattle.pg_streams.specs.declared.giving.Told.TheVariants.{Item, Ends, Fails}
 use Rattle.pg_streams.specs.declared.simple_giving.SimpleGiving.{SimpleGiving}
 use Rattle.pg_streams.specs.declared.simple_query_message.SimpleQueryMessage.{SimpleQueryMessage}
-use Rattle.pg_streams.specs.declared.simple_query_message.SimpleQueryMessage.TheVariants as part
 
 abbrev Answer : Type 0
 Answer = Option (Result (List SimpleQueryMessage) Error)

@@ -1,22 +1,20 @@
 -- What a message of the reply to a statement tells a stream of its rows.
-use Rattle.std.proofs.Common.{◌≡◌, ℕ, List, [], ◌∷◌, ◌++◌, length, map, Bool, true, false, IfOk, Option, Some, None, option_map, Result, Ok, Err, refl, sym, ◌∙◌, ap, subst}
+use Rattle.std.proofs.Common.{◌≡◌, ℕ, List, [], ◌∷◌, ◌++◌, length, Bool, true, false, IfOk, Option, Some, None, option_map, Result, Ok, Err, refl, sym, ◌∙◌, ap, subst}
 use Rattle.std.specs.declared.alloc.AllocError.{AllocError}
 use Rattle.pg_spec.specs.Messages.{Message, message_of}
 use Rattle.pg_spec.specs.RawMessages.{RawMessage}
-use Rattle.pg_spec.specs.Readings.{Next, GoesOn, Answers, Decision, decided_by, decision, one_later}
+use Rattle.pg_spec.specs.Readings.{Next, GoesOn, Decision, decided_by, decision, one_later}
 use Rattle.pg_faults.specs.declared.error.Error.{Error}
-use Rattle.pg_faults.specs.declared.error.Error.TheVariants.{UnexpectedMessage}
 use Rattle.pg_statements.specs.declared.column.Column.{Column}
 use Rattle.pg_statements.specs.declared.statement.Described.{Described as Statement}
-use Rattle.pg_lookup.specs.QueryReplies.{Said, Bound, Row, Complete, Empty, Suspended, Ready, Fails as Wrong, query_said, row_said, said_by, told_by}
-use Rattle.pg_rows.specs.Rows.{Cells, RowOf, row_of, row_refusal}
+use Rattle.pg_lookup.specs.QueryReplies.{Said, Bound, Row, Complete, Empty, Suspended, Ready, Fails as Wrong, query_said, said_by}
+use Rattle.pg_rows.specs.Rows.{Cells, RowOf}
 use Rattle.pg_spec.specs.Faults.{WireFault, Parse, Wire}
-use Rattle.pg_spec.specs.SimpleQuery.{unreadable}
 use Rattle.pg_execute.specs.Rows.{rows_by, rows_read}
 use Rattle.pg_execute.specs.declared.got.Got.{Got}
 use Rattle.pg_execute.specs.declared.how_many.HowMany.TheVariants.{Any}
 use Rattle.pg_streams.specs.RowStreams.{RowsGiven, rows_from, rows_given, with_row}
-use Rattle.pg_streams.specs.RowTelling.{Shows, ShowsOpening, told_of}
+use Rattle.pg_streams.specs.RowTelling.{Shows, ShowsOpening}
 use Rattle.pg_streams.specs.Telling.{GivesOn, told_behind}
 use Rattle.pg_streams.proofs.Telling.{told-whole}
 use Rattle.pg_streams.specs.declared.giving.Told.{Told}

@@ -1,5 +1,5 @@
 -- What a message tells, and what that makes of the dialogue of one who collects the items.
-use Rattle.std.proofs.Common.{◌≡◌, ℕ, List, [], ◌∷◌, Bool, true, false, if◌then◌else◌, Option, Some, None, is_some, Result, Ok, Err, refl, sym, ◌∙◌, ap, subst}
+use Rattle.std.proofs.Common.{◌≡◌, ℕ, List, [], ◌∷◌, false, if◌then◌else◌, Option, Some, None, is_some, Result, Ok, Err, refl, sym, ◌∙◌, ap, subst}
 use Rattle.pg_spec.specs.Faults as spec
 use Rattle.pg_spec.specs.Messages.{message_of}
 use Rattle.pg_spec.specs.RawMessages.{RawMessage}
@@ -9,7 +9,7 @@ use Rattle.pg_wire.specs.Messages.{message_view}
 use Rattle.pg_wire.specs.declared.message.Message.{Message}
 use Rattle.pg_faults.specs.declared.fault.WireFault.{WireFault}
 use Rattle.pg_faults.specs.declared.error.Error.{Error}
-use Rattle.pg_query.specs.Dialogue.{Dialogue, Answer, Send, Read, HangUp, feed, feed_one}
+use Rattle.pg_query.specs.Dialogue.{Dialogue, Read, HangUp, feed, feed_one}
 use Rattle.pg_query.specs.Meaning.{Place}
 use Rattle.pg_query.specs.Reading.{ends, reads}
 use Rattle.pg_query.specs.declared.desk_call.Cleanup.TheVariants.{Release}

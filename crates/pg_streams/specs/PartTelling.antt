@@ -1,5 +1,5 @@
 -- What a message of the reply to a simple query tells a stream of its parts.
-use Rattle.std.specs.Prelude.{◌≡◌, ℕ, List, Option, Some, None, Result, Ok, Err}
+use Rattle.std.specs.Prelude.{◌≡◌, ℕ, List, Option, Some, Result, Ok, Err}
 use Rattle.pg_spec.specs.Bodies.{Field, fields_of}
 use Rattle.pg_spec.specs.Faults.{WireFault}
 use Rattle.pg_spec.specs.SimpleQuery.{unreadable}

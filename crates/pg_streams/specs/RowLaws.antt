@@ -1,16 +1,15 @@
 -- A malformed message of the reply to a statement is an error.
-use Rattle.std.specs.Prelude.{◌≡◌, ℕ, List, [], ◌∷◌, length, Bool, Option, Some, None, Result, Ok, Err, option_map}
+use Rattle.std.specs.Prelude.{◌≡◌, ℕ, [], ◌∷◌, length, Bool, Option, Some, None, Result, Ok, Err, option_map}
 use Rattle.std.proofs.Common.{ap}
 use Rattle.pg_spec.specs.Faults as spec
 use Rattle.pg_spec.specs.Messages.{Message, message_of}
 use Rattle.pg_spec.specs.RawMessages.{RawMessage}
 use Rattle.pg_spec.specs.Readings.{decided_by}
-use Rattle.pg_faults.specs.declared.error.Error.{Error}
 use Rattle.pg_statements.specs.declared.statement.Described.{Described as Statement}
 use Rattle.pg_lookup.specs.QueryReplies.{Said, Fails, query_said}
 use Rattle.pg_execute.specs.Rows.{rows_by}
 use Rattle.pg_execute.specs.declared.how_many.HowMany.TheVariants.{Any}
-use Rattle.pg_streams.specs.RowStreams.{RowsGiven, rows_from, rows_given}
+use Rattle.pg_streams.specs.RowStreams.{rows_from, rows_given}
 
 -- it says that the reply fails
 abbrev said-of : (bound : Bool) → ℕ → Result Message spec.WireFault → Said

@@ -6,7 +6,7 @@ use Rattle.pg_faults.specs.declared.error.Error.{Error}
 use Rattle.pg_statements.specs.declared.column.Column.{Column}
 use Rattle.pg_statements.specs.declared.statement.Described.{Described as Statement}
 use Rattle.pg_query.specs.Dialogue.{Dialogue}
-use Rattle.pg_rows.specs.Rows.{Cells, RowOf}
+use Rattle.pg_rows.specs.Rows.{RowOf}
 use Rattle.pg_execute.specs.Executes.{executes, queried}
 use Rattle.pg_execute.specs.Rows.{rows_read}
 use Rattle.pg_execute.specs.declared.got.Got.{Got}

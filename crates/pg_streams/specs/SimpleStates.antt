@@ -1,5 +1,5 @@
 -- Where the stream of a simple query stands, and the state that hands it on.
-use Rattle.std.specs.Prelude.{◌≡◌, ◌∷◌, ℕ, List, [], Bool, true, false, Option, Some, None, Result, Err}
+use Rattle.std.specs.Prelude.{◌∷◌, ℕ, List, [], Bool, Option, Some, None, Result, Err}
 use Rattle.pg_spec.specs.RawMessages.{RawMessage}
 use Rattle.pg_faults.specs.declared.error.Error.{Error}
 use Rattle.pg_faults.specs.declared.error.Error.TheVariants.{Closed}
@@ -9,7 +9,6 @@ use Rattle.pg_streams.specs.Collecting.{place_behind, place_of}
 use Rattle.pg_streams.specs.SimpleStreams.{parts_from, simple_query_raw}
 use Rattle.pg_streams.specs.declared.simple_giving.SimpleGiving.{SimpleGiving}
 use Rattle.pg_streams.specs.declared.simple_query_message.SimpleQueryMessage.{SimpleQueryMessage}
-use Rattle.pg_streams.specs.declared.simple_query_raw.SimpleQueryRawState.{SimpleQueryRawState}
 use Rattle.pg_streams.specs.declared.simple_query_stream.SimpleQueryStream.{SimpleQueryStream}
 
 -- what the messages from here on tell

@@ -5,7 +5,6 @@ use Rattle.pg_streams.specs.Handing.{HandsOn}
 use Rattle.pg_streams.specs.RowStates.{IsLiveAt, rows_over, rows_place, stage_place}
 use Rattle.pg_streams.specs.RowStreams.{RowsGiven, query_raw}
 use Rattle.pg_streams.specs.declared.query_raw.Stage.{Stage}
-use Rattle.pg_streams.specs.declared.query_raw.Stage.TheVariants.{New}
 use Rattle.pg_streams.proofs.Asking.{lacks, handed-on}
 use Rattle.pg_streams.proofs.query_raw.QueryRawStateOpens.poll.Goals as goal
 
