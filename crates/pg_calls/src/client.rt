@@ -92,8 +92,8 @@ impl Client {
         SimpleQueryState::new(query, None)
     }
 
-    /// Like `simple_query`, where its reply is handed on as a stream, in the first poll. Encode and Closed come in that poll, the
-    /// other errors from the stream.
+    /// Like `simple_query`, where its reply is handed on as a stream, in the first poll. Encode comes in that poll, and Closed
+    /// where the desk takes no requests any more; all errors but Encode come from the stream too.
     pub fn simple_query_raw<'a>(&self, query: &'a str) -> SimpleQueryRawState<'a>
         ensures live { ⟦<SimpleQueryRawState<'a> as Opens>⟧.is_live result }
         ensures asks { (⟦<SimpleQueryRawState<'a> as Opens>⟧.place result).dialogue ≡ simple_query_raw query.now }

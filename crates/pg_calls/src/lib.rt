@@ -10,6 +10,7 @@ pub use pg_execute::{HowMany, Target};
 pub use pg_executed::{CloseState, ExecuteState, QueryScalarState, QueryState};
 pub use pg_open::{CancelToken, SessionInfo};
 pub use pg_prepared::PrepareState;
+pub use pg_query::Polled;
 pub use pg_streams::{
-    QueryRawState, RowStream, SimpleQueryMessage, SimpleQueryRawState, SimpleQueryStream,
+    Opens, QueryRawState, RowStream, SimpleQueryMessage, SimpleQueryRawState, SimpleQueryStream,
 };

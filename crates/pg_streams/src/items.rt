@@ -157,7 +157,10 @@ impl<G: Giving> Items<G> {
     }
 
     /// The next item. Pending comes exactly where none came yet; None at the end of the reply, and from then on. An error is
-    /// given once, and None from then on; the request was hung up. Behind the end and an error the statement is closed.
+    /// given once, and None from then on. Behind an error that a message tells the request was hung up, and behind that and
+    /// the end the statement is closed. Closed comes where the desk gives no more of the reply: nothing is closed then. At
+    /// OutOfMemory nothing more is done, and nobody reads or hangs up what is left of the reply: the connection is to be
+    /// given up.
     pub fn poll_next<D: Desk>(
         &mut self,
         alloc: Global,

@@ -30,7 +30,9 @@ impl SimpleQueryStream {
     }
 
     /// The next part. Pending comes exactly where no message is there that tells one; None at the end of the reply, and from
-    /// then on. An error is given once, and None from then on; the request was hung up. The errors are those of a simple query.
+    /// then on. An error is given once, and None from then on. The errors are those of a simple query: behind one that a
+    /// message tells the request was hung up; Closed comes where the desk gives no more of the reply. At OutOfMemory nobody
+    /// reads or hangs up what is left of the reply: the connection is to be given up.
     pub fn poll_next<D: Desk>(
         &mut self,
         alloc: Global,
