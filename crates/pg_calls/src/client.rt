@@ -68,10 +68,7 @@ impl Client {
     pub fn clear_type_cache<D: Desk>(&self, desk: &mut D) -> Result<(), Error>
         ensures { Clears D.becomes desk.old desk.new result }
     {
-        match desk.clear_type_cache() {
-            Ok(()) => Ok(()),
-            Err(fault) => Err(error_of(fault)),
-        }
+        desk.clear_type_cache().map_err(|fault| error_of(fault))
     }
 
     /// Whether the connection takes no request any more.

@@ -28,7 +28,8 @@ pub trait Opens {
     /// It hasn't answered.
     ghost is_live: { Self → Type 0 };
 
-    /// Goes on until it hands on the stream, or an error, or no message is there.
+    /// Goes on until it hands on the stream, or an error, or no message is there. Each state says when which error comes. Behind
+    /// one that a message tells the request was hung up; at OutOfMemory nobody reads or hangs up what is left of the reply.
     fn poll<D: Desk>(
         &mut self,
         alloc: Global,

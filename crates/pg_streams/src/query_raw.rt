@@ -91,7 +91,9 @@ pub struct QueryRawState<'a> {
 impl<'a> QueryRawState<'a> {
     /// Makes the state that executes this statement with these values. It takes no memory, and books nothing before its first
     /// poll. Refused values book nothing: Parameters comes where they aren't as many as the parameters, then ToSql at the first
-    /// that can't stand as its parameter, then Encode where the frames can't be written.
+    /// that can't stand as its parameter, then Encode where the frames can't be written. Behind that Db comes at an error of the
+    /// server, Parse at a message that can't be read, UnexpectedMessage at one out of place, Closed where the desk takes no
+    /// requests any more, or gives no more of the reply.
     pub fn new(statement: &'a Statement, values: &'a [Value]) -> QueryRawState<'a>
         ensures live { ⟦<QueryRawState<'a> as opens::Opens>⟧.is_live result }
         ensures asks { (⟦<QueryRawState<'a> as opens::Opens>⟧.place result).dialogue ≡ query_raw statement.now values.now }

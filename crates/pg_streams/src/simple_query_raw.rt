@@ -37,7 +37,8 @@ pub struct SimpleQueryRawState<'a> {
 
 impl<'a> SimpleQueryRawState<'a> {
     /// Makes the state of a simple query of this text. It takes no memory, and books nothing before its first poll. Encode is
-    /// the answer exactly where the text holds a zero byte or is too long for its frame; nothing is booked then.
+    /// the answer exactly where the text holds a zero byte or is too long for its frame; nothing is booked then. Closed comes
+    /// where the desk takes no requests any more.
     pub fn new(text: &'a str) -> SimpleQueryRawState<'a>
         ensures live { ⟦<SimpleQueryRawState<'a> as Opens>⟧.is_live result }
         ensures asks { (⟦<SimpleQueryRawState<'a> as Opens>⟧.place result).dialogue ≡ simple_query_raw text.now }

@@ -48,7 +48,8 @@ impl SimpleQueryStream {
         self.items.poll_next(alloc, desk, stamp)
     }
 
-    /// Gives it up: the request is hung up. Behind the end and an error nothing is left to do.
+    /// Gives it up: the request is hung up, and the error of a desk that refuses that is the answer. Behind the end and an error
+    /// nothing is left to do.
     pub fn hang_up<D: Desk>(self, alloc: Global, desk: &mut D, stamp: Stamp) -> Result<(), Error>
         ensures gives_up { parts_over self ≡ false → GoesToAnswer D.becomes stamp desk.old (given_up self.items) desk.new result }
         ensures nothing { parts_over self ≡ true → (result ≡ Ok tt) × (desk.new ≡ desk.old) }
