@@ -17,7 +17,7 @@ use bytes::Bytes;
 use futures::task::Poll;
 use pg_desk::{Desk, DeskFault, Put, Stamp, Take};
 use pg_errors::Error;
-use pg_wire::BackendMessages;
+use pg_wire::{BackendMessages, Message, WireFault};
 use std::alloc::Global;
 
 /// A script, the request that it reads, and the messages of it that came and aren't read yet.
@@ -26,6 +26,23 @@ pub struct Running<S: Script> {
     pub(crate) script: S,
     pub(crate) id: u64,
     pub(crate) batch: BackendMessages,
+}
+
+/// Drops a message. Those that come most often are told apart here, so that no room is made for the others.
+fn let_go(told: Result<Message, WireFault>) {
+    match told {
+        Ok(Message::DataRow(_)) => {}
+        Ok(Message::CommandComplete(_)) => {}
+        Ok(Message::RowDescription(_)) => {}
+        Ok(Message::ReadyForQuery(_)) => {}
+        Ok(other) => let_go_other(other),
+        Err(_) => {}
+    }
+}
+
+#[inline(never)]
+fn let_go_other(message: Message) {
+    let _message = message;
 }
 
 impl<S: Script> Running<S> {
@@ -66,7 +83,12 @@ impl<S: Script> Running<S> {
     {
         match self.batch.next() {
             Ok(None) => Ok(None),
-            Ok(Some(message)) => Ok(Some(self.script.message(alloc, &Ok(message))?)),
+            Ok(Some(message)) => {
+                let told = Ok(message);
+                let want = self.script.message(alloc, &told);
+                let_go(told);
+                Ok(Some(want?))
+            }
             Err(fault) => {
                 if is_want_of_memory(fault) {
                     return Err(Error::OutOfMemory);
@@ -355,6 +377,26 @@ impl<S: Script> Running<S> {
         }
     }
 
+    /// The same, where a batch may have been used up before.
+    fn read_on<D: Desk>(
+        &mut self,
+        alloc: Global,
+        desk: &mut D,
+        stamp: Stamp,
+    ) -> Option<Stop<S::Output>>
+        requires { ReadsAt S.dialogue S.waits self.old.script }
+        ensures goes { MatchOption result
+            (Reads D.becomes S.dialogue S.waits stamp desk.old (meaning S.dialogue self.old) desk.new self.new)
+            (λ stop. Stops D.becomes S.dialogue stamp desk.old (meaning S.dialogue self.old) desk.new self.new stop) }
+        ensures empty { IfNone result (self.new.batch ≡ []) }
+        ensures count { D.undelivered desk.new ≤ D.undelivered desk.old }
+    {
+        if self.batch.is_empty() {
+            return None;
+        }
+        self.read(alloc, desk, stamp)
+    }
+
     /// These messages are read next.
     fn refill(&mut self, batch: BackendMessages)
         ensures { self.new ≡ record self.old { batch = batch } }
@@ -386,7 +428,7 @@ impl<S: Script> Running<S> {
             (Waits D.becomes S.dialogue S.waits stamp desk.old (meaning S.dialogue self.old) desk.new self.new) }
     {
         loop {
-            if let Some(stop) = self.read(alloc, desk, stamp) {
+            if let Some(stop) = self.read_on(alloc, desk, stamp) {
                 return Poll::Ready(stop);
             }
             match desk.take(self.id) {
