@@ -75,7 +75,9 @@ impl Replies {
             return None;
         }
         let first = take_first(&mut self.live[place - let_go]);
-        self.lets_go();
+        if first.is_some() {
+            self.lets_go();
+        }
         first
     }
 

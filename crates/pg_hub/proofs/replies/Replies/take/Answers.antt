@@ -15,8 +15,8 @@ pub returns-then-place-let_go-clause-rest : goal.returns-then-place-let_go-claus
 returns-then-place-let_go-clause-rest c =
     stays-let-go c.args.self.now c.self.inside.let_go.items c.self.inside.live.items c.self.inside.finished c.args.place c.self.view_is (grind (arith, common_steps))
 
-pub returns-clause-rest : goal.returns-clause-rest
-returns-clause-rest c =
+pub returns-then-is_some-clause-rest : goal.returns-then-is_some-clause-rest
+returns-then-is_some-clause-rest c =
     let over : List Bool = c.self.inside.let_go.items in
     let live : List Mailbox = c.self.inside.live.items in
     let i : ℕ = c.args.place - c.len-let_go.result in
