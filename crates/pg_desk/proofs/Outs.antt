@@ -3,8 +3,8 @@ use Rattle.std.proofs.Common.{◌≡◌, ◌<◌, ◌≤◌, ℕ, zero, suc, ◌
 use Rattle.pg_desk.specs.declared.event.Booking.{Booking}
 use Rattle.pg_desk.specs.declared.event.Out.{Out}
 use Rattle.pg_desk.specs.declared.event.Out.TheVariants as out
-use Rattle.pg_desk.specs.History.{wire, extended, waits_of, started, first_flag, rest_flags, is_copying, first_part, next_part}
-use Rattle.pg_desk.specs.Order.{GoesInOrder, AllParts}
+use Rattle.pg_desk.specs.History.{GoesInOrder, wire, extended, waits_of, started, first_flag, rest_flags, is_copying, first_part, next_part}
+use Rattle.pg_desk.specs.Order.{AllParts}
 use Rattle.pg_desk.proofs.Parts.{left-of, past-drop, started-zero}
 
 -- none of these requests is a copy that isn't ended

@@ -7,8 +7,8 @@ use Rattle.std.proofs.Math.Seq.{take-append-add, drop-append-add}
 use Rattle.pg_desk.specs.declared.event.Booking.{Booking}
 use Rattle.pg_desk.specs.declared.event.Out.{Out}
 use Rattle.pg_desk.specs.declared.event.Out.TheVariants as out
-use Rattle.pg_desk.specs.History.{wire, waits_of, started, first_flag, rest_flags, is_copying, extended, first_part, next_part}
-use Rattle.pg_desk.specs.Order.{AllParts, FewWait, GoesInOrder}
+use Rattle.pg_desk.specs.History.{GoesInOrder, wire, waits_of, started, first_flag, rest_flags, is_copying, extended, first_part, next_part}
+use Rattle.pg_desk.specs.Order.{AllParts, FewWait}
 
 pub past-take : {A : Type 0} (xs ys : List A) (n : ℕ) → length xs ≤ n → take n (xs ++ ys) ≡ xs ++ take (n - length xs) ys
 past-take xs ys n h = let e : n ≡ length xs + (n - length xs) = omega arith in ap (λ (m : ℕ). take m (xs ++ ys)) e ∙ take-append-add xs ys (n - length xs)

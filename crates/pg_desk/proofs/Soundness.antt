@@ -9,6 +9,7 @@ use Rattle.pg_spec.specs.Batches.{is_batch}
 use Rattle.pg_spec.specs.declared.stamps.Stamp.{Stamp}
 use Rattle.pg_desk.specs.declared.event.Booking.{Booking}
 use Rattle.pg_desk.specs.declared.event.Take.TheVariants as taking
+use Rattle.pg_desk.specs.declared.event.Put.{Put}
 use Rattle.pg_desk.specs.declared.event.Put.TheVariants as putting
 use Rattle.pg_desk.specs.declared.event.Out.TheVariants as out
 use Rattle.pg_desk.specs.declared.event.Deliver.TheVariants as delivering
@@ -17,11 +18,11 @@ use Rattle.pg_desk.specs.declared.event.Event.TheVariants.{Book, Put as PutEvent
 use Rattle.pg_desk.proofs.Pieces.{open-first, open-later, last-first, last-later, reply-none}
 use Rattle.pg_desk.proofs.Owners.{given-own, given-other, finished-more, owners-more, given-between, ended-counted, open-less, owner-counted}
 use Rattle.pg_desk.specs.Kept.{after-joined, legal-later}
-use Rattle.pg_desk.specs.Order.{OneAfterAnother, AllParts, FewWait, GoesInOrder, InOrder}
+use Rattle.pg_desk.specs.Order.{OneAfterAnother, AllParts, FewWait, InOrder}
 use Rattle.pg_desk.proofs.Parts.{extended-length, wire-more, all-more, all-extended, order-more, order-extended, order-cleared, few-more, few-extended, few-ended, few-waits, few-up, take-extended, started-more, started-extended, started-up, GoesOut, goes-out}
 use Rattle.std.specs.Prelude.{unwrap_or}
 use Rattle.std.proofs.lemmas.List.{length_push, length-set, take-append-drop}
-use Rattle.pg_desk.specs.History.{Change, Booked, Added, Ended, Took, LetGo, DrewStatement, DrewPortal, Catalogued, WentOut, Came, ClosedAll, FailedAll, Nothing, change_of, changed, Admits, State, Delivery, Taken, start, wire, is_copying, is_running, extended, parts_waiting, started_of, finished, given, between_ends, has_ended, may_let_go, is_open, first_from, oldest_open, has_open, next_owner, IsOldestOpen, BelongsToOldest, taken, waiting, is_in, is_hung_up, after, after_all, take_of_waiting, take_answer, last_out, out_answer, Allows, IsLegal, received, reply, joined, IsFrontOf, IsSound}
+use Rattle.pg_desk.specs.History.{Change, Booked, Added, Ended, Took, LetGo, DrewStatement, DrewPortal, Catalogued, WentOut, Came, ClosedAll, FailedAll, Nothing, change_of, changed, Admits, GoesInOrder, State, Delivery, Taken, start, wire, is_copying, is_running, extended, parts_waiting, started, started_of, finished, given, between_ends, has_ended, may_let_go, is_open, first_from, oldest_open, has_open, next_owner, IsOldestOpen, BelongsToOldest, taken, waiting, is_in, is_hung_up, after, after_all, take_of_waiting, take_answer, last_out, out_answer, Allows, IsLegal, received, reply, joined, IsFrontOf, IsSound}
 
 pub taken-own : (k : ℕ) (ts : List Taken) (t : Taken) → t.id ≡ k → taken k (ts ++ t ∷ []) ≡ taken k ts ++ t.messages ∷ []
 taken-own k [] t e = grind (arith, nat_tests)
@@ -410,6 +411,7 @@ legal-sound n m es l =
       at_most_two = λ k open_. let b = h.at_most_two k open_ in
           rw (length-drop (length (taken k (after_all (start n m) es).takes)) (given k ds)) (omega arith);
       out_is_front = h.out_is_front;
+      none_behind = h.order.out;
       few_parts_wait = λ k. let s = after_all (start n m) es in few-waits (length s.gone_out) k s.book s.copying h.few;
     }
 
@@ -470,6 +472,57 @@ legal-owner n m es batch complete l =
     let e : Event = DeliverEvent batch complete delivering.Taken in
     subst (BelongsToOldest s batch) (sym (after-joined (start n m) es (e ∷ [])))
     (record { owner = next_owner s; is_oldest = owner-is-oldest s (legal-later (start n m) es (e ∷ []) l).0.1; given_is = given-more s batch complete })
+
+-- to which request the next batch belongs, by how many are booked and have begun, and what came
+abbrev owner_by : (booked begun : ℕ) → List Delivery → ℕ
+owner_by booked begun ds = unwrap_or (first_from (λ k. nat_lt k begun && not (has_ended k ds)) 0 booked) booked
+
+-- the same where a copy gets a part more
+owner-put : (s : State) (id : ℕ) (part : List ℕ) → InOrder s → is_running s id ≡ true → next_owner (changed s (Added id part)) ≡ next_owner s
+owner-put s id part h runs =
+    let begun : ℕ = started (length s.gone_out) (extended id part s.book) in
+    let same : begun ≡ started_of s = started-extended (length s.gone_out) id part s.book s.copying h.out (running-copies s id runs) in
+    let more : owner_by (length (extended id part s.book)) begun s.deliveries ≡ owner_by (length s.book) begun s.deliveries =
+    ap (λ (n : ℕ). owner_by n begun s.deliveries) (extended-length id part s.book) in
+    let as_before : owner_by (length s.book) begun s.deliveries ≡ owner_by (length s.book) (started_of s) s.deliveries =
+    ap (λ (n : ℕ). owner_by (length s.book) n s.deliveries) same in
+    more ∙ as_before
+
+-- the first part of a legal list
+legal-front : (s : State) (es fs : List Event) → IsLegal s (es ++ fs) → IsLegal s es
+legal-front s [] fs l = tt
+legal-front s (e ∷ es) fs l = (l.0, legal-front (after s e) es fs l.1)
+
+-- putting a part, and ending a copy, leaves the request that the next batch belongs to
+pub legal-put : (n m : ℕ) (es : List Event) (id : ℕ) (part : List ℕ) (answer : Put) → IsLegal (start n m) (es ++ PutEvent id part answer ∷ []) →
+    next_owner (after_all (start n m) (es ++ PutEvent id part answer ∷ [])) ≡ next_owner (after_all (start n m) es)
+legal-put n m es id part answer l =
+    ap next_owner (after-joined (start n m) es (PutEvent id part answer ∷ []))
+    ∙ by answer (legal-later (start n m) es (PutEvent id part answer ∷ []) l).0
+  where
+    s : State
+    s = after_all (start n m) es
+
+    by : (a : Put) → Allows s (PutEvent id part a) → next_owner (after s (PutEvent id part a)) ≡ next_owner s
+    by putting.Took a = owner-put s id part (legal-kept n m es (legal-front (start n m) es (PutEvent id part answer ∷ []) l)).order a.1
+    by (putting.Full back) a = refl
+    by (putting.Gone back) a = refl
+    by (putting.OutOfMemory back) a = refl
+
+pub legal-end : (n m : ℕ) (es : List Event) (id : ℕ) (part : List ℕ) (answer : Put) → IsLegal (start n m) (es ++ EndCopy id part answer ∷ []) →
+    next_owner (after_all (start n m) (es ++ EndCopy id part answer ∷ [])) ≡ next_owner (after_all (start n m) es)
+legal-end n m es id part answer l =
+    ap next_owner (after-joined (start n m) es (EndCopy id part answer ∷ []))
+    ∙ by answer (legal-later (start n m) es (EndCopy id part answer ∷ []) l).0
+  where
+    s : State
+    s = after_all (start n m) es
+
+    by : (a : Put) → Allows s (EndCopy id part a) → next_owner (after s (EndCopy id part a)) ≡ next_owner s
+    by putting.Took a = owner-put s id part (legal-kept n m es (legal-front (start n m) es (EndCopy id part answer ∷ []) l)).order a.1
+    by (putting.Full back) a = absurd a
+    by (putting.Gone back) a = refl
+    by (putting.OutOfMemory back) a = refl
 
 -- hanging up changes what no request was given, and to whom the next batch belongs
 pub hang-up-given : (s : State) (id k : ℕ) → given k (after s (HangUp id (Ok tt))).deliveries ≡ given k s.deliveries

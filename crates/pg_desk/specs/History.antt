@@ -392,6 +392,11 @@ IsFrontOf {A} xs ys = (rest : List A) × (xs ++ rest ≡ ys)
 abbrev pub reply : ℕ → List RawMessage → List RawMessage
 reply k ms = unwrap_or (slice_get (groups ms) k) []
 
+-- nothing behind a copy that isn't ended went out, where n parts went out
+abbrev pub GoesInOrder : ℕ → List Booking → List Bool → Type 0
+GoesInOrder n [] cs = n ≡ 0
+GoesInOrder n (b ∷ bs) cs = (first_flag cs ≡ true → n ≤ length b.parts) × GoesInOrder (n - length b.parts) bs (rest_flags cs)
+
 -- this request is open, and no older one is
 pub record IsOldestOpen (s : State) (k : ℕ) : Type 0 where
   pub booked : k < length s.book
@@ -414,6 +419,7 @@ pub record IsSound (s : State) : Type 0 where
   pub at_most_two : (k : ℕ) → is_hung_up s k ≡ false → length (waiting s k) ≤ 2
   -- so the parts of a request go out together
   pub out_is_front : IsFrontOf s.gone_out (wire s.book)
+  pub none_behind : GoesInOrder (length s.gone_out) s.book s.copying
   -- two parts of a copy, and the closing one behind them where it is ended
   pub few_parts_wait : (k : ℕ) → parts_waiting s k ≤ (if is_copying k s.copying then 2 else 3)
 

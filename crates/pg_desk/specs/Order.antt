@@ -1,17 +1,12 @@
 -- In which order requests go out and batches come.
-use Rattle.std.specs.Prelude.{◌≡◌, ◌≤◌, ◌<◌, ℕ, suc, ◌+◌, ◌-◌, List, [], ◌∷◌, length, Bool, true, if◌then◌else◌}
+use Rattle.std.specs.Prelude.{◌≡◌, ◌≤◌, ◌<◌, ℕ, suc, ◌+◌, ◌-◌, List, [], ◌∷◌, length, Bool, if◌then◌else◌}
 use Rattle.pg_desk.specs.declared.event.Booking.{Booking}
-use Rattle.pg_desk.specs.History.{State, Delivery, finished, first_flag, rest_flags, started_of}
+use Rattle.pg_desk.specs.History.{State, Delivery, GoesInOrder, finished, first_flag, rest_flags, started_of}
 
 -- the batches belong to requests one after another: to request k until one ends its reply, then to the next
 abbrev pub OneAfterAnother : ℕ → List Delivery → Type 0
 OneAfterAnother k [] = Unit {0}
 OneAfterAnother k (d ∷ ds) = (d.owner ≡ k) × OneAfterAnother (if d.complete then suc k else k) ds
-
--- nothing behind a copy that isn't ended went out, where n parts went out
-abbrev pub GoesInOrder : ℕ → List Booking → List Bool → Type 0
-GoesInOrder n [] cs = n ≡ 0
-GoesInOrder n (b ∷ bs) cs = (first_flag cs ≡ true → n ≤ length b.parts) × GoesInOrder (n - length b.parts) bs (rest_flags cs)
 
 -- at most two parts of a copy wait, and of one that was ended a closing part behind them
 abbrev pub FewWait : ℕ → List Booking → List Bool → Type 0

@@ -5,8 +5,8 @@ use Rattle.std.proofs.lemmas.Bool.Decides.{leb_tells}
 use Rattle.pg_desk.specs.declared.event.Booking.{Booking}
 use Rattle.pg_desk.specs.declared.event.Out.{Out}
 use Rattle.pg_desk.specs.declared.event.Out.TheVariants as out
-use Rattle.pg_desk.specs.History.{started, waits_of, first_flag, rest_flags, is_copying, extended, first_part, next_part}
-use Rattle.pg_desk.specs.Order.{GoesInOrder, AllParts}
+use Rattle.pg_desk.specs.History.{GoesInOrder, started, waits_of, first_flag, rest_flags, is_copying, extended, first_part, next_part}
+use Rattle.pg_desk.specs.Order.{AllParts}
 use Rattle.pg_desk.proofs.Parts.{left-of, started-zero}
 use Rattle.pg_hub.specs.Rests.{Rest, rest_at, rests, is_whole, whole_of}
 use Rattle.pg_hub.proofs.Mailing.{drop-one-more}

@@ -12,10 +12,10 @@ use Rattle.pg_desk.specs.declared.event.Out.TheVariants as out
 use Rattle.pg_desk.specs.declared.event.Deliver.TheVariants as delivering
 use Rattle.pg_desk.specs.declared.event.Event.TheVariants as call
 use Rattle.pg_spec.specs.Batches.{is_batch}
-use Rattle.pg_desk.specs.History.{State, Delivery, Taken, started, started_of, is_copying, is_running, parts_waiting, extended, first_part, last_out, finished, has_ended, may_let_go, has_open, next_owner, out_answer, waiting, given, taken, is_in, is_hung_up, take_answer, take_of_waiting, after, Allows}
+use Rattle.pg_desk.specs.History.{GoesInOrder, State, Delivery, Taken, started, started_of, is_copying, is_running, parts_waiting, extended, first_part, last_out, finished, has_ended, may_let_go, has_open, next_owner, out_answer, waiting, given, taken, is_in, is_hung_up, take_answer, take_of_waiting, after, Allows}
 use Rattle.pg_desk.proofs.Owners.{given-own, given-other, finished-more, less-open, ended-counted, open-counted, owner-counted}
 use Rattle.pg_desk.proofs.Soundness.{taken-own, taken-other, order-same, order-book, order-put, order-end, order-out, order-deliver, running-copies, let-go-none}
-use Rattle.pg_desk.specs.Order.{AllParts, GoesInOrder, InOrder}
+use Rattle.pg_desk.specs.Order.{AllParts, InOrder}
 use Rattle.pg_desk.proofs.Parts.{extended-length, started-low, started-more, started-extended}
 use Rattle.pg_hub.specs.declared.mailbox.Mailbox.{Mailbox}
 use Rattle.pg_hub.specs.declared.mailbox.Mailbox.TheVariants.{Empty, HungUp}
