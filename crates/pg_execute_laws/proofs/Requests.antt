@@ -69,7 +69,7 @@ closing : (one : List ℕ) → IsOne (byte "C") one → IsWholeRequest (one ++ s
 closing one a =
     let m : RawMessage = record { tag = byte "C"; body = a.body } in
     let s : RawMessage = record { tag = byte "S"; body = [] } in
-    whole-of (m ∷ s ∷ []) (one ++ sync_frame) (a.fits, (sync-fits, tt)) (refl, refl, refl)
+    whole-of (m ∷ s ∷ []) (one ++ sync_frame) (a.fits, (sync-fits, tt)) (refl, refl, refl, refl)
     (ap (λ (x : List ℕ). x ++ sync_frame) a.is ∙ ap (λ (x : List ℕ). message_bytes m ++ x) (sym (append-nil (message_bytes s))))
 
 closed : (o : Result (List ℕ) FrameFault) (part : List ℕ) → ((one : List ℕ) → o ≡ Ok one → IsOne (byte "C") one) → (o >>= λ close. Ok (close ++ sync_frame)) ≡ Ok part → IsWholeRequest part

@@ -87,7 +87,7 @@ pub whole-prepare : (name text : List ℕ) (oids : List ℕ) (part : List ℕ) �
 whole-prepare name text oids part e =
     both-whole (byte "P") (byte "D") (parse_frame name text oids) (describe_frame (byte "S") name) part
     (λ one is. one-tagged (byte "P") (name ∷ text ∷ []) (length oids ∷ []) (text0 name ++ text0 text ++ to_be_bytes w16 (length oids) ++ flat_map (to_be_bytes w32) oids) one is)
-    (λ two is. one-tagged (byte "D") (name ∷ []) [] (byte "S" ∷ text0 name) two is) (λ body next. (refl, refl, (refl, refl, refl))) e
+    (λ two is. one-tagged (byte "D") (name ∷ []) [] (byte "S" ∷ text0 name) two is) (λ body next. (refl, refl, refl, (refl, refl, refl, refl))) e
 
 -- Bind, Execute, Sync
 pub whole-execute : (portal name : List ℕ) (formats : List ℤ) (values : List (Option (List ℕ))) (format rows : ℤ) (part : List ℕ) → both (bind_frame portal name formats values format) (execute_frame portal rows) ≡ Ok part →
@@ -98,4 +98,4 @@ whole-execute portal name formats values format rows part e =
     one-tagged (byte "B") (portal ∷ name ∷ []) (length formats ∷ length values ∷ [])
     (text0 portal ++ text0 name ++ to_be_bytes w16 (length formats) ++ flat_map (λ format. to_be_bytes w16 (cast_unsigned w16 format)) formats
     ++ to_be_bytes w16 (length values) ++ flat_map value_bytes values ++ to_be_bytes w16 1 ++ to_be_bytes w16 (cast_unsigned w16 format)) one is)
-    (λ two is. one-tagged (byte "E") (portal ∷ []) [] (text0 portal ++ to_be_bytes w32 (cast_unsigned w32 rows)) two is) (λ body next. (refl, refl, (refl, refl, refl))) e
+    (λ two is. one-tagged (byte "E") (portal ∷ []) [] (text0 portal ++ to_be_bytes w32 (cast_unsigned w32 rows)) two is) (λ body next. (refl, refl, refl, (refl, refl, refl, refl))) e

@@ -1,5 +1,6 @@
 -- What the commands of scripts say: their dialogues, and what is kept of their answers.
-use Rattle.std.specs.Prelude.{◌≡◌, ℕ, false, true, IsTrue, IsFalse, List, [], ◌∷◌, Result}
+use Rattle.std.specs.Prelude.{◌≡◌, ℕ, Bool, false, true, IsTrue, IsFalse, ◌==◌, List, [], ◌∷◌, Result}
+use Rattle.std.specs.Str.{byte}
 use Rattle.pg_faults.specs.declared.error.Error.{Error}
 use Rattle.pg_spec.specs.RawMessages.{RawMessage, bytes_left, messages}
 use Rattle.pg_spec.specs.Sent.{ends_unit, gives_turn, is_terminate}
@@ -34,12 +35,23 @@ meaning_of speech = record {
 abbrev pub AreCommands : {C T A E : Type 0} → Speech C T A E → Type 0
 AreCommands {C} {T} {A} {E} speech = (own : E) (c : C) → IsCommand (speech.says own c)
 
--- Of these frames the last is a Query or Sync, and no other gives the server the turn or is Terminate (PostgreSQL documentation,
--- "Message Flow": "Simple Query", "Extended Query").
+-- FunctionCall, which has a ReadyForQuery of its own (PostgreSQL documentation, "Message Flow": "Function Call")
+abbrev pub calls_function : RawMessage → Bool
+calls_function frame = frame.tag == byte "F"
+
+-- Of these frames the last is Sync, and no other gives the server the turn, is Terminate or FunctionCall. A server that refuses one of
+-- them skips up to that Sync, and answers it by one ReadyForQuery, where none of them opens a copy from the client (PostgreSQL
+-- documentation, "Message Flow": "Extended Query").
+abbrev pub EndsInSync : List RawMessage → Type 0
+EndsInSync [] = ⊥
+EndsInSync (frame ∷ []) = IsTrue (frame.tag == byte "S")
+EndsInSync (frame ∷ next ∷ frames) = IsFalse (gives_turn frame) × IsFalse (is_terminate frame) × IsFalse (calls_function frame) × EndsInSync (next ∷ frames)
+
+-- Query or Sync alone, or frames that end in Sync (PostgreSQL documentation, "Message Flow": "Simple Query", "Extended Query")
 abbrev pub EndsAlone : List RawMessage → Type 0
 EndsAlone [] = ⊥
 EndsAlone (frame ∷ []) = IsTrue (ends_unit frame)
-EndsAlone (frame ∷ next ∷ frames) = IsFalse (gives_turn frame) × IsFalse (is_terminate frame) × EndsAlone (next ∷ frames)
+EndsAlone (frame ∷ next ∷ frames) = EndsInSync (frame ∷ next ∷ frames)
 
 -- a request that is booked whole
 pub record IsWholeRequest (part : List ℕ) : Type 0 where

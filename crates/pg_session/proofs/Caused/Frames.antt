@@ -18,7 +18,7 @@ use Rattle.pg_spec.proofs.SentLaws.{after_startup_frame-front}
 use Rattle.pg_desk.specs.History.{joined}
 use Rattle.pg_login.specs.Steps.{frame_of}
 use Rattle.pg_session.proofs.Crossing.Groups.{both-true}
-use Rattle.pg_turns.specs.Speeches.{EndsAlone, IsWholeRequest}
+use Rattle.pg_turns.specs.Speeches.{EndsAlone, EndsInSync, IsWholeRequest}
 
 -- ---- frames that were written
 
@@ -102,6 +102,16 @@ quiet-kept m e =
     let a = neither (is_password m || ends_unit m) (m.tag == byte "H") e in
     neither (is_password m) (ends_unit m) a.0
 
+or-true : (b : Bool) → (b || true) ≡ true
+or-true true = refl
+or-true false = refl
+
+-- frames that end in Sync end alone
+pub synced-alone : (g : List RawMessage) → EndsInSync g → EndsAlone g
+synced-alone [] e = absurd e
+synced-alone (m ∷ []) e = ap (λ (b : Bool). m.tag == byte "Q" || b) e ∙ or-true (m.tag == byte "Q")
+synced-alone (m ∷ n ∷ g) e = e
+
 -- a request is one piece
 pub unit-cut : (g rest : List RawMessage) → EndsAlone g → cut_after ends_unit (filter is_kept (g ++ rest)) ≡ g ∷ cut_after ends_unit (filter is_kept rest)
 unit-cut [] rest e = absurd e
@@ -113,7 +123,7 @@ unit-cut (m ∷ n ∷ g) rest e =
     let others : List RawMessage = filter is_kept ((n ∷ g) ++ rest) in
     ap (λ (b : Bool). cut_after ends_unit (cond (not b) (m ∷ others) others)) quiet.0
     ∙ ap (λ (b : Bool). if b then (m ∷ []) ∷ cut_after ends_unit others else onto_first m (cut_after ends_unit others)) quiet.1
-    ∙ ap (onto_first m) (unit-cut (n ∷ g) rest e.2)
+    ∙ ap (onto_first m) (unit-cut (n ∷ g) rest (synced-alone (n ∷ g) e.3))
 
 pub units-cut : (gs : List (List RawMessage)) → AllEndAlone gs → cut_after ends_unit (filter is_kept (joined gs)) ≡ gs
 units-cut [] h = refl
@@ -122,7 +132,7 @@ units-cut (g ∷ gs) h = unit-cut g (joined gs) h.0 ∙ ap (λ (l : List (List R
 pub ends-alone : (g : List RawMessage) → EndsAlone g → ends_in ends_unit g ≡ true
 ends-alone [] e = absurd e
 ends-alone (m ∷ []) e = e
-ends-alone (m ∷ n ∷ g) e = ends-alone (n ∷ g) e.2
+ends-alone (m ∷ n ∷ g) e = ends-alone (n ∷ g) (synced-alone (n ∷ g) e.3)
 
 -- behind the frames of requests the pieces are as many as these
 pub units-of : (parts : List (List ℕ)) → AreRequests parts → cut_after ends_unit (filter is_kept (messages (joined parts))) ≡ map messages parts
@@ -155,7 +165,7 @@ goes_on frame = not (is_terminate frame)
 alone-goes : (g : List RawMessage) → EndsAlone g → list_all goes_on g ≡ true
 alone-goes [] e = absurd e
 alone-goes (m ∷ []) e = ap (λ (b : Bool). not b && true) (end-stays m e)
-alone-goes (m ∷ n ∷ g) e = ap (λ (b : Bool). not b && list_all goes_on (n ∷ g)) e.1 ∙ alone-goes (n ∷ g) e.2
+alone-goes (m ∷ n ∷ g) e = ap (λ (b : Bool). not b && list_all goes_on (n ∷ g)) e.1 ∙ alone-goes (n ∷ g) (synced-alone (n ∷ g) e.3)
 
 all-go : (gs : List (List RawMessage)) → AllEndAlone gs → list_all goes_on (joined gs) ≡ true
 all-go [] h = refl

@@ -13,6 +13,7 @@ use Rattle.pg_spec.specs.Sent.{is_password, ends_unit, gives_turn}
 use Rattle.pg_spec.proofs.MessageLaws.{messages-append}
 use Rattle.pg_failed.specs.Sent.{goodbye, is_ended}
 use Rattle.pg_turns.specs.Speeches.{EndsAlone}
+use Rattle.pg_session.proofs.Caused.Frames.{synced-alone}
 use Rattle.pg_session.proofs.Crossing.Groups.{both-true}
 use Rattle.pg_session.proofs.SentSoFar.Whole.{IsOneRequest}
 
@@ -38,7 +39,7 @@ and-so a b e f = ap (λ (x : Bool). x && b) e ∙ f
 fair-request : (ms : List RawMessage) → EndsAlone ms → list_all is_fair ms ≡ true
 fair-request [] e = absurd e
 fair-request (m ∷ []) e = and-so (is_fair m) true (fair-end m e) refl
-fair-request (m ∷ n ∷ ms) e = and-so (is_fair m) (list_all is_fair (n ∷ ms)) (fair-quiet m e.0) (fair-request (n ∷ ms) e.2)
+fair-request (m ∷ n ∷ ms) e = and-so (is_fair m) (list_all is_fair (n ∷ ms)) (fair-quiet m e.0) (fair-request (n ∷ ms) (synced-alone (n ∷ ms) e.3))
 
 fair-goodbye : (said : Bool) → list_all is_fair (messages (if said then terminate_frame else [])) ≡ true
 fair-goodbye true = refl
