@@ -15,7 +15,7 @@ use Rattle.pg_lookup.specs.Examples.{Came, over, int4}
 use Rattle.pg_lookup.specs.Lookups.{find_all, prepare}
 use Rattle.pg_lookup.specs.Replies.{column, data_row, described, message, ready}
 use Rattle.pg_lookup.specs.Worlds.{new_desk}
-use Rattle.pg_execute.specs.Executes.{query, query_scalar, execute, on_text}
+use Rattle.pg_execute.specs.Executes.{query, query_raw, query_scalar, execute, on_text}
 use Rattle.pg_execute.specs.Typed.{execute_typed, query_typed}
 use Rattle.pg_execute.specs.declared.how_many.HowMany.{HowMany}
 use Rattle.pg_execute.specs.declared.result_set.ResultSet.{ResultSet}
@@ -108,6 +108,14 @@ text_executed vs replies = over new_desk (on_text (prepare (codes "q") []) (λ s
 -- how the server describes it
 abbrev pub q_described : List RawMessage
 q_described = described (23 ∷ []) []
+
+-- the first rows of a statement are queried with the value 7
+abbrev pub first_of : (take : ℕ) → List RawMessage → Came ResultSet
+first_of take reply = over new_desk (query_raw take of_one (value.Int (pos 7) ∷ [])) (reply ∷ [])
+
+-- the same of the text `q`
+abbrev pub text_first : (take : ℕ) → List RawMessage → Came ResultSet
+text_first take reply = over new_desk (on_text (prepare (codes "q") []) (λ s. query_raw take s (value.Int (pos 7) ∷ []))) (q_described ∷ reply ∷ [])
 
 -- ---- a text with types of its values
 

@@ -1,5 +1,5 @@
 -- What is asked and answered where a statement is executed, and where a text is (PostgreSQL documentation, "Extended Query").
-use Rattle.std.specs.Prelude.{ℕ, List, [], ◌∷◌, ◌++◌, length, false, Option, Some, None, Result, Ok, Err}
+use Rattle.std.specs.Prelude.{ℕ, List, [], ◌∷◌, ◌++◌, length, Bool, true, false, Option, Some, None, Result, Ok, Err}
 use Rattle.std.specs.Str.{byte}
 use Rattle.pg_spec.specs.Faults.{◌>>=◌, FrameFault}
 use Rattle.pg_spec.specs.Frames.{close_frame, sync_frame}
@@ -16,10 +16,11 @@ use Rattle.pg_scripts.specs.Sequences.{then_do}
 use Rattle.pg_lookup.specs.Composing.{asks_for, or_encode}
 use Rattle.pg_execute.specs.Counts.{count_read, nothing_counted}
 use Rattle.pg_execute.specs.Parameters.{execute_request}
-use Rattle.pg_execute.specs.Rows.{nothing_got, rows_read}
+use Rattle.pg_execute.specs.Rows.{first_rows_read, nothing_got, rows_read}
 use Rattle.pg_execute.specs.Values.{column_values}
 use Rattle.pg_execute.specs.declared.got.Got.{Got}
 use Rattle.pg_execute.specs.declared.how_many.HowMany.{HowMany}
+use Rattle.pg_execute.specs.declared.how_many.HowMany.TheVariants.{Any}
 use Rattle.pg_execute.specs.declared.result_set.ResultSet.{ResultSet}
 
 -- ---- a statement
@@ -32,25 +33,34 @@ whole_rows s g = Ok (record { statement = s; rows = g.rows; affected = g.affecte
 abbrev pub scalars : Statement → Got → Result (List Value) Error
 scalars s g = column_values s.columns g.rows
 
--- A statement is executed with these values, and its reply is read so. At an error the request is hung up.
-abbrev pub executes : {A : Type 0} → (List RawMessage → Option (Result A Error)) → Statement → List Value → Dialogue A
-executes reading s vs = asks_for (execute_request s vs) (reads false reading)
+-- A statement is executed with these values, and its reply is read so. At an error the request is hung up, and at a value too where it stops
+-- there.
+abbrev pub executes : {A : Type 0} → (stops : Bool) → (List RawMessage → Option (Result A Error)) → Statement → List Value → Dialogue A
+executes stops reading s vs = asks_for (execute_request s vs) (reads stops reading)
 
 -- the reply of a statement, of which something is made of its rows, of which there may be so many
 abbrev pub queried : {A : Type 0} → HowMany → (Statement → Got → Result A Error) → Statement → List RawMessage → Option (Result A Error)
 queried how makes s = rows_read how (length s.columns) (makes s) nothing_got
 
+-- its first rows, so many of them at most
+abbrev pub first_queried : {A : Type 0} → (take : ℕ) → (Statement → Got → Result A Error) → Statement → List RawMessage → Option (Result A Error)
+first_queried take makes s = first_rows_read take Any (length s.columns) (makes s) nothing_got
+
 -- query, query_opt, query_one: rows
 abbrev pub query : HowMany → Statement → List Value → Dialogue ResultSet
-query how s vs = executes (queried how whole_rows s) s vs
+query how s vs = executes false (queried how whole_rows s) s vs
+
+-- query_raw: the first rows, so many of them at most; then the request is hung up
+abbrev pub query_raw : (take : ℕ) → Statement → List Value → Dialogue ResultSet
+query_raw take s vs = executes true (first_queried take whole_rows s) s vs
 
 -- query_scalar, query_opt_scalar, query_one_scalar: the values of one column
 abbrev pub query_scalar : HowMany → Statement → List Value → Dialogue (List Value)
-query_scalar how s vs = executes (queried how scalars s) s vs
+query_scalar how s vs = executes false (queried how scalars s) s vs
 
 -- execute: how many rows its last command affected
 abbrev pub execute : Statement → List Value → Dialogue ℕ
-execute s vs = executes (count_read nothing_counted) s vs
+execute s vs = executes false (count_read nothing_counted) s vs
 
 -- ---- a text
 

@@ -1,5 +1,5 @@
 -- The reply to a query, as rows (PostgreSQL documentation, "Extended Query"; what its messages say, `QueryReplies` of pg_lookup).
-use Rattle.std.specs.Prelude.{ℕ, List, [], ◌∷◌, ◌++◌, length, ◌==◌, nat_le, Bool, true, false, Option, Some, None, Result, Err, if◌then◌else◌}
+use Rattle.std.specs.Prelude.{ℕ, List, [], ◌∷◌, ◌++◌, length, ◌==◌, nat_le, Bool, true, false, ◌&&◌, Option, Some, None, Result, Err, if◌then◌else◌}
 use Rattle.pg_spec.specs.Faults.{RowCount}
 use Rattle.pg_spec.specs.RawMessages.{RawMessage}
 use Rattle.pg_spec.specs.Readings.{Next, GoesOn, Answers}
@@ -46,3 +46,22 @@ rows_by how makes g (Fails e) = Answers (Err e)
 -- the reply, where rows have so many columns
 abbrev pub rows_read : {A : Type 0} → HowMany → (columns : ℕ) → (Got → Result A Error) → Got → List RawMessage → Option (Result A Error)
 rows_read how columns makes = told_by (λ g raw. rows_by how makes g (said_by g.bound columns raw))
+
+-- ---- the first rows
+
+-- so many rows came; of none BindComplete did
+abbrev pub has_so_many : (take : ℕ) → Got → Bool
+has_so_many take g = g.bound && nat_le take (length g.rows)
+
+-- once so many rows came the reply is left at that: something is made of what was read
+abbrev pub up_to : {A : Type 0} → (take : ℕ) → (Got → Result A Error) → Next Got (Result A Error) → Next Got (Result A Error)
+up_to take makes (GoesOn g) = if has_so_many take g then Answers (makes g) else GoesOn g
+up_to take makes (Answers r) = Answers r
+
+-- what a message does by what it says, where the first rows are read
+abbrev pub first_rows_by : {A : Type 0} → (take : ℕ) → HowMany → (Got → Result A Error) → Got → Said → Next Got (Result A Error)
+first_rows_by take how makes g said = up_to take (at_end how makes) (rows_by how makes g said)
+
+-- the reply up to so many rows, or to its end where it has fewer
+abbrev pub first_rows_read : {A : Type 0} → (take : ℕ) → HowMany → (columns : ℕ) → (Got → Result A Error) → Got → List RawMessage → Option (Result A Error)
+first_rows_read take how columns makes = told_by (λ g raw. first_rows_by take how makes g (said_by g.bound columns raw))

@@ -1,7 +1,7 @@
 //! A statement that is executed with values.
 
 use crate::form::Form;
-use crate::request::{ask, execute_request};
+use crate::request::{execute_request, read_reply};
 use pg_query::{Reading, SingleRequest};
 use pg_scripts::Go;
 use pg_statements::Statement;
@@ -22,7 +22,7 @@ impl<'a, F: Form> Go for Executes<'a, F> {
 
     type Next = SingleRequest<F::Reading, <F::Reading as Reading>::Output>;
 
-    ghost to = { λ k s. executes (F.reads k.form s) s k.values.now };
+    ghost to = { λ k s. executes (F.stops k.form) (F.reads k.form s) s k.values.now };
 
     ghost most = { λ _. 2 };
 
@@ -32,7 +32,8 @@ impl<'a, F: Form> Go for Executes<'a, F> {
         statement: Statement,
     ) -> Result<SingleRequest<F::Reading, <F::Reading as Reading>::Output>, AllocError> {
         let request = execute_request(alloc, &statement, self.values)?;
+        let stops = self.form.stops_at_value();
         let reading = self.form.reading(alloc, statement);
-        Ok(ask(reading, request))
+        Ok(read_reply(stops, reading, request))
     }
 }

@@ -41,6 +41,20 @@ pub fn refused_values_ask_nothing()
     ensures wide_books { lookup.booked (example.asked_with (value.Int (pos 2147483648) ∷ [])) ≡ [] }
 {}
 
+/// Of the first rows so many are read: then the request is hung up, and where none is wanted behind BindComplete. Where there are fewer the
+/// reply is read to its end. A text is closed behind.
+pub fn first_rows_are_taken()
+    ensures two { (example.first_of 2 (example.bound (example.row 1 ∷ example.row 2 ∷ example.broken_row ∷ []))).outcome.answer
+        ≡ Some (Ok (example.found example.of_one ((example.int4_cell 1 ∷ []) ∷ (example.int4_cell 2 ∷ []) ∷ []) None)) }
+    ensures two_leave { (example.first_of 2 (example.bound (example.row 1 ∷ example.row 2 ∷ example.broken_row ∷ []))).outcome.left ≡ example.broken_row ∷ replied.ready }
+    ensures none { (example.first_of 0 (example.bound (example.row 1 ∷ []))).outcome.answer ≡ Some (Ok (example.found example.of_one [] None)) }
+    ensures none_leaves { (example.first_of 0 (example.bound (example.row 1 ∷ []))).outcome.left ≡ example.row 1 ∷ replied.ready }
+    ensures fewer { (example.first_of 3 (example.bound (example.row 1 ∷ example.complete (codes "SELECT 1") ∷ []))).outcome.answer
+        ≡ Some (Ok (example.found example.of_one ((example.int4_cell 1 ∷ []) ∷ []) (Some 1))) }
+    ensures early { (example.first_of 0 (example.row 1 ∷ [])).outcome.answer ≡ Some (Err UnexpectedMessage) }
+    ensures closed { lookup.booked (example.text_first 1 (example.bound (example.row 1 ∷ example.row 2 ∷ []))) ≡ example.q_as_s0 ∷ example.with_7 ∷ example.close_s0 ∷ [] }
+{}
+
 /// The values of one column are answered once all rows came: rows of two columns are ColumnCount, a value that can't be read is FromSql of
 /// its column, and without rows there are no values, whatever the columns.
 pub fn values_of_one_column()

@@ -6,6 +6,7 @@ mod closing;
 mod count_reading;
 mod either;
 mod executes;
+mod first_rows;
 mod form;
 pub mod given_values;
 mod got;
@@ -26,11 +27,12 @@ pub use closing::{Posts, PostsBefore};
 pub use count_reading::CountReading;
 pub use either::Either;
 pub use executes::Executes;
-pub use form::{Count, Form, Query};
+pub use first_rows::FirstRows;
+pub use form::{Count, First, Form, Query};
 pub use got::Got;
 pub use how_many::HowMany;
 pub use laws::{
-    executes_are_counted, refused_values_ask_nothing, rows_are_counted,
+    executes_are_counted, first_rows_are_taken, refused_values_ask_nothing, rows_are_counted,
     statements_of_texts_are_closed, typed_executes_are_counted, typed_queries_look_up_later,
     values_of_one_column,
 };

@@ -34,7 +34,7 @@ impl<'a, F: Form> OnStatement<'a, F, F::Reading, <F::Reading as Reading>::Output
         form: F,
         values: &'a [Value],
     ) -> OnStatement<'a, F, F::Reading, <F::Reading as Reading>::Output>
-        ensures dialogue { ⟦<OnStatement<'a, F, F::Reading, <F::Reading as Reading>::Output> as Script>⟧.dialogue result ≡ executes (F.reads form statement) statement values.now }
+        ensures dialogue { ⟦<OnStatement<'a, F, F::Reading, <F::Reading as Reading>::Output> as Script>⟧.dialogue result ≡ executes (F.stops form) (F.reads form statement) statement values.now }
         ensures steps { ⟦<OnStatement<'a, F, F::Reading, <F::Reading as Reading>::Output> as Script>⟧.steps result ≤ 2 }
     {
         let go = Executes { form, values };
@@ -49,7 +49,7 @@ impl<'a, F: Form> OnStatement<'a, F, F::Reading, <F::Reading as Reading>::Output
         form: F,
         values: &'a [Value],
     ) -> OnStatement<'a, F, F::Reading, <F::Reading as Reading>::Output>
-        ensures dialogue { ⟦<OnStatement<'a, F, F::Reading, <F::Reading as Reading>::Output> as Script>⟧.dialogue result ≡ executes (F.reads form statement.now) statement.now values.now }
+        ensures dialogue { ⟦<OnStatement<'a, F, F::Reading, <F::Reading as Reading>::Output> as Script>⟧.dialogue result ≡ executes (F.stops form) (F.reads form statement.now) statement.now values.now }
         ensures steps { ⟦<OnStatement<'a, F, F::Reading, <F::Reading as Reading>::Output> as Script>⟧.steps result ≤ 2 }
     {
         let go = Executes { form, values };

@@ -88,7 +88,7 @@ impl<'a, F: Finder, E: Form> OnText<
         values: &'a [Value],
     ) -> OnText<'a, F, F::Search, E, E::Reading, <E::Reading as Reading>::Output>
         ensures dialogue { ⟦<OnText<'a, F, F::Search, E, E::Reading, <E::Reading as Reading>::Output> as Script>⟧.dialogue result
-            ≡ on_text (prepares (F.finds finder) text.now []) (λ s. executes (E.reads form s) s values.now) }
+            ≡ on_text (prepares (F.finds finder) text.now []) (λ s. executes (E.stops form) (E.reads form s) s values.now) }
         ensures steps { ⟦<OnText<'a, F, F::Search, E, E::Reading, <E::Reading as Reading>::Output> as Script>⟧.steps result ≤ 6 + F.most finder }
     {
         let go = Closes {

@@ -86,8 +86,20 @@ pub fn ask<R: Reading>(reading: R, request: Result<Bytes, Error>) -> SingleReque
     ensures dialogue { dialogue_of R.reading result ≡ asks_for request (reads false (R.reading reading)) }
     ensures steps { steps_of result ≤ 2 }
 {
+    read_reply(false, reading, request)
+}
+
+/// The same, where at Ok the request is hung up too if it stops there.
+pub(crate) fn read_reply<R: Reading>(
+    stops: bool,
+    reading: R,
+    request: Result<Bytes, Error>,
+) -> SingleRequest<R, R::Output>
+    ensures dialogue { dialogue_of R.reading result ≡ asks_for request (reads stops (R.reading reading)) }
+    ensures steps { steps_of result ≤ 2 }
+{
     match request {
-        Ok(request) => SingleRequest::new(reading, request, false),
+        Ok(request) => SingleRequest::new(reading, request, stops),
         Err(error) => SingleRequest::refused(reading, error),
     }
 }

@@ -65,7 +65,8 @@ impl<M: Make> RowsReading<M> {
         }
     }
 
-    fn width(&self) -> usize
+    /// How many columns there are.
+    pub(crate) fn width(&self) -> usize
         ensures { result ≡ length self.now.statement.columns }
     {
         self.statement.columns().len()
@@ -87,7 +88,7 @@ impl<M: Make> RowsReading<M> {
     }
 
     /// What the end of the reply tells.
-    fn end(&mut self, alloc: Global) -> Result<Result<M::Output, Error>, AllocError>
+    pub(crate) fn end(&mut self, alloc: Global) -> Result<Result<M::Output, Error>, AllocError>
         ensures same { self.new ≡ record self.old { got = self.new.got } }
         ensures ends { IfOk result (λ told. told ≡ at_end self.old.how_many (M.makes self.old.make self.old.statement) self.old.got) }
     {
@@ -99,7 +100,7 @@ impl<M: Make> RowsReading<M> {
     }
 
     /// What is told by a message that says this.
-    fn tell(
+    pub(crate) fn tell(
         &mut self,
         alloc: Global,
         said: Said,

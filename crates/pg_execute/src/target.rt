@@ -35,7 +35,7 @@ pub fn on_target<'a, F: Finder, E: Form>(
     values: &'a [Value],
 ) -> OnTarget<'a, F, F::Search, E, E::Reading, <E::Reading as Reading>::Output>
     ensures dialogue { ⟦<OnTarget<'a, F, F::Search, E, E::Reading, <E::Reading as Reading>::Output> as Script>⟧.dialogue result
-        ≡ on_target (λ text. prepares (F.finds finder) text []) (λ s. executes (E.reads form s) s values.now) target.entry }
+        ≡ on_target (λ text. prepares (F.finds finder) text []) (λ s. executes (E.stops form) (E.reads form s) s values.now) target.entry }
 {
     match target {
         Target::Query(text) => Either::Right(OnText::new(text, finder, form, values)),

@@ -1,5 +1,5 @@
 -- Executions are commands that a session takes.
-use Rattle.std.proofs.Common.{◌≡◌, ℕ, List, [], length, true, false, Option, Some, None, Result, Ok, Err, refl}
+use Rattle.std.proofs.Common.{◌≡◌, ℕ, List, [], length, Bool, true, false, Option, Some, None, Result, Ok, Err, refl}
 use Rattle.std.specs.Prelude.{is_some}
 use Rattle.pg_spec.specs.RawMessages.{RawMessage, is_ready, ends_in}
 use Rattle.pg_spec.specs.Readings.{Next}
@@ -19,13 +19,14 @@ use Rattle.pg_lookup.specs.QueryReplies.{told_by}
 use Rattle.pg_lookup_laws.proofs.Commands as lookup
 use Rattle.pg_lookup_laws.proofs.Commands.{answers, behinds, preparing-text, thens}
 use Rattle.pg_execute.specs.Counts.{count_next, nothing_counted}
-use Rattle.pg_execute.specs.Executes.{close, close_part, close_request, closed_by, execute, on_text, posts, posts_before, query, query_scalar, scalars, sends, whole_rows}
+use Rattle.pg_execute.specs.Executes.{close, close_part, close_request, closed_by, execute, on_text, posts, posts_before, query, query_raw, query_scalar, scalars, sends, whole_rows}
 use Rattle.pg_execute.specs.Parameters.{execute_request}
 use Rattle.pg_execute.specs.Rows.{nothing_got}
 use Rattle.pg_execute.specs.declared.got.Got.{Got}
 use Rattle.pg_execute.specs.declared.how_many.HowMany.{HowMany}
+use Rattle.pg_execute.specs.declared.how_many.HowMany.TheVariants.{Any}
 use Rattle.pg_execute_laws.specs.Taken.{IsTaken}
-use Rattle.pg_execute_laws.proofs.Readings.{count-decides, count-free, rows_next, rows-decides, rows-free}
+use Rattle.pg_execute_laws.proofs.Readings.{count-decides, count-free, first_next, first-decides, rows_next, rows-decides, rows-free, stopped-free}
 use Rattle.pg_execute_laws.proofs.Requests.{made-ok, whole-close, whole-closing, whole-execution}
 
 -- as the laws of lookups say it
@@ -34,18 +35,19 @@ as-taken d h = record { command = h.command; lets_go = h.lets_go; whole = h.whol
 
 -- ---- one request
 
-ends-whole : {T : Type 0} (o : Option (Result T Error)) → BooksWhole (ends false o)
-ends-whole (Some (Ok x)) = tt
-ends-whole (Some (Err e)) = tt
-ends-whole None = tt
+ends-whole : {T : Type 0} (stops : Bool) (o : Option (Result T Error)) → BooksWhole (ends stops o)
+ends-whole true (Some (Ok x)) = tt
+ends-whole false (Some (Ok x)) = tt
+ends-whole stops (Some (Err e)) = tt
+ends-whole stops None = tt
 
-request : {S T : Type 0} (next : S → RawMessage → Next S (Result T Error)) (state : S) (part : Result (List ℕ) Error) → ((x : List ℕ) → part ≡ Ok x → IsWholeRequest x) →
-    ((ms : List RawMessage) → ends_in is_ready ms ≡ true → is_some (told_by next state ms) ≡ true) → LetsGo Request (reads false (told_by next state)) → lookup.IsTaken (asks_for part (reads false (told_by next state)))
-request next state (Err e) whole decides free = answers (Err e)
-request next state (Ok part) whole decides free = record {
-  command = request-so false part (told_by next state) decides;
+request : {S T : Type 0} (stops : Bool) (next : S → RawMessage → Next S (Result T Error)) (state : S) (part : Result (List ℕ) Error) → ((x : List ℕ) → part ≡ Ok x → IsWholeRequest x) →
+    ((ms : List RawMessage) → ends_in is_ready ms ≡ true → is_some (told_by next state ms) ≡ true) → LetsGo Request (reads stops (told_by next state)) → lookup.IsTaken (asks_for part (reads stops (told_by next state)))
+request stops next state (Err e) whole decides free = answers (Err e)
+request stops next state (Ok part) whole decides free = record {
+  command = request-so stops part (told_by next state) decides;
   lets_go = (tt, free);
-  whole = (whole part refl, refl, λ ms. ends-whole (told_by next state ms));
+  whole = (whole part refl, refl, λ ms. ends-whole stops (told_by next state ms));
 }
 
 -- ---- a statement
@@ -54,16 +56,21 @@ request next state (Ok part) whole decides free = record {
 querying : {A : Type 0} (how : HowMany) (makes : Got → Result A Error) (s : Statement) (vs : List Value) →
     lookup.IsTaken (asks_for (execute_request s vs) (reads false (told_by (rows_next how (length s.columns) makes) nothing_got)))
 querying how makes s vs =
-    request (rows_next how (length s.columns) makes) nothing_got (execute_request s vs) (whole-execution s vs) (rows-decides how (length s.columns) makes nothing_got) (rows-free how (length s.columns) makes nothing_got)
+    request false (rows_next how (length s.columns) makes) nothing_got (execute_request s vs) (whole-execution s vs) (rows-decides how (length s.columns) makes nothing_got) (rows-free how (length s.columns) makes nothing_got)
 
 pub queries-taken : (how : HowMany) (s : Statement) (vs : List Value) → lookup.IsTaken (query how s vs)
 queries-taken how s vs = querying how (whole_rows s) s vs
+
+pub raw-queries-taken : (take : ℕ) (s : Statement) (vs : List Value) → lookup.IsTaken (query_raw take s vs)
+raw-queries-taken take s vs =
+    let next = first_next take Any (length s.columns) (whole_rows s) in
+    request true next nothing_got (execute_request s vs) (whole-execution s vs) (first-decides take Any (length s.columns) (whole_rows s) nothing_got) (stopped-free (told_by next nothing_got))
 
 pub scalars-taken : (how : HowMany) (s : Statement) (vs : List Value) → lookup.IsTaken (query_scalar how s vs)
 scalars-taken how s vs = querying how (scalars s) s vs
 
 pub executes-taken : (s : Statement) (vs : List Value) → lookup.IsTaken (execute s vs)
-executes-taken s vs = request count_next nothing_counted (execute_request s vs) (whole-execution s vs) (count-decides nothing_counted) (count-free nothing_counted)
+executes-taken s vs = request false count_next nothing_counted (execute_request s vs) (whole-execution s vs) (count-decides nothing_counted) (count-free nothing_counted)
 
 -- ---- a text
 

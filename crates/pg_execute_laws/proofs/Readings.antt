@@ -17,7 +17,7 @@ use Rattle.pg_query.specs.Reading.{ends, reads}
 use Rattle.pg_lookup.specs.QueryReplies.{Said, Bound, Row, Complete, Empty, Suspended, Ready, Fails, query_said, row_said, said_by, told_by}
 use Rattle.pg_lookup_laws.proofs.Readings.{IsLast, told-some}
 use Rattle.pg_execute.specs.Counts.{Counted, count_by, count_next, counts}
-use Rattle.pg_execute.specs.Rows.{may_have, rows_by}
+use Rattle.pg_execute.specs.Rows.{at_end, first_rows_by, may_have, rows_by, up_to}
 use Rattle.pg_execute.specs.declared.got.Got.{Got}
 use Rattle.pg_execute.specs.declared.how_many.HowMany.{HowMany}
 
@@ -70,6 +70,15 @@ reply-free {S} {T} next tells state = λ ms h. by ms (told_by next state ms) ref
     by ms (Some (Err failure)) e h = tt
     by ms None e h = absurd cc
 
+-- where a value hangs the request up too, it is let go whatever was read
+pub stopped-free : {T : Type 0} (reading : List RawMessage → Option (Result T Error)) → LetsGo Request (reads true reading)
+stopped-free {T} reading = λ ms h. by (list_any is_ready ms) (reading ms) h
+  where
+    by : (b : Bool) (o : Option (Result T Error)) → is_some o ≡ true → LetsGo (request_behind b) (ends true o)
+    by b (Some (Ok x)) h = tt
+    by b (Some (Err failure)) h = tt
+    by b None h = absurd cc
+
 -- ---- rows
 
 -- what a message does
@@ -87,6 +96,21 @@ rows-last how columns makes g false (b ∷ d ∷ rest) = tt
 pub rows-decides : {A : Type 0} (how : HowMany) (columns : ℕ) (makes : Got → Result A Error) (g : Got) (ms : List RawMessage) → ends_in is_ready ms ≡ true → is_some (told_by (rows_next how columns makes) g ms) ≡ true
 rows-decides how columns makes g ms h =
     told-some (rows_next how columns makes) (λ g m ready. at-ready (rows_next how columns makes) g (rows-last how columns makes g g.bound) m ready) g ms h
+
+-- what a message does where the first rows are read
+abbrev pub first_next : {A : Type 0} → (take : ℕ) → HowMany → (columns : ℕ) → (Got → Result A Error) → Got → RawMessage → Next Got (Result A Error)
+first_next take how columns makes g raw = first_rows_by take how makes g (said_by g.bound columns raw)
+
+-- what is last stays so
+up_to-last : {A : Type 0} (take : ℕ) (makes : Got → Result A Error) (next : Next Got (Result A Error)) → IsLast next → IsLast (up_to take makes next)
+up_to-last take makes (Answers r) h = tt
+up_to-last take makes (GoesOn g) h = absurd h
+
+pub first-decides : {A : Type 0} (take : ℕ) (how : HowMany) (columns : ℕ) (makes : Got → Result A Error) (g : Got) (ms : List RawMessage) →
+    ends_in is_ready ms ≡ true → is_some (told_by (first_next take how columns makes) g ms) ≡ true
+first-decides take how columns makes g ms h =
+    told-some (first_next take how columns makes)
+    (λ g m ready. up_to-last take (at_end how makes) (rows_next how columns makes g m) (at-ready (rows_next how columns makes) g (rows-last how columns makes g g.bound) m ready)) g ms h
 
 -- a message tells no value
 abbrev TellsNone : {S A : Type 0} → Next S (Result A Error) → Type 0

@@ -12,7 +12,7 @@ ghost use Rattle.pg_lookup.specs.Prepares.{statement_name};
 ghost use Rattle.pg_lookup.specs.Replies.{described};
 ghost use Rattle.pg_lookup.specs.Worlds.{new_desk};
 ghost use Rattle.pg_execute.specs.Examples as example;
-ghost use Rattle.pg_execute.specs.Executes.{close, close_part, closed_by, execute, on_text, posts, query, query_scalar};
+ghost use Rattle.pg_execute.specs.Executes.{close, close_part, closed_by, execute, on_text, posts, query, query_raw, query_scalar};
 ghost use Rattle.pg_execute.specs.Parameters.{execute_request};
 ghost use Rattle.pg_execute.specs.declared.how_many.HowMany as how_many;
 ghost use Rattle.pg_execute_laws.specs.Leavings.{left_behind, q_left_behind};
@@ -22,9 +22,11 @@ ghost use Rattle.pg_execute_laws.specs.Taken.{IsTaken};
 /// a session takes.
 pub fn executions_are_commands()
     ensures queries { (how : how_many.HowMany) (s : Described) (vs : List value.Value) → IsTaken (query how s vs) }
+    ensures raw_queries { (take : ℕ) (s : Described) (vs : List value.Value) → IsTaken (query_raw take s vs) }
     ensures scalars { (how : how_many.HowMany) (s : Described) (vs : List value.Value) → IsTaken (query_scalar how s vs) }
     ensures executes { (s : Described) (vs : List value.Value) → IsTaken (execute s vs) }
     ensures text_queries { (how : how_many.HowMany) (text : List ℕ) (vs : List value.Value) → IsTaken (on_text (prepare text []) (λ s. query how s vs)) }
+    ensures text_raw_queries { (take : ℕ) (text : List ℕ) (vs : List value.Value) → IsTaken (on_text (prepare text []) (λ s. query_raw take s vs)) }
     ensures text_scalars { (how : how_many.HowMany) (text : List ℕ) (vs : List value.Value) → IsTaken (on_text (prepare text []) (λ s. query_scalar how s vs)) }
     ensures text_executes { (text : List ℕ) (vs : List value.Value) → IsTaken (on_text (prepare text []) (λ s. execute s vs)) }
     ensures closes { (s : Described) → IsTaken (close s) }
@@ -48,6 +50,9 @@ pub fn executions_are_given_up()
     ensures reads { (how : how_many.HowMany) (s : Described) (vs : List value.Value) (part : List ℕ) → execute_request s vs ≡ Ok part → left_behind [] (query how s vs) ≡ Release ∷ [] }
     ensures text_reads { (how : how_many.HowMany) (s : Described) (vs : List value.Value) (part : List ℕ) → execute_request s vs ≡ Ok part →
         left_behind [] (closed_by (close_part s.name) (query how s vs)) ≡ Release ∷ posts (close_part s.name) }
+    ensures raw_reads { (take : ℕ) (s : Described) (vs : List value.Value) (part : List ℕ) → execute_request s vs ≡ Ok part → left_behind [] (query_raw take s vs) ≡ Release ∷ [] }
+    ensures text_raw_reads { (take : ℕ) (s : Described) (vs : List value.Value) (part : List ℕ) → execute_request s vs ≡ Ok part →
+        left_behind [] (closed_by (close_part s.name) (query_raw take s vs)) ≡ Release ∷ posts (close_part s.name) }
     ensures prepares { q_left_behind [] ≡ Release ∷ [] }
     ensures looks_up { q_left_behind (described (90000 ∷ []) [] ∷ []) ≡ Release ∷ [] }
     ensures executes { q_left_behind (example.q_described ∷ []) ≡ Release ∷ Post example.close_s0 ∷ [] }

@@ -1,5 +1,5 @@
 -- A command that was made leaves nothing to do before its begin.
-use Rattle.std.proofs.Common.{◌≡◌, ℕ, List, [], Option, Result, Ok, Err, refl}
+use Rattle.std.proofs.Common.{◌≡◌, ℕ, Bool, List, [], Option, Result, Ok, Err, refl}
 use Rattle.pg_types.specs.declared.value.Value.{Value}
 use Rattle.pg_faults.specs.declared.error.Error.{Error}
 use Rattle.pg_statements.specs.declared.statement.Described.{Described}
@@ -19,10 +19,11 @@ asks-clean (Ok part) d = refl
 asks-clean (Err e) d = refl
 
 -- a target that is executed, whatever is read of its reply
-pub target-clean : {T : Type 0} (reading : Described → List RawMessage → Option (Result T Error)) (vs : List Value) (t : Target) → cleanup_of (on_target prepare_text (λ s. executes (reading s) s vs) t) ≡ []
-target-clean reading vs (Query text) = refl
-target-clean reading vs (Statement s) = asks-clean (execute_request s.now vs) _
-target-clean reading vs (Owned s) = asks-clean (execute_request s vs) _
+pub target-clean : {T : Type 0} (stops : Bool) (reading : Described → List RawMessage → Option (Result T Error)) (vs : List Value) (t : Target) →
+    cleanup_of (on_target prepare_text (λ s. executes stops (reading s) s vs) t) ≡ []
+target-clean stops reading vs (Query text) = refl
+target-clean stops reading vs (Statement s) = asks-clean (execute_request s.now vs) _
+target-clean stops reading vs (Owned s) = asks-clean (execute_request s vs) _
 
 -- a request whose reply nobody reads
 pub sends-clean : (request : Result (List ℕ) Error) → cleanup_of (sends request) ≡ []

@@ -1,11 +1,14 @@
 use Rattle.std.proofs.Common.{[]}
 use Rattle.pg_lookup.specs.Lookups.{prepare}
-use Rattle.pg_execute.specs.Executes.{close, execute, on_text, query, query_scalar}
-use Rattle.pg_execute_laws.proofs.Commands.{as-taken, closes-taken, executes-taken, on-text, queries-taken, scalars-taken}
+use Rattle.pg_execute.specs.Executes.{close, execute, on_text, query, query_raw, query_scalar}
+use Rattle.pg_execute_laws.proofs.Commands.{as-taken, closes-taken, executes-taken, on-text, queries-taken, raw-queries-taken, scalars-taken}
 use Rattle.pg_execute_laws.proofs.laws.executions_are_commands.Goals as goal
 
 pub returns-clause-queries : goal.returns-clause-queries
 returns-clause-queries c = λ how s vs. as-taken (query how s vs) (queries-taken how s vs)
+
+pub returns-clause-raw_queries : goal.returns-clause-raw_queries
+returns-clause-raw_queries c = λ take s vs. as-taken (query_raw take s vs) (raw-queries-taken take s vs)
 
 pub returns-clause-scalars : goal.returns-clause-scalars
 returns-clause-scalars c = λ how s vs. as-taken (query_scalar how s vs) (scalars-taken how s vs)
@@ -15,6 +18,9 @@ returns-clause-executes c = λ s vs. as-taken (execute s vs) (executes-taken s v
 
 pub returns-clause-text_queries : goal.returns-clause-text_queries
 returns-clause-text_queries c = λ how text vs. as-taken (on_text (prepare text []) (λ s. query how s vs)) (on-text text (λ s. query how s vs) (λ s. queries-taken how s vs))
+
+pub returns-clause-text_raw_queries : goal.returns-clause-text_raw_queries
+returns-clause-text_raw_queries c = λ take text vs. as-taken (on_text (prepare text []) (λ s. query_raw take s vs)) (on-text text (λ s. query_raw take s vs) (λ s. raw-queries-taken take s vs))
 
 pub returns-clause-text_scalars : goal.returns-clause-text_scalars
 returns-clause-text_scalars c = λ how text vs. as-taken (on_text (prepare text []) (λ s. query_scalar how s vs)) (on-text text (λ s. query_scalar how s vs) (λ s. scalars-taken how s vs))
