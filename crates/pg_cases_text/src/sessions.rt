@@ -59,6 +59,21 @@ fn tell_execution(
     Ok(())
 }
 
+fn tell_raw(
+    target: &CommandTarget,
+    take: u64,
+    values: &[Value],
+    out: &mut String,
+) -> Result<(), AllocError> {
+    out.push_str(" query_raw")?;
+    tell_target(target, out)?;
+    write!(out, " take {take}")?;
+    for value in values {
+        tell_value(value, out)?;
+    }
+    Ok(())
+}
+
 /// A command that executes something, or closes it.
 fn tell_executed(command: &Command, out: &mut String) -> Result<(), AllocError> {
     match command {
@@ -71,6 +86,11 @@ fn tell_executed(command: &Command, out: &mut String) -> Result<(), AllocError> 
         Command::QueryOpt { target, values } => {
             tell_execution("query_opt", target, values.as_slice(), out)
         }
+        Command::QueryRaw {
+            target,
+            take,
+            values,
+        } => tell_raw(target, *take, values.as_slice(), out),
         Command::QueryScalar { target, values } => {
             tell_execution("query_scalar", target, values.as_slice(), out)
         }

@@ -17,7 +17,7 @@ use Rattle.pg_execute.specs.declared.how_many.HowMany.TheVariants.{Any, AtMostOn
 use Rattle.pg_turns.specs.Speeches.{meaning_of}
 use Rattle.pg_table.specs.Mapped.{mapped}
 use Rattle.pg_table.specs.Slots.{Slots, statement_in}
-use Rattle.pg_table.specs.Table.{in_count, in_done, in_rows, in_scalars, says_close, says_execute, says_query, says_query_scalar, table}
+use Rattle.pg_table.specs.Table.{in_count, in_done, in_rows, in_scalars, says_close, says_execute, says_query, says_query_raw, says_query_scalar, table}
 use Rattle.pg_table.specs.Targets.{on_target, or_missing}
 use Rattle.pg_table.specs.declared.state.AnyAnswer.{AnyAnswer}
 use Rattle.pg_isolation.specs.Names.{named, named_by}
@@ -35,6 +35,9 @@ on-target own other (Text text) body same = refl
 
 says-query : (how : HowMany) (own other : Slots) (to : CommandTarget) (values : List Value) → named_by to own ≡ named_by to other → says_query how own to values ≡ says_query how other to values
 says-query how own other to values same = ap (mapped in_rows) (on-target own other to (λ s. execution.query how s values) same)
+
+says-raw : (take : ℕ) (own other : Slots) (to : CommandTarget) (values : List Value) → named_by to own ≡ named_by to other → says_query_raw take own to values ≡ says_query_raw take other to values
+says-raw take own other to values same = ap (mapped in_rows) (on-target own other to (λ s. execution.query_raw take s values) same)
 
 says-scalar : (how : HowMany) (own other : Slots) (to : CommandTarget) (values : List Value) → named_by to own ≡ named_by to other → says_query_scalar how own to values ≡ says_query_scalar how other to values
 says-scalar how own other to values same = ap (mapped in_scalars) (on-target own other to (λ s. execution.query_scalar how s values) same)
@@ -55,6 +58,7 @@ by-names own other command.Clear same = by-says own other command.Clear refl
 by-names own other (command.Query to values) same = by-says own other (command.Query to values) (says-query Any own other to values same)
 by-names own other (command.QueryOne to values) same = by-says own other (command.QueryOne to values) (says-query One own other to values same)
 by-names own other (command.QueryOpt to values) same = by-says own other (command.QueryOpt to values) (says-query AtMostOne own other to values same)
+by-names own other (command.QueryRaw to take values) same = by-says own other (command.QueryRaw to take values) (says-raw take own other to values same)
 by-names own other (command.QueryScalar to values) same = by-says own other (command.QueryScalar to values) (says-scalar Any own other to values same)
 by-names own other (command.QueryOneScalar to values) same = by-says own other (command.QueryOneScalar to values) (says-scalar One own other to values same)
 by-names own other (command.QueryOptScalar to values) same = by-says own other (command.QueryOptScalar to values) (says-scalar AtMostOne own other to values same)

@@ -2,7 +2,7 @@
 use Rattle.std.specs.Prelude.{Option, None}
 use Rattle.pg_statements.specs.declared.statement.Described.{Described as Statement}
 use Rattle.pg_text.specs.declared.command.Command.{Command}
-use Rattle.pg_text.specs.declared.command.Command.TheVariants.{Batch, Check, Clear, Close, Execute, Prepare, Query, QueryOne, QueryOneScalar, QueryOpt, QueryOptScalar, QueryScalar, Simple}
+use Rattle.pg_text.specs.declared.command.Command.TheVariants.{Batch, Check, Clear, Close, Execute, Prepare, Query, QueryOne, QueryOneScalar, QueryOpt, QueryOptScalar, QueryRaw, QueryScalar, Simple}
 use Rattle.pg_text.specs.declared.command.CommandTarget.{CommandTarget}
 use Rattle.pg_text.specs.declared.command.CommandTarget.TheVariants.{Slot, Text}
 use Rattle.pg_table.specs.Slots.{Slots, statement_in}
@@ -22,6 +22,7 @@ named Clear own = None
 named (Query to values) own = named_by to own
 named (QueryOne to values) own = named_by to own
 named (QueryOpt to values) own = named_by to own
+named (QueryRaw to take values) own = named_by to own
 named (QueryScalar to values) own = named_by to own
 named (QueryOneScalar to values) own = named_by to own
 named (QueryOptScalar to values) own = named_by to own

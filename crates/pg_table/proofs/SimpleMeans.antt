@@ -15,7 +15,7 @@ use Rattle.pg_lookup_laws.proofs.Commands.{IsTaken, answers, clearing, preparing
 use Rattle.pg_execute.specs.Executes as execution
 use Rattle.pg_execute.specs.declared.how_many.HowMany.{HowMany}
 use Rattle.pg_execute.specs.declared.how_many.HowMany.TheVariants.{Any, AtMostOne, One}
-use Rattle.pg_execute_laws.proofs.Commands.{closes-taken, executes-taken, on-text, queries-taken, scalars-taken}
+use Rattle.pg_execute_laws.proofs.Commands.{closes-taken, executes-taken, on-text, queries-taken, raw-queries-taken, scalars-taken}
 use Rattle.pg_statements.specs.declared.statement.Described.{Described}
 use Rattle.pg_types.specs.declared.value.Value.{Value}
 use Rattle.pg_text.specs.declared.command.CommandTarget.{CommandTarget}
@@ -39,7 +39,7 @@ use Rattle.pg_core.proofs.Requests.{request-so}
 use Rattle.pg_turns.specs.Speeches.{AreCommands, BookWhole, BooksWhole, IsWholeRequest, LetGo, meaning_of}
 use Rattle.pg_table.specs.Mapped.{mapped, mapped_answer}
 use Rattle.pg_table.specs.Slots.{Slots, statement_in}
-use Rattle.pg_table.specs.Table.{in_count, in_done, in_messages, in_rows, in_scalars, in_statement, kept_answer, says_close, says_execute, says_query, says_query_scalar, table, simply}
+use Rattle.pg_table.specs.Table.{in_count, in_done, in_messages, in_rows, in_scalars, in_statement, kept_answer, says_close, says_execute, says_query, says_query_raw, says_query_scalar, table, simply}
 use Rattle.pg_table.specs.Targets.{on_target, or_missing}
 use Rattle.pg_table.specs.declared.state.AnyAnswer.{AnyAnswer}
 use Rattle.pg_table.proofs.Decided.{whole-decides}
@@ -65,6 +65,10 @@ taken-mapped f d h = record { command = command-mapped f d h.command; lets_go = 
 
 says-query : (how : HowMany) (own : Slots) (to : CommandTarget) (values : List Value) → IsTaken (says_query how own to values)
 says-query how own to values = taken-mapped in_rows (on_target own to (λ s. execution.query how s values)) (on-target own to (λ s. execution.query how s values) (λ s. queries-taken how s values))
+
+says-raw : (take : ℕ) (own : Slots) (to : CommandTarget) (values : List Value) → IsTaken (says_query_raw take own to values)
+says-raw take own to values =
+    taken-mapped in_rows (on_target own to (λ s. execution.query_raw take s values)) (on-target own to (λ s. execution.query_raw take s values) (λ s. raw-queries-taken take s values))
 
 says-scalar : (how : HowMany) (own : Slots) (to : CommandTarget) (values : List Value) → IsTaken (says_query_scalar how own to values)
 says-scalar how own to values =
@@ -106,6 +110,7 @@ are-commands own command.Clear = command-mapped in_done clear clearing.command
 are-commands own (command.Query to values) = (says-query Any own to values).command
 are-commands own (command.QueryOne to values) = (says-query One own to values).command
 are-commands own (command.QueryOpt to values) = (says-query AtMostOne own to values).command
+are-commands own (command.QueryRaw to take values) = (says-raw take own to values).command
 are-commands own (command.QueryScalar to values) = (says-scalar Any own to values).command
 are-commands own (command.QueryOneScalar to values) = (says-scalar One own to values).command
 are-commands own (command.QueryOptScalar to values) = (says-scalar AtMostOne own to values).command
@@ -147,6 +152,7 @@ book-whole own command.Clear = books-mapped in_done clear clearing.whole
 book-whole own (command.Query to values) = (says-query Any own to values).whole
 book-whole own (command.QueryOne to values) = (says-query One own to values).whole
 book-whole own (command.QueryOpt to values) = (says-query AtMostOne own to values).whole
+book-whole own (command.QueryRaw to take values) = (says-raw take own to values).whole
 book-whole own (command.QueryScalar to values) = (says-scalar Any own to values).whole
 book-whole own (command.QueryOneScalar to values) = (says-scalar One own to values).whole
 book-whole own (command.QueryOptScalar to values) = (says-scalar AtMostOne own to values).whole
@@ -164,6 +170,7 @@ let-go own command.Clear = lets-mapped in_done Nothing clear clearing.lets_go
 let-go own (command.Query to values) = (says-query Any own to values).lets_go
 let-go own (command.QueryOne to values) = (says-query One own to values).lets_go
 let-go own (command.QueryOpt to values) = (says-query AtMostOne own to values).lets_go
+let-go own (command.QueryRaw to take values) = (says-raw take own to values).lets_go
 let-go own (command.QueryScalar to values) = (says-scalar Any own to values).lets_go
 let-go own (command.QueryOneScalar to values) = (says-scalar One own to values).lets_go
 let-go own (command.QueryOptScalar to values) = (says-scalar AtMostOne own to values).lets_go
@@ -211,6 +218,7 @@ are-simple own command.Clear text' take' e = absurd cc
 are-simple own (command.Query to values) text' take' e = absurd cc
 are-simple own (command.QueryOne to values) text' take' e = absurd cc
 are-simple own (command.QueryOpt to values) text' take' e = absurd cc
+are-simple own (command.QueryRaw to take values) text' take' e = absurd cc
 are-simple own (command.QueryScalar to values) text' take' e = absurd cc
 are-simple own (command.QueryOneScalar to values) text' take' e = absurd cc
 are-simple own (command.QueryOptScalar to values) text' take' e = absurd cc

@@ -3,6 +3,7 @@ use Rattle.pg_client.specs.DoneStates.{IsLiveBatch, IsLiveCheck, place_of_batch,
 use Rattle.pg_client.specs.Queries.{IsLiveQuery, place_of_query}
 use Rattle.pg_executed.specs.States.{IsLiveClose, place_of_close}
 use Rattle.pg_executed.specs.contracts.query.QueryStatePolled.TheImpl as queried
+use Rattle.pg_executed.specs.contracts.first_rows.FirstRowsStatePolled.TheImpl as first_queried
 use Rattle.pg_executed.specs.contracts.query_scalar.QueryScalarStatePolled.TheImpl as scalars_queried
 use Rattle.pg_executed.specs.contracts.execute.ExecuteStatePolled.TheImpl as executed
 use Rattle.pg_executed.specs.contracts.missing.MissingStatePolled.TheImpl as missing
@@ -13,7 +14,7 @@ use Rattle.pg_table.specs.Mapped.{mapped_place}
 use Rattle.pg_table.specs.Table.{in_count, in_done, in_messages, in_rows, in_scalars, in_statement}
 use Rattle.pg_table.specs.declared.state.AnyAnswer.{AnyAnswer}
 use Rattle.pg_table.specs.declared.state.AnyState.{AnyState}
-use Rattle.pg_table.specs.declared.state.AnyState.TheVariants.{Batch, Check, Clear, Close, Execute, Missing, Prepare, Query, Scalar, Simple}
+use Rattle.pg_table.specs.declared.state.AnyState.TheVariants.{Batch, Check, Clear, Close, Execute, Missing, Prepare, Query, QueryRaw, Scalar, Simple}
 
 -- what it asks and answers from here on, and the request that it reads
 abbrev pub place_of : AnyState → Place AnyAnswer
@@ -23,6 +24,7 @@ place_of (Check state) = mapped_place in_done (place_of_check state.value)
 place_of (Prepare state) = mapped_place in_statement (prepared.ghosts.place state.value)
 place_of (Clear state) = mapped_place in_done (place_of_clear state.value)
 place_of (Query state) = mapped_place in_rows (queried.ghosts.place state.value)
+place_of (QueryRaw state) = mapped_place in_rows (first_queried.ghosts.place state.value)
 place_of (Scalar state) = mapped_place in_scalars (scalars_queried.ghosts.place state.value)
 place_of (Execute state) = mapped_place in_count (executed.ghosts.place state.value)
 place_of (Close state) = mapped_place in_done (place_of_close state.value)
@@ -36,6 +38,7 @@ IsLive (Check state) = IsLiveCheck state.value
 IsLive (Prepare state) = prepared.ghosts.is_live state.value
 IsLive (Clear state) = IsLiveClear state.value
 IsLive (Query state) = queried.ghosts.is_live state.value
+IsLive (QueryRaw state) = first_queried.ghosts.is_live state.value
 IsLive (Scalar state) = scalars_queried.ghosts.is_live state.value
 IsLive (Execute state) = executed.ghosts.is_live state.value
 IsLive (Close state) = IsLiveClose state.value

@@ -57,6 +57,10 @@ in_count n = Count n
 abbrev pub says_query : HowMany → Slots → CommandTarget → List Value → Dialogue AnyAnswer
 says_query how slots to values = mapped in_rows (on_target slots to (λ s. execution.query how s values))
 
+-- query_raw
+abbrev pub says_query_raw : (take : ℕ) → Slots → CommandTarget → List Value → Dialogue AnyAnswer
+says_query_raw take slots to values = mapped in_rows (on_target slots to (λ s. execution.query_raw take s values))
+
 -- query_scalar, query_one_scalar, query_opt_scalar
 abbrev pub says_query_scalar : HowMany → Slots → CommandTarget → List Value → Dialogue AnyAnswer
 says_query_scalar how slots to values = mapped in_scalars (on_target slots to (λ s. execution.query_scalar how s values))
@@ -81,6 +85,7 @@ says_of slots command.Clear = mapped in_done clear
 says_of slots (command.Query to values) = says_query Any slots to values
 says_of slots (command.QueryOne to values) = says_query One slots to values
 says_of slots (command.QueryOpt to values) = says_query AtMostOne slots to values
+says_of slots (command.QueryRaw to take values) = says_query_raw take slots to values
 says_of slots (command.QueryScalar to values) = says_query_scalar Any slots to values
 says_of slots (command.QueryOneScalar to values) = says_query_scalar One slots to values
 says_of slots (command.QueryOptScalar to values) = says_query_scalar AtMostOne slots to values
@@ -112,6 +117,7 @@ slots_behind slots command.Clear r = slots
 slots_behind slots (command.Query to values) r = slots
 slots_behind slots (command.QueryOne to values) r = slots
 slots_behind slots (command.QueryOpt to values) r = slots
+slots_behind slots (command.QueryRaw to take values) r = slots
 slots_behind slots (command.QueryScalar to values) r = slots
 slots_behind slots (command.QueryOneScalar to values) r = slots
 slots_behind slots (command.QueryOptScalar to values) r = slots

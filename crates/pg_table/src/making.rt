@@ -7,7 +7,7 @@ ghost use Rattle.pg_lookup.specs.Lookups as lookups;
 ghost use Rattle.pg_query.specs.Dialogue.{Answer};
 ghost use Rattle.pg_table.specs.Mapped.{mapped};
 ghost use Rattle.pg_table.specs.States.{IsLive, place_of};
-ghost use Rattle.pg_table.specs.Table.{in_done, in_messages, in_statement, says_close, says_execute, says_of, says_query, says_query_scalar};
+ghost use Rattle.pg_table.specs.Table.{in_done, in_messages, in_statement, says_close, says_execute, says_of, says_query, says_query_raw, says_query_scalar};
 ghost use Rattle.pg_table.specs.Targets.{IsFound};
 
 use crate::slots::Slots;
@@ -15,7 +15,9 @@ use crate::state::AnyState;
 use pg_client::{BatchExecuteState, CheckConnectionState, SimpleQueryState};
 use pg_errors::Error;
 use pg_execute::{HowMany, Target};
-use pg_executed::{CloseState, ExecuteState, MissingState, QueryScalarState, QueryState};
+use pg_executed::{
+    CloseState, ExecuteState, FirstRowsState, MissingState, QueryScalarState, QueryState,
+};
 use pg_prepared::{ClearState, PrepareState};
 use pg_text::{Command, CommandTarget};
 use pg_types::{List, Oid, Text, Value};
@@ -38,6 +40,11 @@ pub fn begin<'a>(alloc: Global, command: &'a Command, slots: &Slots) -> Result<A
         Command::QueryOpt { target, values } => {
             query(alloc, HowMany::AtMostOne, target, values, slots)
         }
+        Command::QueryRaw {
+            target,
+            take,
+            values,
+        } => query_raw(alloc, target, *take, values, slots),
         Command::QueryScalar { target, values } => {
             query_scalar(alloc, HowMany::Any, target, values, slots)
         }
@@ -119,6 +126,28 @@ fn query<'a>(
             let state = QueryState::new(target, how_many, values.as_slice());
             let state = boxed(alloc, state)?;
             Ok(AnyState::Query(state))
+        }
+        None => missing(alloc),
+    }
+}
+
+/// The state of a query whose first rows are the answer.
+fn query_raw<'a>(
+    alloc: Global,
+    target: &'a CommandTarget,
+    take: u64,
+    values: &'a List<Value>,
+    slots: &Slots,
+) -> Result<AnyState<'a>, Error>
+    ensures live { IfOk result IsLive }
+    ensures asks { IfOk result (λ state. (place_of state).dialogue ≡ says_query_raw take slots.now target.now values.now) }
+    ensures error { IfErr result (λ e. e ≡ Error.OutOfMemory) }
+{
+    match find(target, slots)? {
+        Some(target) => {
+            let state = FirstRowsState::new(target, take, values.as_slice());
+            let state = boxed(alloc, state)?;
+            Ok(AnyState::QueryRaw(state))
         }
         None => missing(alloc),
     }

@@ -10,7 +10,9 @@ use pg_client::{BatchExecuteState, CheckConnectionState, SimpleQueryState};
 use pg_desk::{Desk, Stamp};
 use pg_errors::Error;
 use pg_execute::ResultSet;
-use pg_executed::{CloseState, ExecuteState, MissingState, QueryScalarState, QueryState};
+use pg_executed::{
+    CloseState, ExecuteState, FirstRowsState, MissingState, QueryScalarState, QueryState,
+};
 use pg_prepared::{ClearState, PrepareState};
 use pg_query::{Polled, SimpleMessage};
 use pg_statements::Statement;
@@ -27,6 +29,7 @@ pub enum AnyState<'a> {
     Prepare(Box<PrepareState<'a>>),
     Clear(Box<ClearState>),
     Query(Box<QueryState<'a>>),
+    QueryRaw(Box<FirstRowsState<'a>>),
     Scalar(Box<QueryScalarState<'a>>),
     Execute(Box<ExecuteState<'a>>),
     Close(Box<CloseState>),
@@ -194,6 +197,7 @@ impl<'a> Polled for AnyState<'a> {
             AnyState::Prepare(state) => statement(state.poll(alloc, desk, stamp)),
             AnyState::Clear(state) => done(state.poll(alloc, desk, stamp)),
             AnyState::Query(state) => rows(state.poll(alloc, desk, stamp)),
+            AnyState::QueryRaw(state) => rows(state.poll(alloc, desk, stamp)),
             AnyState::Scalar(state) => scalars(state.poll(alloc, desk, stamp)),
             AnyState::Execute(state) => count(state.poll(alloc, desk, stamp)),
             AnyState::Close(state) => done(state.poll(alloc, desk, stamp)),
@@ -209,6 +213,7 @@ impl<'a> Polled for AnyState<'a> {
             AnyState::Prepare(state) => Box::into_inner(state).hang_up(alloc, desk, stamp),
             AnyState::Clear(state) => Box::into_inner(state).hang_up(alloc, desk, stamp),
             AnyState::Query(state) => Box::into_inner(state).hang_up(alloc, desk, stamp),
+            AnyState::QueryRaw(state) => Box::into_inner(state).hang_up(alloc, desk, stamp),
             AnyState::Scalar(state) => Box::into_inner(state).hang_up(alloc, desk, stamp),
             AnyState::Execute(state) => Box::into_inner(state).hang_up(alloc, desk, stamp),
             AnyState::Close(state) => Box::into_inner(state).hang_up(alloc, desk, stamp),

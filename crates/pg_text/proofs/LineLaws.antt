@@ -13,12 +13,12 @@ use Rattle.pg_text.specs.declared.execution.Execution.{Execution}
 use Rattle.pg_text.specs.declared.execution.Execution.TheVariants as form
 use Rattle.pg_text.specs.Executions.{FirstWordOf, command_of, execution_word}
 use Rattle.pg_text.specs.declared.line.Keyword.{Keyword}
-use Rattle.pg_text.specs.declared.line.Keyword.TheVariants.{Config, Nonce, Limit, Turns, Handle, Step, Cut, End, Simple, Batch, Check, Prepare, Clear, Executes, Close}
+use Rattle.pg_text.specs.declared.line.Keyword.TheVariants.{Config, Nonce, Limit, Turns, Handle, Step, Cut, End, Simple, Batch, Check, Prepare, Clear, Executes, QueryRaw, Close}
 use Rattle.pg_text.specs.declared.line.Line.{Line}
 use Rattle.pg_text.specs.declared.line.Line.TheVariants as line
 use Rattle.pg_text.specs.declared.command.Command.TheVariants as command
 use Rattle.pg_text.specs.Lines.{FirstWord, FirstWordAmong, command_keywords, first_word, session_keywords, ReadsLine, ReadsRest, SaysSomething, WordsOf}
-use Rattle.pg_text.specs.Words.{AllWords, behind, IsTextOf, IsUtf8Quoted, IsWord, left_text, NoSpace, OneWord, Takes, TakesNumber, TookAll}
+use Rattle.pg_text.specs.Words.{AllWords, behind, IsTake, IsTextOf, IsUtf8Quoted, IsWord, left_text, NoSpace, OneWord, Takes, TookAll}
 use Rattle.pg_text.proofs.WordLaws.{Ends, bytes_ends, no_space_from, number_ends, quoted_ends, word_ends}
 use Rattle.pg_text.proofs.TypeNames.{type_name_ends}
 use Rattle.pg_text.proofs.GivenLaws.{slot_ends, target_ends, value_ends}
@@ -147,13 +147,34 @@ concat_more (p ∷ pieces) piece = ap (λ t. p ++ t) (concat_more pieces piece) 
 take_no_space : NoSpace (codes "take")
 take_no_space = (λ e. absurd cc, (λ e. absurd cc, (λ e. absurd cc, (λ e. absurd cc, tt))))
 
-pub take_none : (old new : Option (List ℕ)) → Takes IsWord old None new → TakesNumber old None
-take_none old new none n number is e = no_word IsWord old new none (codes "take") (codes "take") (number ∷ []) (refl, take_no_space) e
+-- `take` and a number are told from what stands behind them
+pub take_ends : Ends IsTake
+take_ends x y v w l k (n, p, is) (m, q, also) e =
+    let both : codes "take" ++ 32 ∷ n ++ left_text l ≡ codes "take" ++ 32 ∷ m ++ left_text k = ap (λ t. t ++ left_text l) (sym is) ∙ e ∙ ap (λ t. t ++ left_text k) also in
+    let same = number_ends 18446744073709551615 x y n m l k p q (cc_tail (cc_tail (cc_tail (cc_tail (cc_tail both))))) in
+    (same.0, is ∙ ap (λ t. codes "take" ++ 32 ∷ t) same.1 ∙ sym also, same.2)
 
-pub take_other : (old new : Option (List ℕ)) (word : List ℕ) → Takes IsWord old (Some word) new → word ≢ codes "take" → TakesNumber old None
-take_other old new word taken other n number is e =
-    let tail : taken.0 ++ left_text new ≡ codes "take" ++ left_text (left_of (number ∷ [])) = cc_tail (sym taken.2 ∙ e) in
-    other (taken.1.0 ∙ (word_ends taken.0 (codes "take") new (left_of (number ∷ [])) taken.1.1 take_no_space tail).0)
+pub take_none : (old new : Option (List ℕ)) → Takes IsWord old None new → Takes IsTake old None new
+take_none old new none n word left (number, is, same) e =
+    none (codes "take") (codes "take") (Some (number ++ left_text left)) (refl, take_no_space) (e ∙ ap (λ t. 32 ∷ t ++ left_text left) same)
+
+-- the word in front of a `take` is that
+take_word : (old mid : Option (List ℕ)) (word number : List ℕ) (left : Option (List ℕ)) (taken : Takes IsWord old (Some word) mid) → left_text old ≡ 32 ∷ codes "take" ++ 32 ∷ number ++ left_text left →
+    (taken.0 ≡ codes "take") × (mid ≡ Some (number ++ left_text left))
+take_word old mid word number left taken e =
+    word_ends taken.0 (codes "take") mid (Some (number ++ left_text left)) taken.1.1 take_no_space (cc_tail (sym taken.2 ∙ e))
+
+pub take_other : (old mid new : Option (List ℕ)) (word : List ℕ) → Takes IsWord old (Some word) mid → word ≢ codes "take" → Takes IsTake old None new
+take_other old mid new word taken other n spelled left (number, is, same) e =
+    other (taken.1.0 ∙ (take_word old mid word number left taken (e ∙ ap (λ t. 32 ∷ t ++ left_text left) same)).0)
+
+pub take_number : (old mid new : Option (List ℕ)) (word : List ℕ) (r : Option ℕ) → Takes IsWord old (Some word) mid → word ≡ codes "take" → Takes (IsNumber 18446744073709551615) mid r new →
+    Takes IsTake old r new
+take_number old mid new word (Some n) taken is (number, digits, e) =
+    (codes "take" ++ 32 ∷ number, (number, digits, refl), taken.2 ∙ ap (λ t. 32 ∷ t ++ left_text mid) (sym taken.1.0 ∙ is) ∙ ap (λ t. 32 ∷ codes "take" ++ t) e)
+take_number old mid new word None taken is none = λ n spelled left found e.
+    let front = take_word old mid word found.0 left taken (e ∙ ap (λ t. 32 ∷ t ++ left_text left) found.2) in
+    none n found.0 left found.1 (ap left_text front.1)
 
 pub config_some : (old : Option (List ℕ)) (text : List ℕ) → OneWord IsUtf8Quoted old (Some text) → ReadsRest Config old (Some (line.Config text))
 config_some old text (word, is, e) = (said.ConfigLine text, word ∷ [], (text, word, refl, is.0, is.1, refl), e, refl)
@@ -185,21 +206,21 @@ simple_alone old new text taken done =
     let one = only_one IsUtf8Quoted old new (Some text) taken done in
     (said.CommandLine (command.Simple text None), one.0 ∷ [], (text, one.0, one.1.0, one.1.1, inl (refl, refl)), one.2, refl)
 
-pub simple_take : (old new : Option (List ℕ)) (text : List ℕ) (n : ℕ) → Takes IsUtf8Quoted old (Some text) new → TakesNumber new (Some n) →
+pub simple_take : (old new : Option (List ℕ)) (text : List ℕ) (n : ℕ) → Takes IsUtf8Quoted old (Some text) new → OneWord IsTake new (Some n) →
     ReadsRest Simple old (Some (line.Command (command.Simple text (Some n))))
-simple_take old new text n taken (number, digits, e) = (
+simple_take old new text n taken (spelled, (number, digits, is), e) = (
   said.CommandLine (command.Simple text (Some n)),
   taken.0 ∷ codes "take" ∷ number ∷ [],
   (text, taken.0, taken.1.0, taken.1.1, inr (n, number, refl, digits, refl)),
-  taken.2 ∙ ap (λ t. 32 ∷ taken.0 ++ t) e,
+  taken.2 ∙ ap (λ t. 32 ∷ taken.0 ++ t) (e ∙ ap (λ t. behind (t ∷ [])) is),
   refl,
 )
 
-pub simple_refused : (old new : Option (List ℕ)) (text : List ℕ) → Takes IsUtf8Quoted old (Some text) new → is_none new ≡ false → TakesNumber new None → ReadsRest Simple old None
+pub simple_refused : (old new : Option (List ℕ)) (text : List ℕ) → Takes IsUtf8Quoted old (Some text) new → is_none new ≡ false → OneWord IsTake new None → ReadsRest Simple old None
 simple_refused old new text taken more none l words (text', word, utf8, quoted, inl (is, same)) e =
     some_left new more (after_word IsUtf8Quoted utf8_ends old new text taken text' word [] (utf8, quoted) (e ∙ ap behind same)).1
 simple_refused old new text taken more none l words (text', word, utf8, quoted, inr (n, number, is, digits, same)) e =
-    none n number digits (after_word IsUtf8Quoted utf8_ends old new text taken text' word (codes "take" ∷ number ∷ []) (utf8, quoted) (e ∙ ap behind same)).1
+    none n (codes "take" ++ 32 ∷ number) (number, digits, refl) (after_word IsUtf8Quoted utf8_ends old new text taken text' word (codes "take" ∷ number ∷ []) (utf8, quoted) (e ∙ ap behind same)).1
 
 pub batch_some : (old : Option (List ℕ)) (text : List ℕ) → OneWord IsUtf8Quoted old (Some text) → ReadsRest Batch old (Some (line.Command (command.Batch text)))
 batch_some old text (word, is, e) = (said.CommandLine (command.Batch text), word ∷ [], (text, word, refl, is.0, is.1, refl), e, refl)
@@ -251,6 +272,33 @@ execution_targetless execution old new none l words (to, values, word, given, is
 pub execution_valueless : (execution : Execution) (old mid : Option (List ℕ)) (to : CommandTarget) → Takes IsTarget old (Some to) mid → AllWords IsValue mid None → ReadsRest (Executes execution) old None
 execution_valueless execution old mid to taken none l words (other, values, word, given, is, named, each, same) e =
     none values given each (after_word IsTarget target_ends old mid to taken other word given named (e ∙ ap behind same)).1
+
+pub raw_some : (old mid last : Option (List ℕ)) (to : CommandTarget) (n : ℕ) (values given : List Value) → given ≡ values →
+    Takes IsTarget old (Some to) mid → Takes IsTake mid (Some n) last → AllWords IsValue last (Some values) → ReadsRest QueryRaw old (Some (line.Command (command.QueryRaw to n given)))
+raw_some old mid last to n values given same taken (spelled, (number, digits, is), e) all = (
+  said.CommandLine (command.QueryRaw to n given),
+  taken.0 ∷ codes "take" ∷ number ∷ all.0,
+  (to, n, given, taken.0, number, all.0, refl, taken.1, digits, subst (λ (t : List Value). AllZip IsValue t all.0) (sym same) all.1, refl),
+  taken.2 ∙ ap (λ t. 32 ∷ taken.0 ++ t) (e ∙ (λ i. 32 ∷ is i ++ all.2 i)),
+  refl,
+)
+
+pub raw_targetless : (old new : Option (List ℕ)) → Takes IsTarget old None new → ReadsRest QueryRaw old None
+raw_targetless old new none l words (to, n, values, word, number, given, is, named, digits, each, same) e = no_word IsTarget old new none to word (codes "take" ∷ number ∷ given) named (e ∙ ap behind same)
+
+-- behind the target `take` and a number stand, and values
+raw_behind : (old mid : Option (List ℕ)) (to : CommandTarget) → Takes IsTarget old (Some to) mid → (other : CommandTarget) (word number : List ℕ) (given : List (List ℕ)) →
+    IsTarget other word → left_text old ≡ behind (word ∷ codes "take" ∷ number ∷ given) → left_text mid ≡ behind ((codes "take" ++ 32 ∷ number) ∷ given)
+raw_behind old mid to taken other word number given named e = (after_word IsTarget target_ends old mid to taken other word (codes "take" ∷ number ∷ given) named e).1
+
+pub raw_takeless : (old mid new : Option (List ℕ)) (to : CommandTarget) → Takes IsTarget old (Some to) mid → Takes IsTake mid None new → ReadsRest QueryRaw old None
+raw_takeless old mid new to taken none l words (other, n, values, word, number, given, is, named, digits, each, same) e =
+    no_word IsTake mid new none n (codes "take" ++ 32 ∷ number) given (number, digits, refl) (raw_behind old mid to taken other word number given named (e ∙ ap behind same))
+
+pub raw_valueless : (old mid last : Option (List ℕ)) (to : CommandTarget) (m : ℕ) → Takes IsTarget old (Some to) mid → Takes IsTake mid (Some m) last → AllWords IsValue last None → ReadsRest QueryRaw old None
+raw_valueless old mid last to m taken took none l words (other, n, values, word, number, given, is, named, digits, each, same) e =
+    let front = raw_behind old mid to taken other word number given named (e ∙ ap behind same) in
+    none values given each (after_word IsTake take_ends mid last m took n (codes "take" ++ 32 ∷ number) given (number, digits, refl) front).1
 
 pub close_some : (old : Option (List ℕ)) (slot : ℕ) → OneWord IsSlot old (Some slot) → ReadsRest Close old (Some (line.Command (command.Close slot)))
 close_some old slot (word, is, e) = (said.CommandLine (command.Close slot), word ∷ [], (slot, word, refl, is, refl), e, refl)
@@ -316,6 +364,13 @@ spelled_words (said.CommandLine command.Clear) s h = inr (Clear, [], (refl, refl
 spelled_words (said.CommandLine (command.Query to values)) s h = let found = execution_words form.Query to values s h in inr (Executes form.Query, found.0, found.1, found.2)
 spelled_words (said.CommandLine (command.QueryOne to values)) s h = let found = execution_words form.QueryOne to values s h in inr (Executes form.QueryOne, found.0, found.1, found.2)
 spelled_words (said.CommandLine (command.QueryOpt to values)) s h = let found = execution_words form.QueryOpt to values s h in inr (Executes form.QueryOpt, found.0, found.1, found.2)
+spelled_words (said.CommandLine (command.QueryRaw to n values)) s (word, number, given, named, digits, each, e) =
+    inr (
+      QueryRaw,
+      word ∷ codes "take" ∷ number ∷ given,
+      (to, n, values, word, number, given, refl, named, digits, each, refl),
+      e ∙ join_words (codes "query_raw") (word ∷ codes "take" ∷ number ∷ given),
+    )
 spelled_words (said.CommandLine (command.QueryScalar to values)) s h = let found = execution_words form.QueryScalar to values s h in inr (Executes form.QueryScalar, found.0, found.1, found.2)
 spelled_words (said.CommandLine (command.QueryOneScalar to values)) s h = let found = execution_words form.QueryOneScalar to values s h in inr (Executes form.QueryOneScalar, found.0, found.1, found.2)
 spelled_words (said.CommandLine (command.QueryOptScalar to values)) s h = let found = execution_words form.QueryOptScalar to values s h in inr (Executes form.QueryOptScalar, found.0, found.1, found.2)
@@ -351,6 +406,9 @@ words_spell Clear l words s (is, same) e = subst (λ (m : said.Line). Spells m s
 words_spell (Executes execution) l words s (to, values, word, given, is, named, each, same) e =
     subst (λ (m : said.Line). Spells m s) (sym is)
     (execution_spells execution to values s (word, given, named, each, e ∙ sym (join_words (execution_word execution) words) ∙ ap (λ w. join_with_byte 32 (execution_word execution ∷ w)) same))
+words_spell QueryRaw l words s (to, n, values, word, number, given, is, named, digits, each, same) e =
+    subst (λ (m : said.Line). Spells m s) (sym is)
+    (word, number, given, named, digits, each, e ∙ sym (join_words (codes "query_raw") words) ∙ ap (λ w. join_with_byte 32 (codes "query_raw" ∷ w)) same)
 words_spell Close l words s (slot, word, is, named, same) e =
     subst (λ (m : said.Line). Spells m s) (sym is) (word, named, e ∙ sym (join_words (codes "close") words) ∙ ap (λ w. join_with_byte 32 (codes "close" ∷ w)) same)
 
@@ -375,13 +433,15 @@ first_no_space (Executes form.QueryScalar) = no_space_from (execution_word form.
 first_no_space (Executes form.QueryOneScalar) = no_space_from (execution_word form.QueryOneScalar) refl
 first_no_space (Executes form.QueryOptScalar) = no_space_from (execution_word form.QueryOptScalar) refl
 first_no_space (Executes form.Execute) = no_space_from (execution_word form.Execute) refl
+first_no_space QueryRaw = no_space_from (first_word QueryRaw) refl
 first_no_space Close = no_space_from (first_word Close) refl
 
 -- the query that a word begins, by what stands behind its first two letters
-query_at : List ℕ → Execution
+query_at : List ℕ → Keyword
 query_at w =
-    cond (length w == 3) form.Query (cond (length w == 10) form.QueryScalar
-    (cond (length w == 7) (cond (get_or w 5 0 == 110) form.QueryOne form.QueryOpt) (cond (get_or w 5 0 == 110) form.QueryOneScalar form.QueryOptScalar)))
+    cond (length w == 3) (Executes form.Query) (cond (length w == 10) (Executes form.QueryScalar)
+    (cond (length w == 7) (cond (get_or w 5 0 == 110) (Executes form.QueryOne) (cond (get_or w 5 0 == 112) (Executes form.QueryOpt) QueryRaw))
+    (cond (get_or w 5 0 == 110) (Executes form.QueryOneScalar) (Executes form.QueryOptScalar))))
 
 -- the line that a word begins, told by its letters
 keyword_at : List ℕ → Keyword
@@ -390,7 +450,7 @@ keyword_at (a ∷ []) = Config
 keyword_at (a ∷ b ∷ w) =
     cond (a == 99) (cond (b == 111) Config (cond (b == 104) Check (cond (b == 108) (cond (get_or w 0 0 == 101) Clear Close) Cut)))
     (cond (a == 110) Nonce (cond (a == 108) Limit (cond (a == 116) Turns (cond (a == 104) Handle (cond (a == 101) (cond (b == 110) End (Executes form.Execute))
-    (cond (a == 98) Batch (cond (a == 112) Prepare (cond (a == 113) (Executes (query_at w)) (cond (b == 116) Step Simple)))))))))
+    (cond (a == 98) Batch (cond (a == 112) Prepare (cond (a == 113) (query_at w) (cond (b == 116) Step Simple)))))))))
 
 keyword_at-first_word : (keyword : Keyword) → keyword_at (first_word keyword) ≡ keyword
 unfolding keyword_at query_at
@@ -414,10 +474,12 @@ keyword_at-first_word (Executes form.QueryScalar) = refl
 keyword_at-first_word (Executes form.QueryOneScalar) = refl
 keyword_at-first_word (Executes form.QueryOptScalar) = refl
 keyword_at-first_word (Executes form.Execute) = refl
+keyword_at-first_word QueryRaw = refl
 keyword_at-first_word Close = refl
 
 -- a word that begins neither of the lines that are no commands, nor of the commands, begins no line
-pub no_keyword : (word : List ℕ) → FirstWordAmong session_keywords word None → FirstWordAmong command_keywords word None → FirstWordOf word None → FirstWord word None
+pub no_keyword : (word : List ℕ) → FirstWordAmong session_keywords word None → FirstWordAmong command_keywords word None →
+    FirstWordOf execution_word word None → FirstWord word None
 no_keyword word session commands none Config = session.0
 no_keyword word session commands none Nonce = session.1.0
 no_keyword word session commands none Limit = session.1.1.0
@@ -431,7 +493,8 @@ no_keyword word session commands none Batch = commands.1.0
 no_keyword word session commands none Check = commands.1.1.0
 no_keyword word session commands none Prepare = commands.1.1.1.0
 no_keyword word session commands none Clear = commands.1.1.1.1.0
-no_keyword word session commands none Close = commands.1.1.1.1.1.0
+no_keyword word session commands none QueryRaw = commands.1.1.1.1.1.0
+no_keyword word session commands none Close = commands.1.1.1.1.1.1.0
 no_keyword word session commands none (Executes execution) = none execution
 
 same_keyword : (a b : Keyword) → first_word a ≡ first_word b → a ≡ b
@@ -543,6 +606,12 @@ same_words (Executes execution) l m ws vs (to, values, w, given, p, named, each,
     let first = first_of IsTarget target_ends to to' w v given given' named named' (ap behind (sym a) ∙ e ∙ ap behind b) in
     let second = all_same IsValue value_ends values values' given given' each each' first.1 in
     p ∙ (λ i. said.CommandLine (command_of execution (first.0 i) (second i))) ∙ sym q
+same_words QueryRaw l m ws vs (to, n, values, w, number, given, p, named, digits, each, a) (to', k, values', v, other, given', q, named', digits', each', b) e =
+    let first = first_of IsTarget target_ends to to' w v (codes "take" ∷ number ∷ given) (codes "take" ∷ other ∷ given') named named' (ap behind (sym a) ∙ e ∙ ap behind b) in
+    let second = first_of IsWord word_kind_ends (codes "take") (codes "take") (codes "take") (codes "take") (number ∷ given) (other ∷ given') (refl, take_no_space) (refl, take_no_space) first.1 in
+    let third = first_of (IsNumber 18446744073709551615) (number_ends 18446744073709551615) n k number other given given' digits digits' second.1 in
+    let fourth = all_same IsValue value_ends values values' given given' each each' third.1 in
+    p ∙ (λ i. said.CommandLine (command.QueryRaw (first.0 i) (third.0 i) (fourth i))) ∙ sym q
 same_words Close l m ws vs (slot, w, p, named, a) (slot', v, q, named', b) e =
     p ∙ ap (λ n. said.CommandLine (command.Close n)) (first_of IsSlot slot_ends slot slot' w v [] [] named named' (ap behind (sym a) ∙ e ∙ ap behind b)).0 ∙ sym q
 
@@ -567,6 +636,7 @@ word_says (Executes form.QueryScalar) t = eqb-false 113 35 refl
 word_says (Executes form.QueryOneScalar) t = eqb-false 113 35 refl
 word_says (Executes form.QueryOptScalar) t = eqb-false 113 35 refl
 word_says (Executes form.Execute) t = eqb-false 101 35 refl
+word_says QueryRaw t = eqb-false 113 35 refl
 word_says Close t = eqb-false 99 35 refl
 
 -- a line is spelled by at most one line

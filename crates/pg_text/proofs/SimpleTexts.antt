@@ -10,7 +10,7 @@ use Rattle.pg_text.specs.SessionText.{CanNotGoOn, CommandLine, ConfigLine, CutLi
 use Rattle.pg_text.specs.Sessions.{as_session}
 use Rattle.pg_text.specs.Views.{as_command, as_scripts}
 use Rattle.pg_text.specs.declared.command.Command.{Command}
-use Rattle.pg_text.specs.declared.command.Command.TheVariants.{Batch, Check, Clear, Close, Execute, Prepare, Query, QueryOne, QueryOneScalar, QueryOpt, QueryOptScalar, QueryScalar, Simple}
+use Rattle.pg_text.specs.declared.command.Command.TheVariants.{Batch, Check, Clear, Close, Execute, Prepare, Query, QueryOne, QueryOneScalar, QueryOpt, QueryOptScalar, QueryRaw, QueryScalar, Simple}
 use Rattle.pg_text.proofs.LineLaws.{one_line}
 
 -- ---- lists of what is led elsewhere
@@ -183,6 +183,7 @@ back_command Clear = simple.Simple [] None
 back_command (Query to values) = simple.Simple [] None
 back_command (QueryOne to values) = simple.Simple [] None
 back_command (QueryOpt to values) = simple.Simple [] None
+back_command (QueryRaw to n values) = simple.Simple [] None
 back_command (QueryScalar to values) = simple.Simple [] None
 back_command (QueryOneScalar to values) = simple.Simple [] None
 back_command (QueryOptScalar to values) = simple.Simple [] None
@@ -348,6 +349,7 @@ spells-back (CommandLine Clear) w is h = absurd is
 spells-back (CommandLine (Query to values)) w is h = absurd is
 spells-back (CommandLine (QueryOne to values)) w is h = absurd is
 spells-back (CommandLine (QueryOpt to values)) w is h = absurd is
+spells-back (CommandLine (QueryRaw to take values)) w is h = absurd is
 spells-back (CommandLine (QueryScalar to values)) w is h = absurd is
 spells-back (CommandLine (QueryOneScalar to values)) w is h = absurd is
 spells-back (CommandLine (QueryOptScalar to values)) w is h = absurd is

@@ -11,6 +11,7 @@ use Rattle.std.specs.Str.Parse.{AllDigits}
 use Rattle.std.proofs.lemmas.Bool.{cond_both, cond-true, eqb-false}
 use Rattle.std.proofs.lemmas.Bool.Decides.{nat_tests}
 use Rattle.std.proofs.lemmas.List.{append_cancel_right, take-append-drop, drop_more}
+use Rattle.std.proofs.lemmas.Slice.Eq.{bytes_eq-Decides}
 use Rattle.std.proofs.lemmas.Str.Parse.{digit_at}
 use Rattle.hex.specs.Hex.{◌>>=◌, decode_of, decode_pairs, hex_digit_value, digit_or_error}
 use Rattle.hex.specs.declared.error.FromHexError.{FromHexError}
@@ -285,6 +286,10 @@ pub some_hex : {V E : Type 0} (view : V → List ℕ) (w : List ℕ) (r : Result
 some_hex view w (Err e) some h = tt
 some_hex view w (Ok None) some h = λ bytes is. h bytes is.0
 some_hex view w (Ok (Some v)) some h = (h, λ none. omega (arith, some, ap (λ (t : List ℕ). length t) none))
+
+-- texts that were found to be one
+pub same_text : (v w : List ℕ) → pointwise eqb v w ≡ true → v ≡ w
+same_text v w e = (bytes_eq-Decides v w).0 e
 
 -- texts that were told apart
 pub other_text : (v w : List ℕ) → pointwise eqb v w ≡ false → v ≡ w → ⊥

@@ -1,4 +1,4 @@
--- The commands that execute a target with values.
+-- The commands that execute something with values.
 use Rattle.std.specs.Prelude.{◌≢◌, ◌≡◌, ℕ, List, Option, Some, None, codes}
 use Rattle.pg_types.specs.declared.value.Value.{Value}
 use Rattle.pg_text.specs.declared.command.Command.{Command}
@@ -27,7 +27,7 @@ execution_word QueryOneScalar = codes "query_one_scalar"
 execution_word QueryOptScalar = codes "query_opt_scalar"
 execution_word Execute = codes "execute"
 
--- the word begins the line of this one, or of none
-abbrev pub FirstWordOf : List ℕ → Option Execution → Type 0
-FirstWordOf word None = (execution : Execution) → word ≢ execution_word execution
-FirstWordOf word (Some execution) = word ≡ execution_word execution
+-- the word begins the line of this form, whose first word this is, or of none
+abbrev pub FirstWordOf : {F : Type 0} → (F → List ℕ) → List ℕ → Option F → Type 0
+FirstWordOf {F} first word None = (form : F) → word ≢ first form
+FirstWordOf first word (Some form) = word ≡ first form

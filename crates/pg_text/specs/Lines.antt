@@ -9,7 +9,7 @@ use Rattle.pg_types.specs.declared.value.Value.{Value}
 use Rattle.pg_text.specs.declared.command.CommandTarget.{CommandTarget}
 use Rattle.pg_text.specs.Executions.{command_of, execution_word}
 use Rattle.pg_text.specs.declared.line.Keyword.{Keyword}
-use Rattle.pg_text.specs.declared.line.Keyword.TheVariants.{Config, Nonce, Limit, Turns, Handle, Step, Cut, End, Simple, Batch, Check, Prepare, Clear, Executes, Close}
+use Rattle.pg_text.specs.declared.line.Keyword.TheVariants.{Config, Nonce, Limit, Turns, Handle, Step, Cut, End, Simple, Batch, Check, Prepare, Clear, Executes, QueryRaw, Close}
 use Rattle.pg_text.specs.declared.line.Line.{Line}
 use Rattle.pg_text.specs.declared.line.Line.TheVariants as line
 use Rattle.pg_text.specs.Words.{behind, left_text}
@@ -30,6 +30,7 @@ first_word Check = codes "check"
 first_word Prepare = codes "prepare"
 first_word Clear = codes "clear"
 first_word (Executes execution) = execution_word execution
+first_word QueryRaw = codes "query_raw"
 first_word Close = codes "close"
 
 -- the word begins this line, or none
@@ -41,9 +42,9 @@ FirstWord word (Some keyword) = word ≡ first_word keyword
 abbrev pub session_keywords : List Keyword
 session_keywords = Config ∷ Nonce ∷ Limit ∷ Turns ∷ Handle ∷ Step ∷ Cut ∷ End ∷ []
 
--- the commands other than those that execute a target
+-- the commands other than those that execute something in one of several forms
 abbrev pub command_keywords : List Keyword
-command_keywords = Simple ∷ Batch ∷ Check ∷ Prepare ∷ Clear ∷ Close ∷ []
+command_keywords = Simple ∷ Batch ∷ Check ∷ Prepare ∷ Clear ∷ QueryRaw ∷ Close ∷ []
 
 -- the word begins such a line, or none of these
 abbrev pub FirstWordAmong : List Keyword → List ℕ → Option Keyword → Type 0
@@ -85,6 +86,9 @@ WordsOf Prepare l words = (slot : ℕ) × (text : List ℕ) × (types : List ℕ
 WordsOf Clear l words = (l ≡ said.CommandLine command.Clear) × (words ≡ [])
 WordsOf (Executes execution) l words = (to : CommandTarget) × (values : List Value) × (word : List ℕ) × (given : List (List ℕ))
     × (l ≡ said.CommandLine (command_of execution to values)) × IsTarget to word × AllZip IsValue values given × (words ≡ word ∷ given)
+WordsOf QueryRaw l words = (to : CommandTarget) × (n : ℕ) × (values : List Value) × (word : List ℕ) × (number : List ℕ) × (given : List (List ℕ))
+    × (l ≡ said.CommandLine (command.QueryRaw to n values)) × IsTarget to word × IsNumber 18446744073709551615 n number × AllZip IsValue values given
+    × (words ≡ word ∷ codes "take" ∷ number ∷ given)
 WordsOf Close l words = (slot : ℕ) × (word : List ℕ) × (l ≡ said.CommandLine (command.Close slot)) × IsSlot slot word × (words ≡ word ∷ [])
 
 -- behind the first word a line goes on so; None: there is no such line

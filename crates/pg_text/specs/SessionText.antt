@@ -7,7 +7,7 @@ use Rattle.pg_types.specs.declared.value.Value.{Value}
 use Rattle.pg_types.specs.declared.value.Value.TheVariants as value
 use Rattle.pg_spec.specs.SessionText.{AreLines, IsBytes, IsHex, IsNumber, IsQuoted, IsWords, default_nonce, one_or}
 use Rattle.pg_text.specs.declared.command.Command.{Command}
-use Rattle.pg_text.specs.declared.command.Command.TheVariants.{Batch, Check, Clear, Close, Execute, Prepare, Query, QueryOne, QueryOneScalar, QueryOpt, QueryOptScalar, QueryScalar, Simple}
+use Rattle.pg_text.specs.declared.command.Command.TheVariants.{Batch, Check, Clear, Close, Execute, Prepare, Query, QueryOne, QueryOneScalar, QueryOpt, QueryOptScalar, QueryRaw, QueryScalar, Simple}
 use Rattle.pg_text.specs.declared.command.CommandTarget.{CommandTarget}
 use Rattle.pg_text.specs.declared.command.CommandTarget.TheVariants as target
 
@@ -82,6 +82,8 @@ Spells (CommandLine Clear) spelled = spelled ≡ codes "clear"
 Spells (CommandLine (Query to values)) spelled = SpellsExecution (codes "query") to values spelled
 Spells (CommandLine (QueryOne to values)) spelled = SpellsExecution (codes "query_one") to values spelled
 Spells (CommandLine (QueryOpt to values)) spelled = SpellsExecution (codes "query_opt") to values spelled
+Spells (CommandLine (QueryRaw to n values)) spelled = (word : List ℕ) × (number : List ℕ) × (words : List (List ℕ))
+    × IsTarget to word × IsNumber 18446744073709551615 n number × AllZip IsValue values words × IsWords (codes "query_raw") (word ∷ codes "take" ∷ number ∷ words) spelled
 Spells (CommandLine (QueryScalar to values)) spelled = SpellsExecution (codes "query_scalar") to values spelled
 Spells (CommandLine (QueryOneScalar to values)) spelled = SpellsExecution (codes "query_one_scalar") to values spelled
 Spells (CommandLine (QueryOptScalar to values)) spelled = SpellsExecution (codes "query_opt_scalar") to values spelled

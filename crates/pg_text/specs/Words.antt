@@ -51,6 +51,10 @@ abbrev pub IsBareValue : Value → List ℕ → Type 0
 IsBareValue (value.Text text) word = ⊥
 IsBareValue other word = IsValue other word
 
+-- `take`, and a number behind a space
+abbrev pub IsTake : ℕ → List ℕ → Type 0
+IsTake n spelled = (number : List ℕ) × IsNumber 18446744073709551615 n number × (spelled ≡ codes "take" ++ 32 ∷ number)
+
 -- what stands behind a text in quotes is left: the end, or words behind a space
 abbrev pub LeavesBehind : List ℕ → Bool → Option (List ℕ) → Type 0
 LeavesBehind behind true new = left_text new ≡ behind
@@ -84,11 +88,6 @@ AllWords {A} Is old (Some items) = (words : List (List ℕ)) × AllZip Is items 
 abbrev pub AllBytes : Option (List ℕ) → Option (List ℕ) → Type 0
 AllBytes old None = (pieces : List (List ℕ)) (words : List (List ℕ)) → AllZip IsBytes pieces words → left_text old ≡ behind words → ⊥
 AllBytes old (Some entry) = (pieces : List (List ℕ)) × (words : List (List ℕ)) × AllZip IsBytes pieces words × (left_text old ≡ behind words) × (entry ≡ concat pieces)
-
--- `take` and a number stand there, and nothing behind them; None: it isn't so
-abbrev pub TakesNumber : Option (List ℕ) → Option ℕ → Type 0
-TakesNumber old None = (n : ℕ) (number : List ℕ) → IsNumber 18446744073709551615 n number → left_text old ≡ behind (codes "take" ∷ number ∷ []) → ⊥
-TakesNumber old (Some n) = (number : List ℕ) × IsNumber 18446744073709551615 n number × (left_text old ≡ behind (codes "take" ∷ number ∷ []))
 
 -- a text has these bytes, which are UTF-8; None: they aren't
 abbrev pub IsTextOf : List ℕ → Option (List ℕ) → Type 0

@@ -51,7 +51,13 @@ pub enum Command {
         target: CommandTarget,
         values: List<Value>,
     },
-    /// The same, where its rows have one column, whose values are the answer.
+    /// The same of its first rows, so many at most; then its reader hangs up.
+    QueryRaw {
+        target: CommandTarget,
+        take: u64,
+        values: List<Value>,
+    },
+    /// The same of all its rows, where they have one column, whose values are the answer.
     QueryScalar {
         target: CommandTarget,
         values: List<Value>,

@@ -1,7 +1,7 @@
-//! The commands that execute a target with values, by the first words of their lines.
+//! The commands that execute something with values, by the first words of their lines.
 
 ghost use Rattle.std.specs.Prelude.{◌≡◌};
-ghost use Rattle.pg_text.specs.Executions.{FirstWordOf, command_of};
+ghost use Rattle.pg_text.specs.Executions.{FirstWordOf, command_of, execution_word};
 
 use crate::command::{Command, CommandTarget};
 use pg_types::{List, Value};
@@ -37,7 +37,7 @@ impl Execution {
 
 /// What such a line begins with this word.
 pub(crate) fn execution_of(word: &[u8]) -> Option<Execution>
-    ensures { FirstWordOf word.now result }
+    ensures { FirstWordOf execution_word word.now result }
 {
     if word == b"query".as_slice() {
         return Some(Execution::Query);

@@ -2,6 +2,7 @@
 #![tactic(auto)]
 
 mod command;
+mod executing;
 mod execution;
 mod given;
 mod laws;

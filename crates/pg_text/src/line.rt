@@ -4,15 +4,16 @@ ghost use Rattle.std.specs.Prelude.{◌<◌, IfOk, IfSome, option_map};
 ghost use Rattle.pg_spec.specs.SessionText.{IsNumber, IsQuoted};
 ghost use Rattle.pg_text.specs.declared.line.Keyword.TheVariants as first;
 ghost use Rattle.pg_text.specs.Drafts.{HasCut};
-ghost use Rattle.pg_text.specs.SessionText.{IsSlot, IsTypeName, IsValue};
+ghost use Rattle.pg_text.specs.SessionText.{IsSlot, IsTypeName};
 ghost use Rattle.pg_text.specs.Lines.{FirstWord, FirstWordAmong, ReadsLine, ReadsRest, SaysSomething, command_keywords, session_keywords};
-ghost use Rattle.pg_text.specs.Words.{AllBytes, AllWords, IsTextOf, IsUtf8Quoted, OneWord, Takes, TakesNumber};
+ghost use Rattle.pg_text.specs.Words.{AllBytes, AllWords, IsTake, IsTextOf, IsUtf8Quoted, OneWord, Takes};
 
 use crate::command::Command;
+use crate::executing::{execution_line, raw_line};
 use crate::execution::{Execution, execution_of};
-use crate::given::{next_slot, next_target, next_value};
+use crate::given::next_slot;
 use crate::word::Words;
-use pg_types::{Blob, List, Oid, OutOfMemory, Text, Value};
+use pg_types::{Blob, List, Oid, OutOfMemory, Text};
 use std::alloc::Global;
 
 /// What a line says.
@@ -81,6 +82,7 @@ enum Keyword {
     Prepare,
     Clear,
     Executes(Execution),
+    QueryRaw,
     Close,
 }
 
@@ -131,7 +133,7 @@ fn session_keyword_of(word: &[u8]) -> Option<Keyword>
     None
 }
 
-/// What command begins with this word, other than those that execute a target.
+/// What command begins with this word, other than those that execute something in one of several forms.
 fn command_keyword_of(word: &[u8]) -> Option<Keyword>
     ensures { FirstWordAmong command_keywords word.now result }
 {
@@ -149,6 +151,9 @@ fn command_keyword_of(word: &[u8]) -> Option<Keyword>
     }
     if word == b"clear".as_slice() {
         return Some(Keyword::Clear);
+    }
+    if word == b"query_raw".as_slice() {
+        return Some(Keyword::QueryRaw);
     }
     if word == b"close".as_slice() {
         return Some(Keyword::Close);
@@ -180,6 +185,7 @@ fn read_rest(
         Keyword::Prepare => prepare_line(alloc, words),
         Keyword::Clear => Ok(clear_line(words)),
         Keyword::Executes(execution) => execution_line(alloc, execution, words),
+        Keyword::QueryRaw => raw_line(alloc, words),
         Keyword::Close => Ok(close_line(words)),
     }
 }
@@ -342,24 +348,6 @@ fn clear_line(words: &Words) -> Option<Line>
     }
 }
 
-/// `TARGET VALUE ..`.
-fn execution_line(
-    alloc: Global,
-    execution: Execution,
-    words: &mut Words,
-) -> Result<Option<Line>, OutOfMemory>
-    ensures line { IfOk result (λ found. ReadsRest (first.Executes execution) words.old found) }
-    ensures cut { IfOk result (λ found. IfSome found HasCut) }
-{
-    let Some(target) = next_target(alloc, words)? else {
-        return Ok(None);
-    };
-    let Some(values) = all_values(alloc, words)? else {
-        return Ok(None);
-    };
-    Ok(Some(Line::Command(execution.command(target, List::new(values)))))
-}
-
 /// `@SLOT`.
 fn close_line(words: &mut Words) -> Option<Line>
     ensures line { ReadsRest first.Close words.old result }
@@ -381,12 +369,20 @@ fn only_slot(words: &mut Words) -> Option<u64>
 
 /// `take N`, and nothing behind it.
 fn take_number(words: &mut Words) -> Option<u64>
-    ensures { TakesNumber words.old result }
+    ensures { OneWord IsTake words.old result }
+{
+    let number = next_take(words);
+    if words.is_done() { number } else { None }
+}
+
+/// Takes `take N`.
+pub(crate) fn next_take(words: &mut Words) -> Option<u64>
+    ensures { Takes IsTake words.old result words.new }
 {
     match words.word() {
         Some(word) => {
             if word == b"take".as_slice() {
-                only_number(words, u64::MAX)
+                words.number(u64::MAX)
             } else {
                 None
             }
@@ -479,20 +475,6 @@ fn all_types(alloc: Global, words: &mut Words) -> Result<Option<Vec<Oid>>, OutOf
         }
     }
     Ok(Some(types))
-}
-
-/// Values, up to the end.
-fn all_values(alloc: Global, words: &mut Words) -> Result<Option<Vec<Value>>, OutOfMemory>
-    ensures { IfOk result (λ found. AllWords IsValue words.old (option_map (λ values. values.items) found)) }
-{
-    let mut values = Vec::new(alloc);
-    while !words.is_done() {
-        match next_value(alloc, words)? {
-            Some(value) => values.push(value)?,
-            None => return Ok(None),
-        }
-    }
-    Ok(Some(values))
 }
 
 /// Bytes, up to the end, joined.

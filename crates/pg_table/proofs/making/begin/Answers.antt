@@ -12,6 +12,9 @@ returns-in-QueryOne-clause-asks c = rw c.in-QueryOne.is c.query-in-QueryOne.ensu
 pub returns-in-QueryOpt-clause-asks : goal.returns-in-QueryOpt-clause-asks
 returns-in-QueryOpt-clause-asks c = rw c.in-QueryOpt.is c.query-in-QueryOpt.ensures.asks
 
+pub returns-in-QueryRaw-clause-asks : goal.returns-in-QueryRaw-clause-asks
+returns-in-QueryRaw-clause-asks c = rw c.in-QueryRaw.is c.query_raw.ensures.asks
+
 pub returns-in-QueryScalar-clause-asks : goal.returns-in-QueryScalar-clause-asks
 returns-in-QueryScalar-clause-asks c = rw c.in-QueryScalar.is c.query_scalar.ensures.asks
 

@@ -1,10 +1,10 @@
 use Rattle.std.proofs.Common.{◌∙◌, sym}
-use Rattle.pg_text.proofs.WordLaws.{other_text}
-use Rattle.pg_text.proofs.LineLaws.{take_none, take_other}
+use Rattle.pg_text.specs.Words.{IsTake}
+use Rattle.pg_text.proofs.LineLaws.{not_one, only_one, take_ends}
 use Rattle.pg_text.proofs.line.take_number.Goals as goal
 
-pub returns-else-eq : goal.returns-else-eq
-returns-else-eq c = take_other c.args.words.now c.word.new.self c.in-Some.word.now c.in-Some.ensures (λ same. other_text c.in-Some.word.now _ (sym c.if-eq.ensures) (same ∙ sym c.as_slice.ensures))
+pub returns-then-is_done : goal.returns-then-is_done
+returns-then-is_done c = only_one IsTake c.args.words.now c.next_take-number.new.words c.next_take-number.result c.next_take-number.ensures (sym c.is_done.ensures ∙ c.if-is_done.true)
 
-pub returns-in-None : goal.returns-in-None
-returns-in-None c = take_none c.args.words.now c.word.new.self c.in-None.ensures
+pub returns-else-is_done : goal.returns-else-is_done
+returns-else-is_done c = not_one IsTake take_ends c.args.words.now c.next_take-number.new.words c.next_take-number.result c.next_take-number.ensures (sym c.is_done.ensures ∙ c.if-is_done.false)

@@ -2,6 +2,7 @@ use Rattle.pg_client.specs.DoneStates.{place_of_batch, place_of_check}
 use Rattle.pg_client.specs.Queries.{place_of_query}
 use Rattle.pg_executed.specs.States.{place_of_close}
 use Rattle.pg_executed.specs.contracts.query.QueryStatePolled.TheImpl as queried
+use Rattle.pg_executed.specs.contracts.first_rows.FirstRowsStatePolled.TheImpl as first_queried
 use Rattle.pg_executed.specs.contracts.query_scalar.QueryScalarStatePolled.TheImpl as scalars_queried
 use Rattle.pg_executed.specs.contracts.execute.ExecuteStatePolled.TheImpl as executed
 use Rattle.pg_executed.specs.contracts.missing.MissingStatePolled.TheImpl as missing
@@ -46,6 +47,12 @@ returns-in-Query g c =
     rw c.in-Query.is
     (gives-up-mapped in_rows g.D.Desk.becomes c.args.stamp c.args.desk.now (queried.ghosts.place c.in-Query.state.value) c.hang_up-in-Query.new.desk
     c.hang_up-in-Query.result (rw c.into_inner-in-Query.ensures at c.hang_up-in-Query.ensures))
+
+pub returns-in-QueryRaw : goal.returns-in-QueryRaw
+returns-in-QueryRaw g c =
+    rw c.in-QueryRaw.is
+    (gives-up-mapped in_rows g.D.Desk.becomes c.args.stamp c.args.desk.now (first_queried.ghosts.place c.in-QueryRaw.state.value) c.hang_up-in-QueryRaw.new.desk
+    c.hang_up-in-QueryRaw.result (rw c.into_inner-in-QueryRaw.ensures at c.hang_up-in-QueryRaw.ensures))
 
 pub returns-in-Scalar : goal.returns-in-Scalar
 returns-in-Scalar g c =

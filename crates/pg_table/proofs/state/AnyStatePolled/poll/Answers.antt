@@ -2,6 +2,7 @@ use Rattle.pg_client.specs.DoneStates.{IsLiveBatch, IsLiveCheck, place_of_batch,
 use Rattle.pg_client.specs.Queries.{IsLiveQuery, place_of_query}
 use Rattle.pg_executed.specs.States.{IsLiveClose, place_of_close}
 use Rattle.pg_executed.specs.contracts.query.QueryStatePolled.TheImpl as queried
+use Rattle.pg_executed.specs.contracts.first_rows.FirstRowsStatePolled.TheImpl as first_queried
 use Rattle.pg_executed.specs.contracts.query_scalar.QueryScalarStatePolled.TheImpl as scalars_queried
 use Rattle.pg_executed.specs.contracts.execute.ExecuteStatePolled.TheImpl as executed
 use Rattle.pg_executed.specs.contracts.missing.MissingStatePolled.TheImpl as missing
@@ -46,6 +47,12 @@ returns-in-Query g c =
     rw (c.rows.ensures, c.in-Query.is)
     (poll-mapped in_rows g.D.Desk.becomes c.args.stamp c.args.desk.now (queried.ghosts.place c.in-Query.state.value) c.poll-in-Query.new.desk (queried.ghosts.is_live c.poll-in-Query.new.self) (queried.ghosts.place c.poll-in-Query.new.self)
     c.poll-in-Query.result (rw c.deref_mut-in-Query.ensures.value at c.poll-in-Query.ensures))
+
+pub returns-in-QueryRaw : goal.returns-in-QueryRaw
+returns-in-QueryRaw g c =
+    rw (c.rows-in-QueryRaw.ensures, c.in-QueryRaw.is)
+    (poll-mapped in_rows g.D.Desk.becomes c.args.stamp c.args.desk.now (first_queried.ghosts.place c.in-QueryRaw.state.value) c.poll-in-QueryRaw.new.desk (first_queried.ghosts.is_live c.poll-in-QueryRaw.new.self) (first_queried.ghosts.place c.poll-in-QueryRaw.new.self)
+    c.poll-in-QueryRaw.result (rw c.deref_mut-in-QueryRaw.ensures.value at c.poll-in-QueryRaw.ensures))
 
 pub returns-in-Scalar : goal.returns-in-Scalar
 returns-in-Scalar g c =

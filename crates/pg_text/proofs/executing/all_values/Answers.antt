@@ -4,7 +4,7 @@ use Rattle.pg_text.specs.SessionText.{IsValue}
 use Rattle.pg_text.specs.Words.{TookAll}
 use Rattle.pg_text.proofs.GivenLaws.{value_ends}
 use Rattle.pg_text.proofs.LineLaws.{all_refused, one_more}
-use Rattle.pg_text.proofs.line.all_values.Goals as goal
+use Rattle.pg_text.proofs.executing.all_values.Goals as goal
 
 pub returns-in-None : goal.returns-in-None
 returns-in-None c =

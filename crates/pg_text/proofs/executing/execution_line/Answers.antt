@@ -1,5 +1,5 @@
 use Rattle.pg_text.proofs.LineLaws.{execution_some, execution_targetless, execution_valueless}
-use Rattle.pg_text.proofs.line.execution_line.Goals as goal
+use Rattle.pg_text.proofs.executing.execution_line.Goals as goal
 
 pub returns-in_default-clause-line : goal.returns-in_default-clause-line
 returns-in_default-clause-line c = execution_targetless c.args.execution c.args.words.now c.next_target.new.words (rw c.in_default.is at c.in_ok-target.ensures)
