@@ -1,8 +1,7 @@
 -- Simple queries ask at once, and hold nothing back.
 use Rattle.std.proofs.Common.{◌≡◌, ℕ, List, [], ◌∷◌, Bool, true, false, Option, Some, None, Result, Ok, Err, refl, sym, subst}
-use Rattle.std.specs.Prelude.{All, IsTrue}
-use Rattle.std.specs.List.{AllByRecursion}
-use Rattle.std.proofs.lemmas.List.Elements.{All-from_recursion, recursion_from_All}
+use Rattle.std.specs.Prelude.{All, IfSome, IsTrue, slice_get}
+use Rattle.std.proofs.lemmas.List.Elements.{All-head, All-weaker}
 use Rattle.pg_course.specs.Dialogues.{Dialogue, Answers, behind}
 use Rattle.pg_course.specs.Meanings.{Ending, Meaning}
 use Rattle.pg_course.specs.Simples.{AreSimple, asks_by, reads_unless}
@@ -29,27 +28,28 @@ module _ (Q R A : Type 0) (wanted : Option ℕ) (next : SimpleAnswer → A) wher
       by None = λ ms. tt
 
 module _ {E Q R : Type 0} (meaning : Meaning Command Answer E Q R) (are : AreSimple meaning simply) where
-  at-once : (c : Command) → IsTrue (is_plain c) → AsksAtOnce meaning c
-  at-once (Simple text (Some n)) h = absurd cc
-  at-once (Simple text None) h = record {
-    begins = λ own. subst (λ (d : Dialogue Q R (Ending Answer E)). BeginsWithRequest d) (sym (are own (Simple text None) text None refl))
-        (one-request Q R (Ending Answer E) None (λ a. record { answer = simple_answer a; own = own }) (query_frame text) h).0;
-    no_copy = λ own. subst (λ (d : Dialogue Q R (Ending Answer E)). HasNoCopy d) (sym (are own (Simple text None) text None refl))
-        (one-request Q R (Ending Answer E) None (λ a. record { answer = simple_answer a; own = own }) (query_frame text) h).1;
+  -- a simple query asks at once, whatever its script has
+  at-once : (c : Command) → IsTrue (is_plain c) → (own : E) → BeginsWithRequest (meaning.asks own c) × HasNoCopy (meaning.asks own c)
+  at-once (Simple text (Some n)) h own = absurd cc
+  at-once (Simple text None) h own =
+      let one = one-request Q R (Ending Answer E) None (λ a. record { answer = simple_answer a; own = own }) (query_frame text) h in
+      let same = are own (Simple text None) text None refl in (
+        subst (λ (d : Dialogue Q R (Ending Answer E)). BeginsWithRequest d) (sym same) one.0,
+        subst (λ (d : Dialogue Q R (Ending Answer E)). HasNoCopy d) (sym same) one.1,
+      )
+
+  first-at-once : (script : List Command) → All (λ c. IsTrue (is_plain c)) script → IfSome (slice_get script 0) (λ c. BeginsWithRequest (meaning.asks meaning.begins c))
+  first-at-once [] h = tt
+  first-at-once (c ∷ script) h = (at-once c (All-head (λ (x : Command). IsTrue (is_plain x)) c script h) meaning.begins).0
+
+  script-at-once : (script : List Command) → All (λ c. IsTrue (is_plain c)) script → AsksAtOnce meaning script
+  script-at-once script h = record {
+    first = first-at-once script h;
+    no_copy = All-weaker (λ (c : Command). IsTrue (is_plain c)) (λ (c : Command). (own : E) → HasNoCopy (meaning.asks own c)) (λ c plain own. (at-once c plain own).1) script h;
   }
 
-  script-at-once : (script : List Command) → AllByRecursion (λ c. IsTrue (is_plain c)) script → AllByRecursion (AsksAtOnce meaning) script
-  script-at-once [] h = tt
-  script-at-once (c ∷ script) h = (at-once c h.0, script-at-once script h.1)
-
-  scripts-at-once : (scripts : List (List Command)) → AllByRecursion (λ script. All (λ c. IsTrue (is_plain c)) script) scripts → AllByRecursion (λ script. All (AsksAtOnce meaning) script) scripts
-  scripts-at-once [] h = tt
-  scripts-at-once (script ∷ scripts) h =
-      (All-from_recursion (AsksAtOnce meaning) script (script-at-once script (recursion_from_All (λ c. IsTrue (is_plain c)) script h.0)), scripts-at-once scripts h.1)
-
-  all-at-once : (scripts : List (List Command)) → All (λ script. All (λ c. IsTrue (is_plain c)) script) scripts → All (λ script. All (AsksAtOnce meaning) script) scripts
-  all-at-once scripts h =
-      All-from_recursion (λ script. All (AsksAtOnce meaning) script) scripts (scripts-at-once scripts (recursion_from_All (λ script. All (λ c. IsTrue (is_plain c)) script) scripts h))
+  all-at-once : (scripts : List (List Command)) → All (λ script. All (λ c. IsTrue (is_plain c)) script) scripts → All (AsksAtOnce meaning) scripts
+  all-at-once scripts h = All-weaker (λ (script : List Command). All (λ c. IsTrue (is_plain c)) script) (AsksAtOnce meaning) script-at-once scripts h
 
   pub kept : (call : Call) (result : Result Report Failure) → NoneKeptBack meaning (call_of call) result → simple.NoneKeptBack call result
   kept call (Ok report) h = h

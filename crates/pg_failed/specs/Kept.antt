@@ -1,5 +1,5 @@
 -- No request is kept back.
-use Rattle.std.specs.Prelude.{◌≡◌, ℕ, ◌≤◌, IsTrue, IsFalse, List, length, count_by, Result, Ok, Err, All, nat_lt, ⊤}
+use Rattle.std.specs.Prelude.{◌≡◌, ℕ, ◌≤◌, IsTrue, IsFalse, IfSome, List, length, count_by, slice_get, Result, Ok, Err, All, nat_lt, ⊤}
 use Rattle.pg_course.specs.Dialogues.{Dialogue, Answers, Asks, Sends, Reads, Puts, Closes, Calls}
 use Rattle.pg_course.specs.Meanings.{Meaning}
 use Rattle.pg_promises.specs.Causes.{OfDialogue, startup_after}
@@ -24,16 +24,16 @@ abbrev pub BeginsWithRequest : {Q R A : Type 0} → Dialogue Q R A → Type 0
 BeginsWithRequest (Asks copying part d) = Unit {0}
 BeginsWithRequest other = ⊥
 
--- a command that asks for something as soon as it begins, whatever its script has, and holds nothing back
-pub record AsksAtOnce {C A E Q R : Type 0} (meaning : Meaning C A E Q R) (c : C) : Type 0 where
-  pub begins : (own : E) → BeginsWithRequest (meaning.asks own c)
-  pub no_copy : (own : E) → HasNoCopy (meaning.asks own c)
+-- a script whose first command asks for something as soon as it begins, and none of whose commands holds anything back
+pub record AsksAtOnce {C A E Q R : Type 0} (meaning : Meaning C A E Q R) (script : List C) : Type 0 where
+  pub first : IfSome (slice_get script 0) (λ c. BeginsWithRequest (meaning.asks meaning.begins c))
+  pub no_copy : All (λ c. (own : E) → HasNoCopy (meaning.asks own c)) script
 
--- Over a steady link an Ok session, and one that ends in Tls, never waited in vain; and one that stalled, whose commands all ask at
--- once, had sent a request of each script that holds a command.
+-- Over a steady link an Ok session, and one that ends in Tls, never waited in vain; and one that stalled, whose scripts all ask at
+-- once, had sent as many whole requests as scripts hold a command, or more.
 abbrev pub NoneKeptBack : {C A E Q R T : Type 0} → Meaning C A E Q R → Call C → Result T Failure → Type 0
 NoneKeptBack meaning call (Ok report) = IsTrue call.before.steady → call.after.lulls ≡ call.before.lulls
-NoneKeptBack meaning call (Err (Stalled before after)) = IsTrue call.before.steady → All (λ script. All (AsksAtOnce meaning) script) call.scripts →
+NoneKeptBack meaning call (Err (Stalled before after)) = IsTrue call.before.steady → All (AsksAtOnce meaning) call.scripts →
     OfDialogue (apart call) (λ s g t. ((used : ℕ) × ((startup_after (apart call) s g).outcome ≡ Done used)) →
     count_by (λ script. nat_lt 0 (length script)) call.scripts ≤ whole_units t)
 NoneKeptBack meaning call (Err (Tls cause)) = IsTrue call.before.steady → call.after.lulls ≡ call.before.lulls

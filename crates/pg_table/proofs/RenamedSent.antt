@@ -1,10 +1,9 @@
 -- What a session had sent that failed, told in other words, is what it had sent.
-use Rattle.std.proofs.Common.{◌≡◌, inl, inr, ℕ, ◌+◌, ◌≤◌, cond, List, [], ◌∷◌, length, map, Option, Some, None, option_map, Result, Ok, Err, refl, sym, ap, subst, ◌∙◌, nat_lt, take, drop}
-use Rattle.std.specs.Prelude.{All, IsSome, count_by}
-use Rattle.std.specs.List.{AllByRecursion}
+use Rattle.std.proofs.Common.{◌≡◌, inl, inr, ℕ, ◌+◌, ◌≤◌, cond, List, [], ◌∷◌, length, map, Option, Some, None, option_map, Result, Ok, Err, refl, sym, ap, subst, ◌∙◌, nat_lt, slice_get, take, drop}
+use Rattle.std.specs.Prelude.{All, IfSome, IsSome, count_by}
 use Rattle.std.proofs.lemmas.List.{length-map}
 use Rattle.std.proofs.lemmas.List.Sums.{sum_by-cons}
-use Rattle.std.proofs.lemmas.List.Elements.{All-from_recursion, All-weaker, recursion_from_All}
+use Rattle.std.proofs.lemmas.List.Elements.{All-map, All-weaker}
 use Rattle.std.proofs.lemmas.Option.{same_Some, slice_get-map}
 use Rattle.pg_spec.specs.Book.{Booking}
 use Rattle.pg_spec.specs.Faults.{Failure, Stalled, Tls}
@@ -142,23 +141,20 @@ module _ {C D A B E Q R : Type 0} (meaning : Meaning C A E Q R) (asks : E → D 
     front = h.front;
   }
 
-  at-once-on : (c : C) → AsksAtOnce meaning c → AsksAtOnce new (f c)
-  at-once-on c h = record {
-    begins = λ own. subst (λ (d : Dialogue Q R (Ending B E)). BeginsWithRequest d) (sym (same own c)) (begins-on in_new (meaning.asks own c) (h.begins own));
-    no_copy = λ own. subst (λ (d : Dialogue Q R (Ending B E)). HasNoCopy d) (sym (same own c)) (no-copy-on in_new (meaning.asks own c) (h.no_copy own));
+  first-on : (script : List C) → IfSome (slice_get script 0) (λ c. BeginsWithRequest (meaning.asks meaning.begins c)) → IfSome (slice_get (map f script) 0) (λ c. BeginsWithRequest (asks meaning.begins c))
+  first-on [] h = tt
+  first-on (c ∷ script) h = subst (λ (d : Dialogue Q R (Ending B E)). BeginsWithRequest d) (sym (same meaning.begins c)) (begins-on in_new (meaning.asks meaning.begins c) h)
+
+  script-on : (script : List C) → AsksAtOnce meaning script → AsksAtOnce new (map f script)
+  script-on script h = record {
+    first = first-on script h.first;
+    no_copy = All-map (λ (c : D). (own : E) → HasNoCopy (asks own c)) f script
+        (All-weaker (λ (c : C). (own : E) → HasNoCopy (meaning.asks own c)) (λ (c : C). (own : E) → HasNoCopy (asks own (f c)))
+        (λ c none own. subst (λ (d : Dialogue Q R (Ending B E)). HasNoCopy d) (sym (same own c)) (no-copy-on in_new (meaning.asks own c) (none own))) script h.no_copy);
   }
 
-  script-on : (script : List C) → AllByRecursion (AsksAtOnce meaning) script → AllByRecursion (AsksAtOnce new) (map f script)
-  script-on [] h = tt
-  script-on (c ∷ script) h = (at-once-on c h.0, script-on script h.1)
-
-  scripts-on : (scripts : List (List C)) → AllByRecursion (λ script. All (AsksAtOnce meaning) script) scripts → AllByRecursion (λ script. All (AsksAtOnce new) script) (map (map f) scripts)
-  scripts-on [] h = tt
-  scripts-on (script ∷ scripts) h =
-      (All-from_recursion (AsksAtOnce new) (map f script) (script-on script (recursion_from_All (AsksAtOnce meaning) script h.0)), scripts-on scripts h.1)
-
-  all-on : (scripts : List (List C)) → All (λ script. All (AsksAtOnce meaning) script) scripts → All (λ script. All (AsksAtOnce new) script) (map (map f) scripts)
-  all-on scripts h = All-from_recursion (λ script. All (AsksAtOnce new) script) (map (map f) scripts) (scripts-on scripts (recursion_from_All (λ script. All (AsksAtOnce meaning) script) scripts h))
+  all-on : (scripts : List (List C)) → All (AsksAtOnce meaning) scripts → All (AsksAtOnce new) (map (map f) scripts)
+  all-on scripts h = All-map (AsksAtOnce new) (map f) scripts (All-weaker (AsksAtOnce meaning) (λ (script : List C). AsksAtOnce new (map f script)) script-on scripts h)
 
   pub kept-back : {X : Type 0} (call : Call C) (result : Result X Failure) → NoneKeptBack new (in_new_words call) result → NoneKeptBack meaning call result
   kept-back call (Ok report) h = h

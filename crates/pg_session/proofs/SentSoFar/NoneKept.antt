@@ -49,7 +49,7 @@ use Rattle.pg_turns.specs.Handles.{HandleState}
 use Rattle.pg_turns.specs.Sessions.{IsNewSession, MakesAll}
 use Rattle.pg_turns.specs.Speeches.{AreCommands, BookWhole, Speech, meaning_of}
 use Rattle.pg_turns.specs.States.{SessionState}
-use Rattle.pg_lives.specs.Kept.{Does, HandleKept, Now, Past, Runs, book_of}
+use Rattle.pg_lives.specs.Kept.{Does, HandleKept, Now, Past, Runs, book_of, states_of}
 use Rattle.pg_lives.proofs.Session.{past-there}
 use Rattle.pg_session.specs.Failures.{StopsOpening}
 use Rattle.pg_session.proofs.Caused.Asks.{AsksWhole, asks-out, asks-wire, tame-in}
@@ -264,8 +264,8 @@ module _ {C T A E : Type 0} (speech : Speech C T A E) where
   -- ---- where the session stalls behind its startup
 
   module _ (commands : AreCommands speech) (books : BookWhole speech) where
-    -- one that runs booked a request
-    runs-asked : (course : Course DeskCall Reply) (script : List C) (i : ℕ) (own_state : E) (past : List (Past A E)) (now : Now) (p : Place T) (c : C) → past ≡ [] → slice_get script 0 ≡ Some c → AsksAtOnce (meaning_of speech) c →
+    -- a first one that runs booked a request
+    runs-asked : (course : Course DeskCall Reply) (script : List C) (i : ℕ) (own_state : E) (past : List (Past A E)) (now : Now) (p : Place T) (c : C) → past ≡ [] → slice_get script 0 ≡ Some c → BeginsWithRequest ((meaning_of speech).asks own_state c) →
         Runs speech course script i own_state past now p → 1 ≤ length (requests_of (book_of now) i 0)
     runs-asked course script i own_state past now p c none at at_once runs =
         let none-yet : length past ≡ 0 = ap length none in
@@ -274,7 +274,7 @@ module _ {C T A E : Type 0} (speech : Speech C T A E) where
         let u = runs.under_way in
         let who : Who = record { handle = i; command = length past } in
         let k = commands own_state runs.command in
-        let first = asks-first d (speech.ends own_state runs.command) k.sane k.nothing (subst (λ (x : C). BeginsWithRequest ((meaning_of speech).asks own_state x)) (sym same) (at_once.begins own_state)) in
+        let first = asks-first d (speech.ends own_state runs.command) k.sane k.nothing (subst (λ (x : C). BeginsWithRequest ((meaning_of speech).asks own_state x)) (sym same) at_once) in
         let some : 1 ≤ length (requests_of (book_of now) i (length past)) =
         some-or-none (requests_of (book_of now) i (length past)) (λ empty. never-waits (ran_by d (u.last ∷ u.before)).left
         (still-asks course who d (u.last ∷ u.before) first u.ready.turns
@@ -282,18 +282,24 @@ module _ {C T A E : Type 0} (speech : Speech C T A E) where
         subst (λ (n : ℕ). 1 ≤ length (requests_of (book_of now) i n)) none-yet some
 
     -- so the first command of a script did
-    first-asked : (course : Course DeskCall Reply) (script : List C) (i : ℕ) (h : HandleState T A E) (past : List (Past A E)) (now : Now) (s : State) (c : C) → slice_get script 0 ≡ Some c → AsksAtOnce (meaning_of speech) c →
+    first-asked : (course : Course DeskCall Reply) (script : List C) (i : ℕ) (h : HandleState T A E) (past : List (Past A E)) (now : Now) (s : State) (c : C) → slice_get script 0 ≡ Some c → BeginsWithRequest ((meaning_of speech).asks speech.begins c) →
         0 < length script → IsQuiet speech script s h → HandleKept speech course script i h past now → 1 ≤ length (requests_of (book_of now) i 0)
     first-asked course script i h past now s c at at_once some quiet k = by past refl
       where
         answered : length h.answers ≡ length past
         answered = ap length k.answers ∙ length-map past (λ (x : Past A E). x.ending.answer)
 
+        -- it runs by what a script has before its first command
+        asks-so : past ≡ [] → BeginsWithRequest ((meaning_of speech).asks h.own c)
+        asks-so none =
+            let new : speech.begins ≡ h.own = same_Some speech.begins h.own (subst (λ (p : List (Past A E)). slice_get (states_of speech.begins p) (length p) ≡ Some h.own) none k.own) in
+            subst (λ (own : E). BeginsWithRequest ((meaning_of speech).asks own c)) new at_once
+
         waits : past ≡ [] → IsQuiet speech script s h → 1 ≤ length (requests_of (book_of now) i 0)
         waits none (AllDone idle whole) = absurd (omega (arith, some, whole, answered, ap length none))
-        waits none (Awaits place is empty) = runs-asked course script i h.own past now place c none at at_once
+        waits none (Awaits place is empty) = runs-asked course script i h.own past now place c none at (asks-so none)
             (subst (λ (o : Option (Place T)). Does speech course script i h.own past now o) is k.does)
-        waits none (HoldsBack place is puts two) = runs-asked course script i h.own past now place c none at at_once
+        waits none (HoldsBack place is puts two) = runs-asked course script i h.own past now place c none at (asks-so none)
             (subst (λ (o : Option (Place T)). Does speech course script i h.own past now o) is k.does)
 
         by : (p : List (Past A E)) → past ≡ p → 1 ≤ length (requests_of (book_of now) i 0)
@@ -301,12 +307,14 @@ module _ {C T A E : Type 0} (speech : Speech C T A E) where
         by (x ∷ xs) is =
             let d = k.done 0 x (ap (λ (p : List (Past A E)). slice_get p 0) is) in
             let same : d.command ≡ c = same_Some d.command c (sym d.stands ∙ at) in
+            let new : speech.begins ≡ d.before = same_Some speech.begins d.before d.had in
             some-booked course i (begun_in nowhere x.times.begins) ((meaning_of speech).asks d.before d.command) _ _ _
-            (subst (λ (y : C). BeginsWithRequest ((meaning_of speech).asks d.before y)) (sym same) (at_once.begins d.before)) d.unfolds
+            (subst (λ (y : C). BeginsWithRequest ((meaning_of speech).asks d.before y)) (sym same)
+            (subst (λ (own : E). BeginsWithRequest ((meaning_of speech).asks own c)) new at_once)) d.unfolds
 
-    first-of : (script : List C) → 0 < length script → All (AsksAtOnce (meaning_of speech)) script → (c : C) × ((slice_get script 0 ≡ Some c) × AsksAtOnce (meaning_of speech) c)
-    first-of [] some all = absurd (omega (arith, some))
-    first-of (c ∷ cs) some all = (c, (refl, All-head (AsksAtOnce (meaning_of speech)) c cs all))
+    first-of : (script : List C) → 0 < length script → AsksAtOnce (meaning_of speech) script → (c : C) × ((slice_get script 0 ≡ Some c) × BeginsWithRequest ((meaning_of speech).asks speech.begins c))
+    first-of [] some h = absurd (omega (arith, some))
+    first-of (c ∷ cs) some h = (c, (refl, h.first))
 
     pub none-kept : (call : Call C) (settings : Settings) (opening : List ℕ) (first : List RawMessage) (new : SessionState T A E) (link : LinkView) (turns : List ℕ) → IsNewSession speech call.scripts new →
         new.streams.closing ≡ false → new.streams.delivered ≡ 0 → (s : SessionState T A E) (l : LinkView) (t : SessionState T A E) (m : LinkView) → (made : MakesAll speech call.scripts turns new link t m) → (before after : ℕ) →
@@ -328,7 +336,7 @@ module _ {C T A E : Type 0} (speech : Speech C T A E) where
         let past = past-there call.scripts k.all.pasts i script k.all.as_many at in
         let quiet = q.quiet i handle.0 handle.1 in
         let same : quiet.0 ≡ script = same_Some quiet.0 script (sym quiet.1 ∙ at) in
-        let c = first-of script some (all-get (λ (x : List C). All (AsksAtOnce (meaning_of speech)) x) call.scripts i script at at_once) in
+        let c = first-of script some (all-get (AsksAtOnce (meaning_of speech)) call.scripts i script at at_once) in
         let booked = first-asked _ script i handle.0 past.0 so st c.0 c.1.0 c.1.1 some (subst (λ (x : List C). IsQuiet speech x st handle.0) same quiet.2) (k.all.each i script handle.0 past.0 at handle.1 past.1) in
         let here : i ≡ 0 + i = omega arith in
         subst (λ (n : ℕ). 1 ≤ own n (book_of so)) here (omega (arith, booked, some-of i 0 0 (book_of so)))) in
