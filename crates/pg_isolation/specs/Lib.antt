@@ -1,3 +1,4 @@
 pub mod Reads
 pub mod Names
 pub mod Told
+pub mod KeptApart

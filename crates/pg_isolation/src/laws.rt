@@ -11,6 +11,7 @@ ghost use Rattle.pg_query.specs.declared.desk_call.DeskCall.{DeskCall};
 ghost use Rattle.pg_query.specs.declared.desk_call.Reply.{Reply};
 ghost use Rattle.pg_turns.specs.Speeches.{Speech, meaning_of};
 ghost use Rattle.pg_table.specs.Table.{table};
+ghost use Rattle.pg_isolation.specs.KeptApart.{AreKeptApart};
 ghost use Rattle.pg_isolation.specs.Names.{named};
 ghost use Rattle.pg_isolation.specs.Reads.{AreIsolated, EachAnswers};
 ghost use Rattle.pg_isolation.specs.Told.{DeskTells};
@@ -60,4 +61,11 @@ pub fn desks_of_sessions()
     ensures ended_well { (s : Session Command Answer) (taken : List ℕ) (ended : EndedWell (meaning_of table) s taken) → DeskTells ended.asked }
     ensures over_any_link { (scripts : List (List Command)) (turns : List ℕ) (report : Report Answer)
         (ran : IsRun (meaning_of table) scripts turns report) → DeskTells ran.asked }
+{}
+
+/// The commands of a session of the table's that ended well, or has run, are kept apart: all of this, of one session.
+pub fn commands_are_kept_apart()
+    ensures ended_well { (s : Session Command Answer) (taken : List ℕ) (ended : EndedWell (meaning_of table) s taken) → AreKeptApart ended.has_run }
+    ensures over_any_link { (scripts : List (List Command)) (turns : List ℕ) (report : Report Answer)
+        (ran : IsRun (meaning_of table) scripts turns report) → AreKeptApart ran.has_run }
 {}

@@ -4,6 +4,6 @@
 mod laws;
 
 pub use laws::{
-    answers_of_sessions, commands_go_by_names, desks_of_sessions, isolation_of_runs,
-    isolation_of_sessions, what_desks_tell, what_each_command_answered,
+    answers_of_sessions, commands_are_kept_apart, commands_go_by_names, desks_of_sessions,
+    isolation_of_runs, isolation_of_sessions, what_desks_tell, what_each_command_answered,
 };

@@ -19,17 +19,16 @@ use Rattle.pg_text.specs.declared.command.Command.{Command}
 use Rattle.pg_text.specs.declared.report.Report.{Report}
 use Rattle.pg_tool.specs.declared.play.Play.{Play}
 use Rattle.pg_failed.specs.Calls.{Call}
-use Rattle.pg_course.proofs.Headlines.{headline}
-use Rattle.pg_course.specs.Simples.{Headline}
 use Rattle.pg_headline.specs.Endings.{EndedWell, IsRun, course_of, replies}
+use Rattle.pg_isolation.specs.KeptApart.{AreKeptApart}
+use Rattle.pg_isolation.proofs.KeptApart.{kept-apart}
 use Rattle.pg_spec.specs.RawMessages.{groups}
 use Rattle.pg_turns.specs.Speeches.{meaning_of}
 use Rattle.pg_table.specs.Headlines.{told_in}
-use Rattle.pg_table.specs.Table.{simply, table}
-use Rattle.pg_table.proofs.SimpleMeans.{are-simple}
+use Rattle.pg_table.specs.Table.{table}
 use Rattle.pg_tool.specs.Fails.{BreaksLater, PlaysWithin, SessionFails}
 use Rattle.pg_tool.specs.Plays.{IsLimited, state_of}
-use Rattle.pg_tool.specs.TableContract.{HasHeadline, IsEndedWell, RanByHeadline, session_of, table_result}
+use Rattle.pg_tool.specs.TableContract.{EndedApart, IsEndedWell, RanApart, session_of, table_result}
 use Rattle.pg_tool.proofs.AtTable.{ends-well, is-run}
 use Rattle.pg_tool.proofs.Limiting.{map_bytes}
 
@@ -94,27 +93,24 @@ pub has_run : (call : Call Command) (settings : Settings) (r : Result Report Err
 has_run call settings (Err e) played = tt
 has_run call settings (Ok report) played = is-run settings call.nonce call.scripts call.turns call.before call.after (told_in report) played.0
 
--- ---- and of its simple queries, whatever other commands ran beside them
+-- ---- and its commands were kept apart
 
-pub has_headline : (call : Call Command) (r : Result Report Error) → IfOk (table_result r) (IsEndedWell call) → IfOk (table_result r) (HasHeadline call)
-has_headline call (Err e) ended = tt
-has_headline call (Ok report) ended = (
+pub ended_apart : (call : Call Command) (r : Result Report Error) → IfOk (table_result r) (IsEndedWell call) → IfOk (table_result r) (EndedApart call)
+ended_apart call (Err e) ended = tt
+ended_apart call (Ok report) ended = (
   ended.0,
   ended.1,
   map_bytes call.before call.after (λ g t. EndedWell (meaning_of table) (session_of call ended.0 g (told_in report)) t)
-      (λ g t. (e : EndedWell (meaning_of table) (session_of call ended.0 g (told_in report)) t)
-      × Headline simply call.scripts report.answers (course_of (told_in report) (replies (session_of call ended.0 g (told_in report))) e.asked) e.has_run.schedule)
+      (λ g t. (e : EndedWell (meaning_of table) (session_of call ended.0 g (told_in report)) t) × AreKeptApart e.has_run)
       (λ g t well. (
         well,
-        headline (meaning_of table) simply are-simple call.scripts call.turns report.answers
-            (course_of (told_in report) (replies (session_of call ended.0 g (told_in report))) well.asked) well.has_run,
+        kept-apart call.scripts call.turns report.answers (course_of (told_in report) (replies (session_of call ended.0 g (told_in report))) well.asked) well.has_run,
       )) ended.2,
 )
 
-pub ran_by_headline : (call : Call Command) (r : Result Report Error) → IfOk (table_result r) (IsRun (meaning_of table) call.scripts call.turns) → IfOk (table_result r) (RanByHeadline call)
-ran_by_headline call (Err e) run = tt
-ran_by_headline call (Ok report) run =
-    (run, headline (meaning_of table) simply are-simple call.scripts call.turns report.answers (course_of (told_in report) (groups run.later) run.asked) run.has_run)
+pub ran_apart : (call : Call Command) (r : Result Report Error) → IfOk (table_result r) (IsRun (meaning_of table) call.scripts call.turns) → IfOk (table_result r) (RanApart call)
+ran_apart call (Err e) run = tt
+ran_apart call (Ok report) run = (run, kept-apart call.scripts call.turns report.answers (course_of (told_in report) (groups run.later) run.asked) run.has_run)
 
 -- memory lacked for the report of a session that was played to its end
 pub lacks_behind : (settings : Settings) (nonce : List ℕ) (scripts : List (List Command)) (given : List ℕ) (limit : ℕ) (before link after : LinkView) (startup : Startup) (opening : List ℕ) (streams : Streams) (p q : Play) (r : Result Report Error) →

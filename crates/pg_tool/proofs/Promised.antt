@@ -44,7 +44,7 @@ use Rattle.pg_tool.proofs.Causing.{caused}
 use Rattle.pg_tool.proofs.Completing.{must_all}
 use Rattle.pg_tool.proofs.Following.{continues_same}
 use Rattle.pg_tool.proofs.Limiting.{ended_within, holds_all, keeps_limit}
-use Rattle.pg_tool.proofs.Played.{ended_well, has_headline, has_run, ran_by_headline}
+use Rattle.pg_tool.proofs.Played.{ended_apart, ended_well, has_run, ran_apart}
 use Rattle.pg_tool.proofs.Requiring.{asks_so, shakes_cause, shakes_so, vain_cause, vain_goes, vain_holds, vain_kept, vain_open, vain_sent}
 use Rattle.pg_tool.proofs.Sending.{asks_all, leaves_all, sends_all}
 use Rattle.pg_tool.proofs.Simply.{keeps_simply}
@@ -80,8 +80,8 @@ both call r beside ended run sent kept = record { by_table = contract; simply = 
     contract = record {
       ended_well = ended;
       has_run = run;
-      headline = has_headline call r ended;
-      headline_over_any_link = ran_by_headline call r run;
+      kept_apart = ended_apart call r ended;
+      kept_apart_over_any_link = ran_apart call r run;
       closed = beside.closed;
       stays_open = beside.stays_open;
       link = beside.link;

@@ -1,23 +1,22 @@
 -- What a session promises, by what the commands of the table mean.
 use Rattle.std.specs.Prelude.{◌≡◌, ◌<◌, ℕ, List, length, Result, Ok, Err, IfOk, IfErr, ⊤}
-use Rattle.pg_course.specs.Simples.{Headline}
 use Rattle.pg_failed.specs.Calls.{Call, apart}
 use Rattle.pg_failed.specs.Completeness.{MustEndWell}
 use Rattle.pg_failed.specs.Kept.{NoneKeptBack}
 use Rattle.pg_failed.specs.Sent.{SentInOrder}
 use Rattle.pg_faults.specs.declared.error.Error.{Error}
-use Rattle.pg_headline.specs.Endings.{EndedWell, IsRun, Report, Session, course_of, replies}
+use Rattle.pg_headline.specs.Endings.{EndedWell, IsRun, Report, Session}
+use Rattle.pg_isolation.specs.KeptApart.{AreKeptApart}
 use Rattle.pg_promises.specs.Causes.{HasCause, MustRefuse, OfDialogue, Unless, WithSettings}
 use Rattle.pg_spec.specs.Faults.{Failure, LimitReached}
 use Rattle.pg_spec.specs.Links.{LinkView, OfBytes}
-use Rattle.pg_spec.specs.RawMessages.{groups}
 use Rattle.pg_spec.specs.Settings.{Settings}
 use Rattle.pg_text.specs.declared.command.Answer.{Answer}
 use Rattle.pg_text.specs.declared.command.Command.{Command}
 use Rattle.pg_text.specs.declared.report.Report as told
 use Rattle.pg_turns.specs.Speeches.{meaning_of}
 use Rattle.pg_table.specs.Headlines.{told_in}
-use Rattle.pg_table.specs.Table.{simply, table}
+use Rattle.pg_table.specs.Table.{table}
 use Rattle.pg_wire.specs.LinkCalls.{Continues}
 use Rattle.pg_session.specs.WholeSession.{IsClosed, LeavesOpen}
 
@@ -51,15 +50,13 @@ session_of call s g report = record { settings = s; nonce = call.nonce; scripts 
 abbrev pub IsEndedWell : Call Command → Report Answer → Type 0
 IsEndedWell call report = OfDialogue (apart call) (λ s g t. EndedWell (meaning_of table) (session_of call s g report) t)
 
--- in a session that ended well so, each simple query read exactly its own group, whatever other commands ran beside it
-abbrev pub HasHeadline : Call Command → Report Answer → Type 0
-HasHeadline call report = OfDialogue (apart call) (λ s g t. (ended : EndedWell (meaning_of table) (session_of call s g report) t)
-    × Headline simply call.scripts report.answers (course_of report (replies (session_of call s g report)) ended.asked) ended.has_run.schedule)
+-- In a session that ended well so its commands were kept apart.
+abbrev pub EndedApart : Call Command → Report Answer → Type 0
+EndedApart call report = OfDialogue (apart call) (λ s g t. (ended : EndedWell (meaning_of table) (session_of call s g report) t) × AreKeptApart ended.has_run)
 
 -- the same, over every link
-abbrev pub RanByHeadline : Call Command → Report Answer → Type 0
-RanByHeadline call report = (run : IsRun (meaning_of table) call.scripts call.turns report)
-    × Headline simply call.scripts report.answers (course_of report (groups run.later) run.asked) run.has_run.schedule
+abbrev pub RanApart : Call Command → Report Answer → Type 0
+RanApart call report = (run : IsRun (meaning_of table) call.scripts call.turns report) × AreKeptApart run.has_run
 
 -- More bytes than the limit are given only where the session fails for that, and tells how many, or memory lacks.
 abbrev pub KeepsLimit : Call Command → TableResult → Type 0
@@ -75,9 +72,9 @@ pub record TableContract (call : Call Command) (result : TableResult) : Type 0 w
   -- where it answers Ok, the main theorem, and what can be said of it over every link
   pub ended_well : IfOk result (IsEndedWell call)
   pub has_run : IfOk result (IsRun (meaning_of table) call.scripts call.turns)
-  -- and of these its simple queries, by the theorem on them
-  pub headline : IfOk result (HasHeadline call)
-  pub headline_over_any_link : IfOk result (RanByHeadline call)
+  -- and its commands were kept apart
+  pub kept_apart : IfOk result (EndedApart call)
+  pub kept_apart_over_any_link : IfOk result (RanApart call)
   -- and all that the link took is flushed, and it is shut down; where it fails, it isn't shut down before Terminate was flushed
   pub closed : IfOk result (λ report. IsClosed call.before call.after)
   pub stays_open : IfErr result (LeavesOpen call.before call.after)
