@@ -11,12 +11,13 @@ use Rattle.pg_query.specs.Faults.{of_fault}
 use Rattle.pg_query.specs.Meaning.{GoesToAnswer}
 use Rattle.pg_query.specs.declared.desk_call.Cleanup.TheVariants.{Release}
 use Rattle.pg_execute.specs.Executes.{posts, posts_before}
-use Rattle.pg_streams.specs.Collecting.{Drops, Dropped, Kept, Posts, Sends, Sent, Refused, hung, stands}
-use Rattle.pg_streams.specs.Families.{AnswersFor}
+use Rattle.pg_streams.specs.Collecting.{Drops, Dropped, Kept, Posts, Sends, Sent, Refused, family_behind, hung, was_told}
+use Rattle.pg_streams.specs.Families.{AnswersFor, Family}
+use Rattle.pg_streams.specs.Hearing.{First}
 use Rattle.pg_streams.specs.declared.giving.Told.{Told}
 use Rattle.pg_streams.specs.declared.giving.Told.TheVariants.{Ends, Fails}
 use Rattle.pg_streams.specs.declared.items.Items.{Items}
-use Rattle.pg_streams.proofs.Going.{Joins}
+use Rattle.pg_streams.proofs.Going.{Joins, TakesNone, brings-none}
 
 -- where it is answered so
 abbrev pub settled : {T : Type 0} → Result T Error → Result (Unit {0}) Error → Dialogue T
@@ -28,6 +29,7 @@ pub record Closes {D : Type 0} (becomes : D → List Event → D → Type 0) (st
   pub events : List Event
   pub became : becomes a events b
   pub walked : (r : Result T Error) → Walks stamp (posts_before close r) id events (settled r said) id
+  pub quiet : TakesNone events
 
 sent-said : {D : Type 0} (becomes : D → List Event → D → Type 0) (stamp : Stamp) (a : D) (part : List ℕ) (b : D) (T : Type 0) (id sent : ℕ) (answer : Result (Unit {0}) DeskFault) →
     becomes a (call.Book stamp part false (Ok sent) ∷ call.HangUp sent answer ∷ []) b → Closes becomes stamp a (Some part) b T id (hung answer)
@@ -35,11 +37,13 @@ sent-said becomes stamp a part b T id sent (Ok x) ev = record {
   events = call.Book stamp part false (Ok sent) ∷ call.HangUp sent (Ok x) ∷ [];
   became = ev;
   walked = λ r. (Leave sent (Answer r), id, (refl, refl, refl, refl, refl), (Answer r, id, (refl, refl, refl), (refl, refl)));
+  quiet = (refl, (refl, tt));
 }
 sent-said becomes stamp a part b T id sent (Err e) ev = record {
   events = call.Book stamp part false (Ok sent) ∷ call.HangUp sent (Err e) ∷ [];
   became = ev;
   walked = λ r. (Leave sent (Answer r), id, (refl, refl, refl, refl, refl), (Answer (Err (of_fault e)), id, (refl, refl, refl), (refl, refl)));
+  quiet = (refl, (refl, tt));
 }
 
 by-sending : {D : Type 0} (becomes : D → List Event → D → Type 0) (stamp : Stamp) (a : D) (part : List ℕ) (b : D) (T : Type 0) (id : ℕ) (said : Result (Unit {0}) Error) →
@@ -49,6 +53,7 @@ by-sending becomes stamp a part b T id said (Refused fault ev is) = subst (λ (x
   events = call.Book stamp part false (Err fault) ∷ [];
   became = ev;
   walked = λ r. (Answer (Err (of_fault fault)), id, (refl, refl, refl, refl, refl), (refl, refl));
+  quiet = (refl, tt);
 })
 
 -- of a request that there may be
@@ -60,6 +65,7 @@ closes becomes stays stamp a None b T id said h =
       events = [];
       became = subst (λ (x : _). becomes a [] x) (sym h.0) (stays a);
       walked = λ r. (refl, refl);
+      quiet = tt;
     })
 
 -- the events of a hanging up and a close, and where they lead from any answer
@@ -67,6 +73,7 @@ pub record Leads {D : Type 0} (becomes : D → List Event → D → Type 0) (sta
   pub events : List Event
   pub became : becomes a events b
   pub walked : (r : Result T Error) → Walks stamp (HangUp (posts_before close r)) id events (settled r said) id
+  pub quiet : TakesNone events
 
 pub drops : {D : Type 0} (becomes : D → List Event → D → Type 0) → ((a : D) → becomes a [] a) → Joins becomes → (stamp : Stamp) (a : D) (id : ℕ) (close : Option (List ℕ)) (b : D) (T : Type 0) (said : Result (Unit {0}) Error) →
     Drops becomes stamp a id close b said → Leads becomes stamp a id close b T said
@@ -76,12 +83,14 @@ drops becomes stays joins stamp a id close b T said (Dropped mid ev posted) =
       events = call.HangUp id (Ok tt) ∷ k.events;
       became = joins a mid b (call.HangUp id (Ok tt) ∷ []) k.events ev k.became;
       walked = λ r. (posts_before close r, id, (refl, refl, refl), k.walked r);
+      quiet = (refl, k.quiet);
     }
 drops becomes stays joins stamp a id close b T said (Kept fault ev is) =
     subst (λ (x : Result (Unit {0}) Error). Leads becomes stamp a id close b T x) (sym is) (record {
       events = call.HangUp id (Err fault) ∷ [];
       became = ev;
       walked = λ r. (Answer (Err (of_fault fault)), id, (refl, refl, refl), (refl, refl));
+      quiet = (refl, tt);
     })
 
 -- what is left to do of a stream is to close it behind nothing
@@ -123,21 +132,27 @@ settled-unless r (Err e) = refl
 module _ {D G I W : Type 0} {becomes : D → List Event → D → Type 0} (stays : (a : D) → becomes a [] a) (joins : Joins becomes) {stamp : Stamp} {a b : D}
     (tells : G → List RawMessage → Option (Result W Error)) (with_item : I → W → W) (at_end : G → W) (s : Items G) (close : Option (List ℕ)) (same : close ≡ s.close) (said : Result (Unit {0}) Error) where
   -- the end
-  pub end-settled : (told : Told I) → told ≡ Ends → Posts becomes stamp a close b said → AnswersFor becomes stamp a (stands tells with_item at_end told s) b (λ before. unless (Ok (before (at_end s.giving))) said)
-  end-settled told is h =
+  pub end-settled : (told : Told I) → told ≡ Ends → Posts becomes stamp a close b said → (IsFirst : First G I → Type 0) → IsFirst (record { told = Some Ends; giving = s.giving; left = [] }) →
+      AnswersFor becomes stamp a (family_behind tells with_item at_end told s) b (λ before. unless (Ok (before (at_end s.giving))) said) IsFirst
+  end-settled told is h IsFirst first =
       let k = closes becomes stays stamp a s.close b W s.id said (subst (λ (o : Option (List ℕ)). Posts becomes stamp a o b said) same h) in
-      subst (λ (t : Told I). AnswersFor becomes stamp a (stands tells with_item at_end t s) b (λ before. unless (Ok (before (at_end s.giving))) said)) (sym is) (record {
-        last = λ before. record { dialogue = settled (Ok (before (at_end s.giving))) said; reads = s.id };
-        goes = record { events = k.events; became = k.became; walked = λ before. k.walked (Ok (before (at_end s.giving))) };
+      let last : Family (W → W) W G I = record { place = λ before. record { dialogue = settled (Ok (before (at_end s.giving))) said; reads = s.id }; first = was_told Ends s } in
+      subst (λ (t : Told I). AnswersFor becomes stamp a (family_behind tells with_item at_end t s) b (λ before. unless (Ok (before (at_end s.giving))) said) IsFirst) (sym is) (record {
+        last = last;
+        goes = record { events = k.events; became = k.became; walked = λ before. k.walked (Ok (before (at_end s.giving))); brought = brings-none (was_told Ends s) k.events k.quiet };
         answers = λ before. inl (settled-unless (Ok (before (at_end s.giving))) said);
+        found = inl first;
       })
 
   -- an error
-  pub error-settled : (told : Told I) (e : Error) → told ≡ Fails e → Drops becomes stamp a s.id close b said → AnswersFor becomes stamp a (stands tells with_item at_end told s) b (λ before. unless (Err e) said)
-  error-settled told e is h =
+  pub error-settled : (told : Told I) (e : Error) → told ≡ Fails e → Drops becomes stamp a s.id close b said → (IsFirst : First G I → Type 0) → IsFirst (record { told = Some (Fails e); giving = s.giving; left = [] }) →
+      AnswersFor becomes stamp a (family_behind tells with_item at_end told s) b (λ before. unless (Err e) said) IsFirst
+  error-settled told e is h IsFirst first =
       let k = drops becomes stays joins stamp a s.id s.close b W said (subst (λ (o : Option (List ℕ)). Drops becomes stamp a s.id o b said) same h) in
-      subst (λ (t : Told I). AnswersFor becomes stamp a (stands tells with_item at_end t s) b (λ before. unless (Err e) said)) (sym is) (record {
-        last = λ before. record { dialogue = settled (Err e) said; reads = s.id };
-        goes = record { events = k.events; became = k.became; walked = λ before. k.walked (Err e) };
+      let last : Family (W → W) W G I = record { place = λ before. record { dialogue = settled (Err e) said; reads = s.id }; first = was_told (Fails e) s } in
+      subst (λ (t : Told I). AnswersFor becomes stamp a (family_behind tells with_item at_end t s) b (λ before. unless (Err e) said) IsFirst) (sym is) (record {
+        last = last;
+        goes = record { events = k.events; became = k.became; walked = λ before. k.walked (Err e); brought = brings-none (was_told (Fails e) s) k.events k.quiet };
         answers = λ before. inl (settled-unless (Err e) said);
+        found = inl first;
       })

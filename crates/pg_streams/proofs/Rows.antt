@@ -14,7 +14,7 @@ use Rattle.pg_execute.specs.Rows.{rows_by, rows_read}
 use Rattle.pg_execute.specs.declared.got.Got.{Got}
 use Rattle.pg_execute.specs.declared.how_many.HowMany.TheVariants.{Any}
 use Rattle.pg_streams.specs.RowStreams.{RowsGiven, rows_from, rows_given, with_row}
-use Rattle.pg_streams.specs.RowTelling.{Shows, ShowsOpening}
+use Rattle.pg_streams.specs.RowTelling.{Shows, ShowsOpening, bound_heard, opening_heard, row_heard, rows_heard}
 use Rattle.pg_streams.specs.Telling.{GivesOn, told_behind}
 use Rattle.pg_streams.proofs.Telling.{told-whole}
 use Rattle.pg_streams.specs.declared.giving.Told.{Told}
@@ -117,7 +117,7 @@ gives-shown old new raw Suspended None is h =
 gives-shown old new raw Ready (Some Ends) is h =
     subst (λ (g : RowGiving). GivesOn told-rows with_row end-rows old raw (Some Ends) g) (sym h) (told-said old.statement true old.affected raw Ready is [])
 gives-shown old new raw (Wrong f) (Some (Fails e)) is h =
-    told-said old.statement true old.affected raw (Wrong f) is [] ∙ ap (λ (x : Error). let a : Answer = Some (Err x) in a) (sym h)
+    told-said old.statement true old.affected raw (Wrong f) is [] ∙ ap (λ (x : Error). let a : Answer = Some (Err x) in a) (sym h.0)
 gives-shown old new raw said told is h = absurd h
 
 -- ---- up to BindComplete
@@ -142,8 +142,26 @@ opens-shown old new raw Bound (Some (Item u)) unbound is h =
       λ ms. tells ms ∙ sym (told-whole (rows_from old.statement true None ms)),
     )
 opens-shown old new raw (Wrong f) (Some (Fails e)) unbound is h =
-    ap (λ (b : Bool). rows_from old.statement b None (raw ∷ [])) unbound ∙ told-said old.statement false None raw (Wrong f) is [] ∙ ap (λ (x : Error). let a : Answer = Some (Err x) in a) (sym h)
+    ap (λ (b : Bool). rows_from old.statement b None (raw ∷ [])) unbound ∙ told-said old.statement false None raw (Wrong f) is [] ∙ ap (λ (x : Error). let a : Answer = Some (Err x) in a) (sym h.0)
 opens-shown old new raw said told unbound is h = absurd h
+
+-- ---- what is told first
+
+-- what a message shows is told
+row-shown : (old new : RowGiving) (said : Said) (told : Option (Told (RowOf Column))) → Shows said old told new → row_heard old said ≡ record { told = told; giving = new }
+row-shown old new (Row cells) (Some (Item row)) h = λ i. record { told = Some (Item (sym h.0 i)); giving = sym h.1 i }
+row-shown old new (Complete n) None h = λ i. record { told = None; giving = sym h i }
+row-shown old new Empty None h = λ i. record { told = None; giving = sym h i }
+row-shown old new Suspended None h = λ i. record { told = None; giving = sym h i }
+row-shown old new Ready (Some Ends) h = λ i. record { told = Some Ends; giving = sym h i }
+row-shown old new (Wrong f) (Some (Fails e)) h = λ i. record { told = Some (Fails (sym h.0 i)); giving = sym h.1 i }
+row-shown old new said told h = absurd h
+
+-- the same before BindComplete
+bound-shown : (old new : RowOpening) (said : Said) (told : Option (Told (Unit {0}))) → ShowsOpening said old told new → bound_heard old said ≡ record { told = told; giving = new }
+bound-shown old new Bound (Some (Item u)) h = λ i. record { told = Some (Item u); giving = sym h i }
+bound-shown old new (Wrong f) (Some (Fails e)) h = λ i. record { told = Some (Fails (sym h.0 i)); giving = sym h.1 i }
+bound-shown old new said told h = absurd h
 
 -- ---- the readings
 
@@ -163,3 +181,15 @@ gives-seen old new raw m means (Err e) h = tt
 pub opens-seen : (old new : RowOpening) (raw : RawMessage) (m : Message) → message_of raw ≡ Ok m → old.bound ≡ false → (told : Told (Unit {0})) →
     ShowsOpening (query_said false (length old.statement.columns) m) old (Some told) new → GivesOn told-opening take-none end-opening old raw (Some told) new
 opens-seen old new raw m means unbound told h = opens-shown old new raw (query_said false (length old.statement.columns) m) (Some told) unbound (says-meant false (length old.statement.columns) raw m means) h
+
+-- and is heard
+pub rows-heard : (old new : RowGiving) (raw : RawMessage) (m : Message) → message_of raw ≡ Ok m → (r : Result (Option (Told (RowOf Column))) AllocError) →
+    IfOk r (λ told. Shows (query_said true (length old.statement.columns) m) old told new) → IfOk r (λ told. rows_heard old raw ≡ record { told = told; giving = new })
+rows-heard old new raw m means (Ok told) h =
+    ap (λ (said : Said). row_heard old said) (says-meant true (length old.statement.columns) raw m means) ∙ row-shown old new (query_said true (length old.statement.columns) m) told h
+rows-heard old new raw m means (Err e) h = tt
+
+pub opening-heard : (old new : RowOpening) (raw : RawMessage) (m : Message) → message_of raw ≡ Ok m → (told : Told (Unit {0})) →
+    ShowsOpening (query_said false (length old.statement.columns) m) old (Some told) new → opening_heard old raw ≡ record { told = Some told; giving = new }
+opening-heard old new raw m means told h =
+    ap (λ (said : Said). bound_heard old said) (says-meant false (length old.statement.columns) raw m means) ∙ bound-shown old new (query_said false (length old.statement.columns) m) (Some told) h

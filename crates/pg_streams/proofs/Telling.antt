@@ -1,5 +1,5 @@
 -- What a message tells, and what that makes of the dialogue of one who collects the items.
-use Rattle.std.proofs.Common.{◌≡◌, ℕ, List, [], ◌∷◌, false, if◌then◌else◌, Option, Some, None, is_some, Result, Ok, Err, refl, sym, ◌∙◌, ap, subst}
+use Rattle.std.proofs.Common.{◌≡◌, ℕ, List, [], ◌∷◌, ◌++◌, false, if◌then◌else◌, Option, Some, None, is_some, Result, Ok, Err, refl, sym, ◌∙◌, ap, subst}
 use Rattle.pg_spec.specs.Faults as spec
 use Rattle.pg_spec.specs.Messages.{message_of}
 use Rattle.pg_spec.specs.RawMessages.{RawMessage}
@@ -15,7 +15,9 @@ use Rattle.pg_query.specs.Reading.{ends, reads}
 use Rattle.pg_query.specs.declared.desk_call.Cleanup.TheVariants.{Release}
 use Rattle.pg_query.proofs.Walking.{feed-answer, feed-hang-up}
 use Rattle.pg_execute.specs.Executes.{posts, posts_before}
-use Rattle.pg_streams.specs.Collecting.{IsRefused, Keeps, Reads, collects, place_behind, stands, told_end}
+use Rattle.pg_streams.specs.Collecting.{IsRefused, Keeps, Reads, collects, family_behind, family_of, place_behind, stands, told_end, untold}
+use Rattle.pg_streams.specs.Families.{Family}
+use Rattle.pg_streams.specs.Hearing.{Heard, first_told, left_behind, told_or}
 use Rattle.pg_streams.specs.Telling.{told_behind, GivesOn}
 use Rattle.pg_streams.specs.declared.giving.Told.{Told}
 use Rattle.pg_streams.specs.declared.giving.Told.TheVariants.{Item, Ends, Fails}
@@ -128,17 +130,34 @@ pub none-of : {A : Type 0} (o : Option A) → ((x : A) → o ≡ Some x → ⊥)
 none-of None h = refl
 none-of (Some x) h = absurd (h x refl)
 
-module _ {G I W K : Type 0} (tells : G → List RawMessage → Option (Result W Error)) (with_item : I → W → W) (at_end : G → W) (what : G → K) (begin s : Items G) (left : List RawMessage)
-    (reads : (before : W → W) → place_behind tells s before ≡ place_behind tells begin before) where
+-- families are the same where their places are and what is told first is
+family-same : {P T G I : Type 0} (p q : Family P T G I) → ((plan : P) → p.place plan ≡ q.place plan) → ((more : List RawMessage) → p.first more ≡ q.first more) → p ≡ q
+family-same p q h k = λ i. record { place = λ plan. h plan i; first = λ more. k more i }
+
+module _ {G I : Type 0} (hears : G → RawMessage → Heard G I) (g : G) (m : RawMessage) (ms : List RawMessage) (next : G) where
+  -- the first message tells something
+  first-some : (told : Told I) → hears g m ≡ record { told = Some told; giving = next } → first_told hears g (m ∷ ms) ≡ record { told = Some told; giving = next; left = left_behind told ms }
+  first-some told is = ap (λ (h : Heard G I). told_or h.told h.giving ms (first_told hears h.giving ms)) is
+
+  -- or nothing
+  first-none : hears g m ≡ record { told = None; giving = next } → first_told hears g (m ∷ ms) ≡ first_told hears next ms
+  first-none is = ap (λ (h : Heard G I). told_or h.told h.giving ms (first_told hears h.giving ms)) is
+
+module _ {G I W K : Type 0} (tells : G → List RawMessage → Option (Result W Error)) (hears : G → RawMessage → Heard G I) (with_item : I → W → W) (at_end : G → W) (what : G → K) (begin s : Items G) (left : List RawMessage)
+    (reads : family_of tells hears s ≡ family_of tells hears begin) where
   -- what was read, with this left
   abbrev with-left : G → Items G
   with-left giving = record { giving = giving; id = s.id; batch = left; close = s.close; over = s.over }
 
+  -- the messages that came, by their first one
+  untold-from : (raw : RawMessage) (rest more : List RawMessage) → s.batch ≡ raw ∷ rest → untold hears s more ≡ first_told hears s.giving (raw ∷ (rest ++ more))
+  untold-from raw rest more front = ap (λ (l : List RawMessage). first_told hears s.giving (l ++ more)) front
+
   -- none is left
-  pub all-read : (o : Option Message) → o ≡ None → Nexts s.batch left (Ok o) → Reads tells with_item at_end begin (with-left s.giving) (Ok None)
+  pub all-read : (o : Option Message) → o ≡ None → Nexts s.batch left (Ok o) → Reads tells hears with_item at_end begin (with-left s.giving) (Ok None)
   all-read o is h =
       let none : (s.batch ≡ []) × (left ≡ []) = subst (λ (x : Option Message). Nexts s.batch left (Ok x)) is h in (
-        λ before. ap (λ (l : List RawMessage). place_behind tells (record { giving = s.giving; id = s.id; batch = l; close = s.close; over = s.over }) before) (none.1 ∙ sym none.0) ∙ reads before,
+        ap (λ (l : List RawMessage). family_of tells hears (record { giving = s.giving; id = s.id; batch = l; close = s.close; over = s.over })) (none.1 ∙ sym none.0) ∙ reads,
         none.1,
       )
 
@@ -148,30 +167,42 @@ module _ {G I W K : Type 0} (tells : G → List RawMessage → Option (Result W 
 
   -- it told something
   pub one-told : (o : Option Message) (m : Message) → o ≡ Some m → Nexts s.batch left (Ok o) → (giving : G) (t : Option (Told I)) (told : Told I) → t ≡ Some told →
-      ((raw : RawMessage) → message_of raw ≡ Ok (message_view m) → GivesOn tells with_item at_end s.giving raw t giving) → (before : W → W) → stands tells with_item at_end told (with-left giving) before ≡ place_behind tells begin before
-  one-told o m is h giving t told told-is gives before =
+      ((raw : RawMessage) → message_of raw ≡ Ok (message_view m) → GivesOn tells with_item at_end s.giving raw t giving) →
+      ((raw : RawMessage) → message_of raw ≡ Ok (message_view m) → hears s.giving raw ≡ record { told = t; giving = giving }) → family_behind tells with_item at_end told (with-left giving) ≡ family_of tells hears begin
+  one-told o m is h giving t told told-is gives heard =
       let k = taken o m is h in
-      something-told tells with_item at_end s (with-left giving) k.raw left k.front refl refl refl told
-      (subst (λ (x : Option (Told I)). GivesOn tells with_item at_end s.giving k.raw x giving) told-is (gives k.raw k.means)) before
-      ∙ reads before
+      family-same (family_behind tells with_item at_end told (with-left giving)) (family_of tells hears s)
+      (something-told tells with_item at_end s (with-left giving) k.raw left k.front refl refl refl told
+      (subst (λ (x : Option (Told I)). GivesOn tells with_item at_end s.giving k.raw x giving) told-is (gives k.raw k.means)))
+      (λ more. sym (untold-from k.raw left more k.front
+      ∙ first-some hears s.giving k.raw (left ++ more) giving told (subst (λ (x : Option (Told I)). hears s.giving k.raw ≡ record { told = x; giving = giving }) told-is (heard k.raw k.means))))
+      ∙ reads
 
   -- it told nothing
   pub none-told : (o : Option Message) (m : Message) → o ≡ Some m → Nexts s.batch left (Ok o) → (giving : G) (t : Option (Told I)) → t ≡ None →
-      ((raw : RawMessage) → message_of raw ≡ Ok (message_view m) → GivesOn tells with_item at_end s.giving raw t giving) → (before : W → W) → place_behind tells (with-left giving) before ≡ place_behind tells begin before
-  none-told o m is h giving t told-is gives before =
+      ((raw : RawMessage) → message_of raw ≡ Ok (message_view m) → GivesOn tells with_item at_end s.giving raw t giving) →
+      ((raw : RawMessage) → message_of raw ≡ Ok (message_view m) → hears s.giving raw ≡ record { told = t; giving = giving }) → family_of tells hears (with-left giving) ≡ family_of tells hears begin
+  none-told o m is h giving t told-is gives heard =
       let k = taken o m is h in
-      nothing-told tells with_item at_end s (with-left giving) k.raw left k.front refl refl refl
-      (subst (λ (x : Option (Told I)). GivesOn tells with_item at_end s.giving k.raw x giving) told-is (gives k.raw k.means)) before
-      ∙ reads before
+      family-same (family_of tells hears (with-left giving)) (family_of tells hears s)
+      (nothing-told tells with_item at_end s (with-left giving) k.raw left k.front refl refl refl
+      (subst (λ (x : Option (Told I)). GivesOn tells with_item at_end s.giving k.raw x giving) told-is (gives k.raw k.means)))
+      (λ more. sym (untold-from k.raw left more k.front
+      ∙ first-none hears s.giving k.raw (left ++ more) giving (subst (λ (x : Option (Told I)). hears s.giving k.raw ≡ record { told = x; giving = giving }) told-is (heard k.raw k.means))))
+      ∙ reads
 
   -- it is malformed
   pub fault-told : ((g : G) (raw : RawMessage) (fault : spec.WireFault) → message_of raw ≡ Err fault → tells g (raw ∷ []) ≡ Some (Err (spec.Parse (spec.Wire fault)))) →
-      (fault : WireFault) (told : Told I) → IsRefused fault (Ok told) → RefusedBy s.batch left (wire_fault fault) → (before : W → W) → stands tells with_item at_end told (with-left s.giving) before ≡ place_behind tells begin before
-  fault-told malformed fault told is h before =
+      ((g : G) (raw : RawMessage) (fault : spec.WireFault) → message_of raw ≡ Err fault → hears g raw ≡ record { told = Some (Fails (spec.Parse (spec.Wire fault))); giving = g }) →
+      (fault : WireFault) (told : Told I) → IsRefused fault (Ok told) → RefusedBy s.batch left (wire_fault fault) → family_behind tells with_item at_end told (with-left s.giving) ≡ family_of tells hears begin
+  fault-told malformed refuses fault told is h =
       let k : RefusesFirst s.batch left is.0 = subst (λ (x : Option spec.WireFault). RefusedBy s.batch left x) is.1 h in
-      subst (λ (t : Told I). stands tells with_item at_end t (with-left s.giving) before ≡ place_behind tells s before) (sym is.2)
-      (error-told tells with_item at_end s (with-left s.giving) k.raw k.rest k.front refl refl (spec.Parse (spec.Wire is.0)) (malformed s.giving k.raw is.0 k.means) before)
-      ∙ reads before
+      let e = spec.Parse (spec.Wire is.0) in
+      subst (λ (t : Told I). family_behind tells with_item at_end t (with-left s.giving) ≡ family_of tells hears s) (sym is.2)
+      (family-same (family_behind tells with_item at_end (Fails e) (with-left s.giving)) (family_of tells hears s)
+      (error-told tells with_item at_end s (with-left s.giving) k.raw k.rest k.front refl refl e (malformed s.giving k.raw is.0 k.means))
+      (λ more. sym (untold-from k.raw k.rest more k.front ∙ first-some hears s.giving k.raw (k.rest ++ more) s.giving (Fails e) (refuses s.giving k.raw is.0 k.means))))
+      ∙ reads
 
 -- ---- what stays
 

@@ -1,5 +1,5 @@
 -- Where the items of a reply stand for one who collects them all, and what a poll of them says.
-use Rattle.std.specs.Prelude.{◌≡◌, ℕ, List, [], ◌∷◌, Bool, true, false, Option, Some, None, is_some, Result, Ok, Err}
+use Rattle.std.specs.Prelude.{◌≡◌, ℕ, List, [], ◌∷◌, ◌++◌, Bool, true, false, Option, Some, None, is_some, Result, Ok, Err}
 use Rattle.futures.specs.declared.task.Poll.{Poll}
 use Rattle.futures.specs.declared.task.Poll.TheVariants.{Ready, Pending}
 use Rattle.pg_spec.specs.Faults as spec
@@ -17,7 +17,8 @@ use Rattle.pg_query.specs.Faults.{of_fault}
 use Rattle.pg_query.specs.Meaning.{Place}
 use Rattle.pg_query.specs.declared.desk_call.Cleanup.TheVariants.{Release}
 use Rattle.pg_execute.specs.Executes.{posts, posts_before}
-use Rattle.pg_streams.specs.Families.{GoesFor, AnswersFor, PausesFor}
+use Rattle.pg_streams.specs.Families.{Family, GoesFor, AnswersFor, PausesFor}
+use Rattle.pg_streams.specs.Hearing.{First, Heard, IsNoItem, first_told, left_behind}
 use Rattle.pg_streams.specs.Telling.{told_behind}
 use Rattle.pg_streams.specs.declared.giving.Told.{Told}
 use Rattle.pg_streams.specs.declared.giving.Told.TheVariants.{Item, Ends, Fails}
@@ -49,6 +50,22 @@ stands tells with_item at_end (Item i) s before = place_behind tells s (λ whole
 stands tells with_item at_end Ends s before = record { dialogue = posts_before s.close (Ok (before (at_end s.giving))); reads = s.id }
 stands tells with_item at_end (Fails e) s before = record { dialogue = HangUp (posts_before s.close (Err e)); reads = s.id }
 
+-- what is told first of the messages that came and aren't read, and of those that come
+abbrev pub untold : {G I : Type 0} → (hears : G → RawMessage → Heard G I) → Items G → List RawMessage → First G I
+untold hears s more = first_told hears s.giving (s.batch ++ more)
+
+-- the same where this was told
+abbrev pub was_told : {G I : Type 0} → Told I → Items G → List RawMessage → First G I
+was_told told s more = record { told = Some told; giving = s.giving; left = left_behind told (s.batch ++ more) }
+
+-- where they stand for each who has had something before
+abbrev pub family_of : {G I W : Type 0} → (tells : G → List RawMessage → Option (Result W Error)) → (hears : G → RawMessage → Heard G I) → Items G → Family (W → W) W G I
+family_of tells hears s = record { place = place_behind tells s; first = untold hears s }
+
+-- the same behind what was told
+abbrev pub family_behind : {G I W : Type 0} → (tells : G → List RawMessage → Option (Result W Error)) → (with_item : I → W → W) → (at_end : G → W) → Told I → Items G → Family (W → W) W G I
+family_behind tells with_item at_end told s = record { place = stands tells with_item at_end told s; first = was_told told s }
+
 -- what is left to do where they are given up: the request is hung up, and the statement is closed
 abbrev pub given_up : {G : Type 0} → Items G → Place (Unit {0})
 given_up s = record { dialogue = cleaning (Release ∷ posts s.close); reads = s.id }
@@ -68,26 +85,35 @@ pub record Keeps {G K : Type 0} (what : G → K) (old new : Items G) : Type 0 wh
   pub over : new.over ≡ old.over
 
 -- What the messages that came tell first; nothing is told where none is left.
-abbrev pub Reads : {G I W : Type 0} → (tells : G → List RawMessage → Option (Result W Error)) → (with_item : I → W → W) → (at_end : G → W) → Items G → Items G → Result (Option (Told I)) Error → Type 0
-Reads {W = W} tells with_item at_end old new (Ok None) = ((before : W → W) → place_behind tells new before ≡ place_behind tells old before) × (new.batch ≡ [])
-Reads {W = W} tells with_item at_end old new (Ok (Some told)) = (before : W → W) → stands tells with_item at_end told new before ≡ place_behind tells old before
-Reads tells with_item at_end old new (Err e) = e ≡ OutOfMemory
+abbrev pub Reads : {G I W : Type 0} → (tells : G → List RawMessage → Option (Result W Error)) → (hears : G → RawMessage → Heard G I) → (with_item : I → W → W) → (at_end : G → W) → Items G → Items G → Result (Option (Told I)) Error → Type 0
+Reads tells hears with_item at_end old new (Ok None) = (family_of tells hears new ≡ family_of tells hears old) × (new.batch ≡ [])
+Reads tells hears with_item at_end old new (Ok (Some told)) = family_behind tells with_item at_end told new ≡ family_of tells hears old
+Reads tells hears with_item at_end old new (Err e) = e ≡ OutOfMemory
+
+-- no item is told first, and with that it was read so far
+abbrev pub NoItemFirst : {G I : Type 0} → Items G → First G I → Type 0
+NoItemFirst new first = IsNoItem first.told × (first.giving ≡ new.giving)
+
+-- the end is told first, and with that it was read so far
+abbrev pub EndFirst : {G I : Type 0} → Items G → First G I → Type 0
+EndFirst new first = (first.told ≡ Some Ends) × (first.giving ≡ new.giving)
 
 -- what comes of them at a desk: what is told, or the error of a desk that gives no more
-abbrev pub Comes : {D G I W : Type 0} → (D → List Event → D → Type 0) → (tells : G → List RawMessage → Option (Result W Error)) → (with_item : I → W → W) → (at_end : G → W) → Stamp → D → (from : (W → W) → Place W) → D → Items G → Result (Told I) Error → Type 0
-Comes becomes tells with_item at_end stamp a from b new (Ok told) = GoesFor becomes stamp a from b (stands tells with_item at_end told new)
-Comes becomes tells with_item at_end stamp a from b new (Err e) = AnswersFor becomes stamp a from b (λ before. Err e)
+abbrev pub Comes : {D G I W : Type 0} → (D → List Event → D → Type 0) → (tells : G → List RawMessage → Option (Result W Error)) → (with_item : I → W → W) → (at_end : G → W) → Stamp → D → (from : Family (W → W) W G I) → D → Items G → Result (Told I) Error → Type 0
+Comes becomes tells with_item at_end stamp a from b new (Ok told) = GoesFor becomes stamp a from b (family_behind tells with_item at_end told new)
+Comes becomes tells with_item at_end stamp a from b new (Err e) = AnswersFor becomes stamp a from b (λ before. Err e) (NoItemFirst new)
 
 -- the events led to where a message is awaited, and all that came were read
-pub record Awaits {D G W : Type 0} (becomes : D → List Event → D → Type 0) (tells : G → List RawMessage → Option (Result W Error)) (stamp : Stamp) (a : D) (from : (W → W) → Place W) (b : D) (new : Items G) : Type 0 where
-  pub pauses : PausesFor becomes stamp a from b (place_behind tells new)
+pub record Awaits {D G I W : Type 0} (becomes : D → List Event → D → Type 0) (tells : G → List RawMessage → Option (Result W Error)) (hears : G → RawMessage → Heard G I) (stamp : Stamp) (a : D) (from : Family (W → W) W G I) (b : D) (new : Items G) : Type 0 where
+  pub pauses : PausesFor becomes stamp a from b (family_of tells hears new)
   pub empty : new.batch ≡ []
 
--- What a poll gives: an item, which stands in front of what comes from the new place on; the end, behind which nothing comes; or an error.
-abbrev pub Gives : {D G I W : Type 0} → (D → List Event → D → Type 0) → (tells : G → List RawMessage → Option (Result W Error)) → (with_item : I → W → W) → (at_end : G → W) → Stamp → D → (from : (W → W) → Place W) → D → Items G → Option (Result I Error) → Type 0
-Gives becomes tells with_item at_end stamp a from b new (Some (Ok i)) = GoesFor becomes stamp a from b (λ before. place_behind tells new (λ whole. before (with_item i whole)))
-Gives becomes tells with_item at_end stamp a from b new None = AnswersFor becomes stamp a from b (λ before. Ok (before (at_end new.giving)))
-Gives becomes tells with_item at_end stamp a from b new (Some (Err e)) = AnswersFor becomes stamp a from b (λ before. Err e)
+-- What a poll gives: an item, where it is told first, which stands in front of what comes from the new place on; the end, where that is, behind
+-- which nothing comes; or an error, where no item is told first.
+abbrev pub Gives : {D G I W : Type 0} → (D → List Event → D → Type 0) → (tells : G → List RawMessage → Option (Result W Error)) → (with_item : I → W → W) → (at_end : G → W) → Stamp → D → (from : Family (W → W) W G I) → D → Items G → Option (Result I Error) → Type 0
+Gives becomes tells with_item at_end stamp a from b new (Some (Ok i)) = GoesFor becomes stamp a from b (family_behind tells with_item at_end (Item i) new)
+Gives becomes tells with_item at_end stamp a from b new None = AnswersFor becomes stamp a from b (λ before. Ok (before (at_end new.giving))) (EndFirst new)
+Gives becomes tells with_item at_end stamp a from b new (Some (Err e)) = AnswersFor becomes stamp a from b (λ before. Err e) (NoItemFirst new)
 
 -- behind this no more is given
 abbrev pub is_last : {I : Type 0} → Poll (Option (Result I Error)) → Bool

@@ -1,3 +1,4 @@
+pub mod Hearing
 pub mod Families
 pub mod Telling
 pub mod Collecting

@@ -1,5 +1,5 @@
 -- Rows that are given one by one: the same reply as that of a query (`Rows` of pg_execute; PostgreSQL documentation, "Extended Query").
-use Rattle.std.specs.Prelude.{ℕ, List, [], ◌∷◌, length, map, Bool, Option, Result, Ok}
+use Rattle.std.specs.Prelude.{ℕ, List, [], ◌∷◌, length, map, Bool, false, Option, Result, Ok}
 use Rattle.pg_spec.specs.RawMessages.{RawMessage}
 use Rattle.pg_types.specs.declared.value.Value.{Value}
 use Rattle.pg_faults.specs.declared.error.Error.{Error}
@@ -31,4 +31,4 @@ rows_from s bound affected = rows_read Any (length s.columns) (rows_given s) (re
 
 -- query_raw: what one asks and answers who collects the rows
 abbrev pub query_raw : Statement → List Value → Dialogue RowsGiven
-query_raw s vs = executes (queried Any rows_given s) s vs
+query_raw s vs = executes false (queried Any rows_given s) s vs

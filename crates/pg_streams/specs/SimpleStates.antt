@@ -1,11 +1,14 @@
 -- Where the stream of a simple query stands, and the state that hands it on.
-use Rattle.std.specs.Prelude.{◌∷◌, ℕ, List, [], Bool, Option, Some, None, Result, Err}
+use Rattle.std.specs.Prelude.{◌∷◌, ◌++◌, ℕ, List, [], Bool, Option, Some, None, Result, Err}
 use Rattle.pg_spec.specs.RawMessages.{RawMessage}
 use Rattle.pg_faults.specs.declared.error.Error.{Error}
 use Rattle.pg_faults.specs.declared.error.Error.TheVariants.{Closed}
 use Rattle.pg_query.specs.Dialogue.{Dialogue, Answer}
 use Rattle.pg_query.specs.Meaning.{Place}
-use Rattle.pg_streams.specs.Collecting.{place_behind, place_of}
+use Rattle.pg_streams.specs.Collecting.{family_of, place_of}
+use Rattle.pg_streams.specs.Families.{Family}
+use Rattle.pg_streams.specs.Hearing.{First}
+use Rattle.pg_streams.specs.PartTelling.{parts_heard}
 use Rattle.pg_streams.specs.SimpleStreams.{parts_from, simple_query_raw}
 use Rattle.pg_streams.specs.declared.simple_giving.SimpleGiving.{SimpleGiving}
 use Rattle.pg_streams.specs.declared.simple_query_message.SimpleQueryMessage.{SimpleQueryMessage}
@@ -23,13 +26,17 @@ with_part part parts = part ∷ parts
 abbrev pub no_parts : SimpleGiving → List SimpleQueryMessage
 no_parts g = []
 
--- where one stands who has had this before
-abbrev pub parts_behind : SimpleQueryStream → (before : List SimpleQueryMessage → List SimpleQueryMessage) → Place (List SimpleQueryMessage)
-parts_behind s = place_behind parts_told s.items
+-- where each stands who has had something before
+abbrev pub parts_behind : SimpleQueryStream → Family (List SimpleQueryMessage → List SimpleQueryMessage) (List SimpleQueryMessage) SimpleGiving SimpleQueryMessage
+parts_behind s = family_of parts_told parts_heard s.items
 
 -- where one stands who has had nothing yet
 abbrev pub parts_place : SimpleQueryStream → Place (List SimpleQueryMessage)
 parts_place s = place_of parts_told s.items
+
+-- nothing was told before, and all messages are read next
+abbrev pub parts_opened : SimpleQueryStream → List RawMessage → First (Unit {0}) (Unit {0})
+parts_opened s more = record { told = None; giving = tt; left = s.items.batch ++ more }
 
 -- the end or an error was given
 abbrev pub parts_over : SimpleQueryStream → Bool

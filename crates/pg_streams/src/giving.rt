@@ -6,7 +6,9 @@ ghost use Rattle.pg_spec.specs.Messages.{message_of};
 ghost use Rattle.pg_spec.specs.RawMessages.{RawMessage};
 ghost use Rattle.pg_faults.specs.declared.error.Error.{Error};
 ghost use Rattle.pg_wire.specs.Messages.{message_view};
+ghost use Rattle.pg_streams.specs.Hearing.{Heard};
 ghost use Rattle.pg_streams.specs.Telling.{GivesOn};
+ghost use Rattle.pg_streams.specs.declared.giving.Told.TheVariants as telling;
 
 use pg_errors::Error;
 use pg_wire::Message;
@@ -38,6 +40,9 @@ pub trait Giving: Drop {
     /// What the messages from here on tell, where they tell an end or an error.
     ghost tells: { Self → List RawMessage → Option (Result Whole Error) };
 
+    /// What the next message tells, if anything, and how far it is read with that.
+    ghost hears: { Self → RawMessage → Heard Self Self.Item };
+
     /// What is known of it from the first and stays.
     ghost Known: { Type 0 };
 
@@ -51,8 +56,12 @@ pub trait Giving: Drop {
         message: Message,
     ) -> Result<Option<Told<Self::Item>>, AllocError>
         ensures gives { (raw : RawMessage) → message_of raw ≡ Ok (message_view message) → IfOk result (λ told. GivesOn tells with_item at_end self.old raw told self.new) }
+        ensures hears { (raw : RawMessage) → message_of raw ≡ Ok (message_view message) → IfOk result (λ told. hears self.old raw ≡ record { told = told; giving = self.new }) }
         ensures known { known self.new ≡ known self.old };
 
     /// A malformed message is an error.
     ghost malformed: { (s : Self) (raw : RawMessage) (fault : spec.WireFault) → message_of raw ≡ Err fault → tells s (raw ∷ []) ≡ Some (Err (spec.Parse (spec.Wire fault))) };
+
+    /// It tells that.
+    ghost refuses: { (s : Self) (raw : RawMessage) (fault : spec.WireFault) → message_of raw ≡ Err fault → hears s raw ≡ record { told = Some (telling.Fails (spec.Parse (spec.Wire fault))); giving = s } };
 }

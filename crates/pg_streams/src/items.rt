@@ -4,7 +4,7 @@ ghost use Rattle.std.specs.Prelude.{◌≡◌, ◌||◌, [], None, Ok, true, fal
 ghost use Rattle.futures.specs.declared.task.Poll.TheVariants.{Ready};
 ghost use Rattle.pg_query.specs.Meaning.{GoesToAnswer, Leaves, MatchPoll};
 ghost use Rattle.pg_streams.specs.Collecting as spec;
-ghost use Rattle.pg_streams.specs.Collecting.{Awaits, Comes, Gives, Keeps, NothingDone, given_up, is_last, place_behind, stands};
+ghost use Rattle.pg_streams.specs.Collecting.{Awaits, Comes, Gives, Keeps, NothingDone, family_behind, family_of, given_up, is_last};
 
 use crate::giving::{Giving, Told};
 use crate::posting::{hang_up, post};
@@ -64,7 +64,7 @@ impl<G: Giving> Items<G> {
 
     /// Reads the messages that came, up to the first that tells something.
     fn read(&mut self, alloc: Global) -> Result<Option<Told<G::Item>>, Error>
-        ensures reads { spec.Reads G.tells G.with_item G.at_end self.old self.new result }
+        ensures reads { spec.Reads G.tells G.hears G.with_item G.at_end self.old self.new result }
         ensures keeps { Keeps G.known self.old self.new }
     {
         loop {
@@ -105,8 +105,8 @@ impl<G: Giving> Items<G> {
         stamp: Stamp,
     ) -> Poll<Result<Told<G::Item>, Error>>
         ensures comes { MatchPoll result
-            (λ r. Comes D.becomes G.tells G.with_item G.at_end stamp desk.old (place_behind G.tells self.old) desk.new self.new r)
-            (Awaits D.becomes G.tells stamp desk.old (place_behind G.tells self.old) desk.new self.new) }
+            (λ r. Comes D.becomes G.tells G.with_item G.at_end stamp desk.old (family_of G.tells G.hears self.old) desk.new self.new r)
+            (Awaits D.becomes G.tells G.hears stamp desk.old (family_of G.tells G.hears self.old) desk.new self.new) }
         ensures keeps { Keeps G.known self.old self.new }
     {
         loop {
@@ -133,7 +133,7 @@ impl<G: Giving> Items<G> {
         stamp: Stamp,
         told: Told<G::Item>,
     ) -> Option<Result<G::Item, Error>>
-        ensures gives { Gives D.becomes G.tells G.with_item G.at_end stamp desk.old (stands G.tells G.with_item G.at_end told self.old) desk.new self.new result }
+        ensures gives { Gives D.becomes G.tells G.with_item G.at_end stamp desk.old (family_behind G.tells G.with_item G.at_end told self.old) desk.new self.new result }
         ensures over { self.new.over ≡ (self.old.over || is_last (Ready result)) }
         ensures known { G.known self.new.giving ≡ G.known self.old.giving }
     {
@@ -168,8 +168,8 @@ impl<G: Giving> Items<G> {
         stamp: Stamp,
     ) -> Poll<Option<Result<G::Item, Error>>>
         ensures gives { self.old.over ≡ false → MatchPoll result
-            (λ next. Gives D.becomes G.tells G.with_item G.at_end stamp desk.old (place_behind G.tells self.old) desk.new self.new next)
-            (Awaits D.becomes G.tells stamp desk.old (place_behind G.tells self.old) desk.new self.new) }
+            (λ next. Gives D.becomes G.tells G.with_item G.at_end stamp desk.old (family_of G.tells G.hears self.old) desk.new self.new next)
+            (Awaits D.becomes G.tells G.hears stamp desk.old (family_of G.tells G.hears self.old) desk.new self.new) }
         ensures over { self.new.over ≡ (self.old.over || is_last result) }
         ensures nothing { self.old.over ≡ true → (result ≡ Ready None) × NothingDone desk.old self.old desk.new self.new }
         ensures known { G.known self.new.giving ≡ G.known self.old.giving }

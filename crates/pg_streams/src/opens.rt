@@ -1,7 +1,11 @@
 //! What the state of a command is to the one who polls it, where it hands on a stream of its reply.
 
-ghost use Rattle.pg_query.specs.Meaning.{Place, GivesUp, MatchPoll, Pauses};
-ghost use Rattle.pg_streams.specs.Handing.{HandsOn};
+ghost use Rattle.std.specs.Prelude.{◌≡◌, List, IfOk};
+ghost use Rattle.pg_spec.specs.RawMessages.{RawMessage};
+ghost use Rattle.pg_query.specs.Meaning.{Place, GivesUp, MatchPoll};
+ghost use Rattle.pg_streams.specs.Families.{PausesFor};
+ghost use Rattle.pg_streams.specs.Handing.{HandsOn, alone};
+ghost use Rattle.pg_streams.specs.Hearing.{First};
 
 use futures::task::Poll;
 use pg_desk::{Desk, Stamp};
@@ -19,8 +23,23 @@ pub trait Opens {
     /// Where he stands, and the request that is read.
     ghost place: { Self → Place Whole };
 
+    /// What is told first of the reply, where more messages come: the item that opens the stream, or an error.
+    ghost first: { Self → List RawMessage → First (Unit {0}) (Unit {0}) };
+
     /// Where he stands once he has the stream.
     ghost stands: { Self.Stream → Place Whole };
+
+    /// What was told first then. The messages that are left are those that the stream reads next.
+    ghost opened: { Self.Stream → List RawMessage → First (Unit {0}) (Unit {0}) };
+
+    /// What is known of the reply from the first and stays.
+    ghost Known: { Type 0 };
+
+    /// That of a state.
+    ghost knows: { Self → Known };
+
+    /// That of a stream.
+    ghost known: { Self.Stream → Known };
 
     /// The stream gives more.
     ghost is_open: { Self.Stream → Type 0 };
@@ -37,9 +56,10 @@ pub trait Opens {
         stamp: Stamp,
     ) -> Poll<Result<Self::Stream, Error>>
         requires { is_live self.old }
-        ensures { MatchPoll result
-            (λ r. HandsOn D.becomes stands is_open stamp desk.old (place self.old) desk.new r)
-            (Pauses D.becomes stamp desk.old (place self.old) desk.new (place self.new) × is_live self.new) };
+        ensures opens { MatchPoll result
+            (λ r. HandsOn D.becomes (λ s. alone (stands s) (opened s)) is_open stamp desk.old (alone (place self.old) (first self.old)) desk.new r)
+            (PausesFor D.becomes stamp desk.old (alone (place self.old) (first self.old)) desk.new (alone (place self.new) (first self.new)) × is_live self.new) }
+        ensures known { MatchPoll result (λ r. IfOk r (λ stream. known stream ≡ knows self.old)) (knows self.new ≡ knows self.old) };
 
     /// Ends it without an answer, and does what is left to do.
     fn hang_up<D: Desk>(self, alloc: Global, desk: &mut D, stamp: Stamp) -> Result<(), Error>

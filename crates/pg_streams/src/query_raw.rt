@@ -1,11 +1,11 @@
 //! A statement that is queried, whose rows are given one by one.
 
-ghost use Rattle.std.specs.Prelude.{◌≡◌, false, IfOk, MatchResult, Err};
-ghost use Rattle.pg_query.specs.Meaning.{Goes, GoesToAnswer, MatchPoll, Pauses};
-ghost use Rattle.pg_streams.specs.Collecting.{place_of};
-ghost use Rattle.pg_streams.specs.Handing.{HandsOn};
+ghost use Rattle.std.specs.Prelude.{◌≡◌, false, IfOk, Some};
+ghost use Rattle.pg_query.specs.Meaning.{MatchPoll};
+ghost use Rattle.pg_streams.specs.Families.{PausesFor};
+ghost use Rattle.pg_streams.specs.Handing.{HandsOn, alone};
 ghost use Rattle.pg_streams.specs.RowStates as spec;
-ghost use Rattle.pg_streams.specs.RowStates.{IsLiveAt, opening_told, rows_over, rows_place, stage_place};
+ghost use Rattle.pg_streams.specs.RowStates.{IsLiveAt, IsOpening, asked, opening, rows_opened, rows_over, rows_place, stage_first, stage_place, stage_statement, statement_of};
 ghost use Rattle.pg_streams.specs.RowStreams.{query_raw};
 
 use crate::items::Items;
@@ -60,10 +60,8 @@ fn ask<D: Desk>(
     statement: Statement,
     values: &[Value],
 ) -> Result<Items<RowOpening>, Error>
-    ensures goes { MatchResult result
-        (λ items. Goes D.becomes stamp desk.old (record { dialogue = query_raw statement values.now; reads = 0 }) desk.new (place_of opening_told items))
-        (λ e. GoesToAnswer D.becomes stamp desk.old (record { dialogue = query_raw statement values.now; reads = 0 }) desk.new (Err e)) }
-    ensures over { IfOk result (λ items. items.over ≡ false) }
+    ensures goes { HandsOn D.becomes opening IsOpening stamp desk.old (asked statement values.now) desk.new result }
+    ensures known { IfOk result (λ items. items.giving.statement ≡ statement) }
 {
     let request = match execute_request(alloc, &statement, values) {
         Ok(Ok(request)) => request,
@@ -97,6 +95,7 @@ impl<'a> QueryRawState<'a> {
     pub fn new(statement: &'a Statement, values: &'a [Value]) -> QueryRawState<'a>
         ensures live { ⟦<QueryRawState<'a> as opens::Opens>⟧.is_live result }
         ensures asks { (⟦<QueryRawState<'a> as opens::Opens>⟧.place result).dialogue ≡ query_raw statement.now values.now }
+        ensures knows { ⟦<QueryRawState<'a> as opens::Opens>⟧.knows result ≡ Some statement.now }
     {
         QueryRawState {
             stage: Stage::New(Handed::Borrowed(statement), values),
@@ -107,6 +106,7 @@ impl<'a> QueryRawState<'a> {
     pub fn owned(statement: Statement, values: &'a [Value]) -> QueryRawState<'a>
         ensures live { ⟦<QueryRawState<'a> as opens::Opens>⟧.is_live result }
         ensures asks { (⟦<QueryRawState<'a> as opens::Opens>⟧.place result).dialogue ≡ query_raw statement values.now }
+        ensures knows { ⟦<QueryRawState<'a> as opens::Opens>⟧.knows result ≡ Some statement }
     {
         QueryRawState {
             stage: Stage::New(Handed::Owned(statement), values),
@@ -121,10 +121,13 @@ impl<'a> QueryRawState<'a> {
         stamp: Stamp,
         items: Items<RowOpening>,
     ) -> Poll<Result<RowStream, Error>>
-        requires { items.over ≡ false }
-        ensures { MatchPoll result
-            (λ r. HandsOn D.becomes rows_place (λ s. rows_over s ≡ false) stamp desk.old (place_of opening_told items) desk.new r)
-            (Pauses D.becomes stamp desk.old (place_of opening_told items) desk.new (stage_place self.new.stage) × IsLiveAt self.new.stage) }
+        requires { IsOpening items }
+        ensures opens { MatchPoll result
+            (λ r. HandsOn D.becomes (λ s. alone (rows_place s) (rows_opened s)) (λ s. rows_over s ≡ false) stamp desk.old (opening items) desk.new r)
+            (PausesFor D.becomes stamp desk.old (opening items) desk.new (alone (stage_place self.new.stage) (stage_first self.new.stage)) × IsLiveAt self.new.stage) }
+        ensures known { MatchPoll result
+            (λ r. IfOk r (λ stream. statement_of stream ≡ items.giving.statement))
+            (stage_statement self.new.stage ≡ Some items.giving.statement) }
     {
         let mut items = items;
         match items.poll_next(alloc, desk, stamp) {
@@ -132,11 +135,7 @@ impl<'a> QueryRawState<'a> {
                 self.stage = Stage::Opens(items);
                 Poll::Pending
             }
-            Poll::Ready(Some(Ok(()))) => match RowStream::opened(items) {
-                Some(stream) => Poll::Ready(Ok(stream)),
-                // It is given where BindComplete came.
-                None => Poll::Ready(Err(Error::OutOfMemory)),
-            },
+            Poll::Ready(Some(Ok(()))) => Poll::Ready(Ok(RowStream::opened(items))),
             Poll::Ready(Some(Err(error))) => Poll::Ready(Err(error)),
             // The reply doesn't end before.
             Poll::Ready(None) => Poll::Ready(Err(Error::OutOfMemory)),
@@ -145,8 +144,10 @@ impl<'a> QueryRawState<'a> {
 }
 
 impl<'a> opens::Opens for QueryRawState<'a> {
-    ghost use Rattle.std.specs.Prelude.{◌≡◌, false};
-    ghost use Rattle.pg_streams.specs.RowStates.{IsLiveAt, rows_over, rows_place, stage_place};
+    ghost use Rattle.std.specs.Prelude as prelude;
+    ghost use Rattle.std.specs.Prelude.{◌≡◌, false, Some};
+    ghost use Rattle.pg_statements.specs.declared.statement.Described as described;
+    ghost use Rattle.pg_streams.specs.RowStates.{IsLiveAt, rows_opened, rows_over, rows_place, stage_first, stage_place, stage_statement, statement_of};
     ghost use Rattle.pg_streams.specs.RowStreams as streams;
 
     type Stream = RowStream;
@@ -155,7 +156,17 @@ impl<'a> opens::Opens for QueryRawState<'a> {
 
     ghost place = { λ s. stage_place s.stage };
 
+    ghost first = { λ s. stage_first s.stage };
+
     ghost stands = { rows_place };
+
+    ghost opened = { rows_opened };
+
+    ghost Known = { prelude.Option described.Described };
+
+    ghost knows = { λ s. stage_statement s.stage };
+
+    ghost known = { λ s. Some (statement_of s) };
 
     ghost is_open = { λ s. rows_over s ≡ false };
 

@@ -46,7 +46,8 @@ impl Giving for RowOpening {
     ghost use Rattle.pg_statements.specs.declared.statement.Described as described;
     ghost use Rattle.pg_streams.specs.RowStreams as streams;
     ghost use Rattle.pg_streams.specs.RowStreams.{rows_from};
-    ghost use Rattle.pg_streams.specs.RowLaws.{rows_malformed};
+    ghost use Rattle.pg_streams.specs.RowTelling.{opening_heard};
+    ghost use Rattle.pg_streams.specs.RowLaws.{opening_refused, rows_malformed};
 
     type Item = ();
 
@@ -57,6 +58,8 @@ impl Giving for RowOpening {
     ghost at_end = { λ _. record { rows = []; affected = None } };
 
     ghost tells = { λ o. rows_from o.statement o.bound None };
+
+    ghost hears = { opening_heard };
 
     ghost Known = { described.Described };
 
@@ -71,6 +74,8 @@ impl Giving for RowOpening {
     }
 
     ghost malformed = { λ o raw fault is. rows_malformed o.statement o.bound None raw fault is };
+
+    ghost refuses = { opening_refused };
 }
 
 /// The reply behind BindComplete.
@@ -130,7 +135,8 @@ impl Giving for RowGiving {
     ghost use Rattle.pg_statements.specs.declared.statement.Described as described;
     ghost use Rattle.pg_streams.specs.RowStreams as streams;
     ghost use Rattle.pg_streams.specs.RowStreams.{rows_from, with_row};
-    ghost use Rattle.pg_streams.specs.RowLaws.{rows_malformed};
+    ghost use Rattle.pg_streams.specs.RowTelling.{rows_heard};
+    ghost use Rattle.pg_streams.specs.RowLaws.{rows_malformed, rows_refused};
 
     type Item = Row;
 
@@ -141,6 +147,8 @@ impl Giving for RowGiving {
     ghost at_end = { λ g. record { rows = []; affected = g.affected } };
 
     ghost tells = { λ g. rows_from g.statement true g.affected };
+
+    ghost hears = { rows_heard };
 
     ghost Known = { described.Described };
 
@@ -155,4 +163,6 @@ impl Giving for RowGiving {
     }
 
     ghost malformed = { λ g raw fault is. rows_malformed g.statement true g.affected raw fault is };
+
+    ghost refuses = { rows_refused };
 }

@@ -1,11 +1,12 @@
 //! The rows of a query, one a poll.
 
-ghost use Rattle.std.specs.Prelude.{◌≡◌, ◌||◌, IfSome, Ok, true, false};
+ghost use Rattle.std.specs.Prelude.{◌≡◌, ◌||◌, None, Ok, true, false};
 ghost use Rattle.futures.specs.declared.task.Poll.TheVariants.{Ready};
 ghost use Rattle.pg_query.specs.Meaning.{GoesToAnswer, MatchPoll};
 ghost use Rattle.pg_streams.specs.Collecting.{Awaits, Gives, NothingDone, given_up, is_last, place_of};
 ghost use Rattle.pg_streams.specs.RowStates.{affected_of, no_rows, opening_told, rows_behind, rows_over, rows_place, rows_told, statement_of};
 ghost use Rattle.pg_streams.specs.RowStreams.{with_row};
+ghost use Rattle.pg_streams.specs.RowTelling.{rows_heard};
 
 use crate::items::Items;
 use crate::row_giving::{RowGiving, RowOpening};
@@ -22,11 +23,11 @@ pub struct RowStream {
 }
 
 impl RowStream {
-    /// The rows behind BindComplete; None where that didn't come.
-    pub(crate) fn opened(items: Items<RowOpening>) -> Option<RowStream>
-        ensures stands { IfSome result (λ stream. rows_place stream ≡ place_of opening_told items) }
-        ensures over { IfSome result (λ stream. rows_over stream ≡ items.over) }
-        ensures statement { IfSome result (λ stream. statement_of stream ≡ items.giving.statement) }
+    /// The rows behind BindComplete.
+    pub(crate) fn opened(items: Items<RowOpening>) -> RowStream
+        requires { items.giving.bound ≡ true }
+        ensures stands { rows_place result ≡ place_of opening_told items }
+        ensures is { result.items ≡ record { giving = record { statement = items.giving.statement; affected = None }; id = items.id; batch = items.batch; close = items.close; over = items.over } }
     {
         let Items {
             giving,
@@ -35,15 +36,12 @@ impl RowStream {
             close,
             over,
         } = items;
-        let RowOpening { statement, bound } = giving;
-        if !bound {
-            return None;
-        }
+        let RowOpening { statement, .. } = giving;
         let giving = RowGiving {
             statement,
             affected: None,
         };
-        Some(RowStream {
+        RowStream {
             items: Items {
                 giving,
                 id,
@@ -51,7 +49,7 @@ impl RowStream {
                 close,
                 over,
             },
-        })
+        }
     }
 
     /// The columns of the rows, also where no row came. It takes no memory.
@@ -81,7 +79,7 @@ impl RowStream {
     ) -> Poll<Option<Result<Row, Error>>>
         ensures gives { rows_over self.old ≡ false → MatchPoll result
             (λ next. Gives D.becomes rows_told with_row no_rows stamp desk.old (rows_behind self.old) desk.new self.new.items next)
-            (Awaits D.becomes rows_told stamp desk.old (rows_behind self.old) desk.new self.new.items) }
+            (Awaits D.becomes rows_told rows_heard stamp desk.old (rows_behind self.old) desk.new self.new.items) }
         ensures over { rows_over self.new ≡ (rows_over self.old || is_last result) }
         ensures nothing { rows_over self.old ≡ true → (result ≡ Ready None) × NothingDone desk.old self.old.items desk.new self.new.items }
         ensures statement { statement_of self.new ≡ statement_of self.old }

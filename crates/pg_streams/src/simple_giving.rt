@@ -80,7 +80,7 @@ impl SimpleGiving {
         alloc: Global,
         body: &RowDescriptionBody,
     ) -> Result<Told<SimpleQueryMessage>, AllocError>
-        ensures { IfOk result (λ told. Shows (columns_said (fields_of body.now.count body.now.fields)) (Some told) self.new) }
+        ensures { IfOk result (λ told. Shows (columns_said (fields_of body.now.count body.now.fields)) self.old (Some told) self.new) }
     {
         match columns_of(alloc, body)? {
             Ok(columns) => {
@@ -96,7 +96,7 @@ impl SimpleGiving {
 
     /// A row.
     fn row(&self, body: DataRowBody) -> Result<Told<SimpleQueryMessage>, AllocError>
-        ensures { IfOk result (λ told. Shows (simple_said self.now.columns (message.DataRow body.count body.cells)) (Some told) self.now) }
+        ensures { IfOk result (λ told. Shows (simple_said self.now.columns (message.DataRow body.count body.cells)) self.now (Some told) self.now) }
     {
         let Some(columns) = &self.columns else {
             return Ok(Told::Fails(Error::UnexpectedMessage));
@@ -112,7 +112,7 @@ impl SimpleGiving {
 
     /// A command ended.
     fn complete(&self, body: &CommandCompleteBody) -> Told<SimpleQueryMessage>
-        ensures { Shows (simple_said self.now.columns (message.CommandComplete body.now.tag)) (Some result) self.now }
+        ensures { Shows (simple_said self.now.columns (message.CommandComplete body.now.tag)) self.now (Some result) self.now }
     {
         match extract_row_affected(body) {
             Ok(affected) => Told::Item(SimpleQueryMessage::CommandComplete(affected)),
@@ -126,7 +126,7 @@ impl SimpleGiving {
         alloc: Global,
         message: Message,
     ) -> Result<Told<SimpleQueryMessage>, AllocError>
-        ensures { IfOk result (λ told. Shows (simple_said self.old.columns (message_view message)) (Some told) self.new) }
+        ensures { IfOk result (λ told. Shows (simple_said self.old.columns (message_view message)) self.old (Some told) self.new) }
     {
         match message {
             Message::CommandComplete(body) => Ok(self.complete(&body)),
@@ -147,7 +147,8 @@ impl Giving for SimpleGiving {
     ghost use Rattle.std.specs.Prelude.{[], ◌∷◌};
     ghost use Rattle.pg_streams.specs.declared.simple_query_message.SimpleQueryMessage as part;
     ghost use Rattle.pg_streams.specs.SimpleStreams.{parts_from};
-    ghost use Rattle.pg_streams.specs.PartLaws.{parts_malformed};
+    ghost use Rattle.pg_streams.specs.PartTelling.{parts_heard};
+    ghost use Rattle.pg_streams.specs.PartLaws.{parts_malformed, parts_refused};
 
     type Item = SimpleQueryMessage;
 
@@ -158,6 +159,8 @@ impl Giving for SimpleGiving {
     ghost at_end = { λ _. [] };
 
     ghost tells = { λ g. parts_from g.columns };
+
+    ghost hears = { parts_heard };
 
     ghost Known = { Unit {0} };
 
@@ -172,4 +175,6 @@ impl Giving for SimpleGiving {
     }
 
     ghost malformed = { λ g raw fault is. parts_malformed g.columns raw fault is };
+
+    ghost refuses = { parts_refused };
 }

@@ -4,6 +4,7 @@ ghost use Rattle.std.specs.Prelude.{◌≡◌, ◌||◌, [], None, Ok, true, fal
 ghost use Rattle.futures.specs.declared.task.Poll.TheVariants.{Ready};
 ghost use Rattle.pg_query.specs.Meaning.{GoesToAnswer, MatchPoll};
 ghost use Rattle.pg_streams.specs.Collecting.{Awaits, Gives, NothingDone, given_up, is_last};
+ghost use Rattle.pg_streams.specs.PartTelling.{parts_heard};
 ghost use Rattle.pg_streams.specs.SimpleStates.{no_parts, parts_behind, parts_over, parts_told, with_part};
 
 use crate::items::Items;
@@ -41,7 +42,7 @@ impl SimpleQueryStream {
     ) -> Poll<Option<Result<SimpleQueryMessage, Error>>>
         ensures gives { parts_over self.old ≡ false → MatchPoll result
             (λ next. Gives D.becomes parts_told with_part no_parts stamp desk.old (parts_behind self.old) desk.new self.new.items next)
-            (Awaits D.becomes parts_told stamp desk.old (parts_behind self.old) desk.new self.new.items) }
+            (Awaits D.becomes parts_told parts_heard stamp desk.old (parts_behind self.old) desk.new self.new.items) }
         ensures over { parts_over self.new ≡ (parts_over self.old || is_last result) }
         ensures nothing { parts_over self.old ≡ true → (result ≡ Ready None) × NothingDone desk.old self.old.items desk.new self.new.items }
     {

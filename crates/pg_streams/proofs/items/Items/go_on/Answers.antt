@@ -1,5 +1,5 @@
-use Rattle.pg_streams.specs.Collecting.{place_behind}
-use Rattle.pg_streams.proofs.Going.{ReadOut, out-of, told-of, batch-came, none-came, all-came, request-gone, refused-take}
+use Rattle.pg_streams.specs.Collecting.{NoItemFirst, family_of}
+use Rattle.pg_streams.proofs.Going.{ReadOut, lacks-behind, out-of, told-of, batch-came, none-came, all-came, request-gone, refused-take}
 use Rattle.pg_streams.proofs.Telling.{keeps-joined, keeps-refilled}
 use Rattle.pg_streams.proofs.items.Items.go_on.Given.{Over}
 use Rattle.pg_streams.proofs.items.Items.go_on.Goals.{After-take}
@@ -7,13 +7,13 @@ use Rattle.pg_streams.proofs.items.Items.go_on.Goals as goal
 
 pub returns-in-Ok-Some-clause-comes : goal.returns-in-Ok-Some-clause-comes
 returns-in-Ok-Some-clause-comes g c =
-    told-of g.D.Desk.becomes g.G.Giving.tells g.G.Giving.with_item g.G.Giving.at_end c.args.stamp c.args.desk.now (place_behind g.G.Giving.tells c.args.self.now) c.loop-told.desk c.loop-told.self c.read.new.self
+    told-of g.D.Desk.becomes g.G.Giving.tells g.G.Giving.hears g.G.Giving.with_item g.G.Giving.at_end c.args.stamp c.args.desk.now (family_of g.G.Giving.tells g.G.Giving.hears c.args.self.now) c.loop-told.desk c.loop-told.self c.read.new.self
     c.loop-told.invariant.goes c.in-Ok-Some.field-0 c.in-Ok-Some.told c.in-Ok-Some.field-0-is c.in-Ok-Some.ensures.reads
 
 -- all that came was read
-read-out : (g : Over) (c : After-take g) → ReadOut g.D.Desk.becomes g.G.Giving.tells c.args.stamp c.args.desk.now (place_behind g.G.Giving.tells c.args.self.now) c.loop-told.desk c.read.new.self
+read-out : (g : Over) (c : After-take g) → ReadOut g.D.Desk.becomes g.G.Giving.tells g.G.Giving.hears c.args.stamp c.args.desk.now (family_of g.G.Giving.tells g.G.Giving.hears c.args.self.now) c.loop-told.desk c.read.new.self
 read-out g c =
-    out-of g.D.Desk.becomes g.G.Giving.tells g.G.Giving.with_item g.G.Giving.at_end c.args.stamp c.args.desk.now (place_behind g.G.Giving.tells c.args.self.now) c.loop-told.desk c.loop-told.self c.read.new.self
+    out-of g.D.Desk.becomes g.G.Giving.tells g.G.Giving.hears g.G.Giving.with_item g.G.Giving.at_end c.args.stamp c.args.desk.now (family_of g.G.Giving.tells g.G.Giving.hears c.args.self.now) c.loop-told.desk c.loop-told.self c.read.new.self
     c.loop-told.invariant.goes c.in-Ok-None.field-0 c.in-Ok-None.field-0-is c.in-Ok-None.ensures.reads
 
 pub loop-told-preserved : goal.loop-told-preserved
@@ -36,3 +36,6 @@ returns-in-Ok-Gone-clause-comes g c =
 pub returns-in-Err-take-clause-comes : goal.returns-in-Err-take-clause-comes
 returns-in-Err-take-clause-comes g c =
     refused-take g.met.D.Desk.joins (read-out g (goal.at.returns-in-Err-take-clause-comes g c).After-take) c.take.new.self c.in-Err-take.fault c.in-Err-take.ensures.event c.error_of.result c.error_of.ensures
+
+pub returns-in-Err-clause-comes : goal.returns-in-Err-clause-comes
+returns-in-Err-clause-comes g c = lacks-behind c.loop-told.invariant.goes c.in-Err.error (NoItemFirst c.read.new.self) c.in-Err.ensures.reads

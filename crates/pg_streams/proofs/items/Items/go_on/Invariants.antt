@@ -1,11 +1,11 @@
-use Rattle.pg_streams.specs.Collecting.{Keeps, place_behind}
+use Rattle.pg_streams.specs.Collecting.{Keeps, family_of}
 use Rattle.pg_streams.specs.Families.{GoesFor}
 use Rattle.pg_streams.proofs.items.Items.go_on.Given as goal
 
 -- what was done so far leads here
 abbrev pub invariant-loop-told : goal.invariant-loop-told
 invariant-loop-told g l = record {
-  goes : GoesFor g.D.Desk.becomes l.fn.stamp l.initial.desk (place_behind g.G.Giving.tells l.initial.self) l.desk (place_behind g.G.Giving.tells l.self);
+  goes : GoesFor g.D.Desk.becomes l.fn.stamp l.initial.desk (family_of g.G.Giving.tells g.G.Giving.hears l.initial.self) l.desk (family_of g.G.Giving.tells g.G.Giving.hears l.self);
   keeps : Keeps g.G.Giving.known l.initial.self l.self;
 }
 
