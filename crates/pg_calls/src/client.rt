@@ -1,6 +1,6 @@
 //! The client, and what it can be asked.
 
-ghost use Rattle.std.specs.Prelude.{◌≡◌, [], None};
+ghost use Rattle.std.specs.Prelude.{◌≡◌, [], None, Some};
 ghost use Rattle.pg_checks.specs.Showing.{session_check};
 ghost use Rattle.pg_checks.specs.States.{place_of_check as place_of_session_check, IsLiveCheck as IsLiveSessionCheck};
 ghost use Rattle.pg_client.specs.Done.{batch_execute, check_connection};
@@ -160,6 +160,7 @@ impl Client {
     pub fn query_raw<'a>(&self, statement: &'a Statement, values: &'a [Value]) -> QueryRawState<'a>
         ensures live { ⟦<QueryRawState<'a> as Opens>⟧.is_live result }
         ensures asks { (⟦<QueryRawState<'a> as Opens>⟧.place result).dialogue ≡ query_raw statement.now values.now }
+        ensures knows { ⟦<QueryRawState<'a> as Opens>⟧.knows result ≡ Some statement.now }
     {
         QueryRawState::new(statement, values)
     }
