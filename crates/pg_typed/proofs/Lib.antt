@@ -1,0 +1,3 @@
+mod Malformed
+mod ReadingOn
+mod Taking

@@ -1,0 +1,5 @@
+pub mod Counts
+pub mod Knowing
+pub mod Reads
+pub mod Rests
+pub mod Types
