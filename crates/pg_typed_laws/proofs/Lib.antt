@@ -1,0 +1,5 @@
+mod Columns
+pub mod Commands
+mod ReadingOn
+mod Readings
+mod Requests
