@@ -1,6 +1,6 @@
 //! The client, and what it can be asked.
 
-ghost use Rattle.std.specs.Prelude.{◌≡◌, [], None, Some};
+ghost use Rattle.std.specs.Prelude.{◌≡◌, [], length, None, Some};
 ghost use Rattle.pg_checks.specs.Showing.{session_check};
 ghost use Rattle.pg_checks.specs.States.{place_of_check as place_of_session_check, IsLiveCheck as IsLiveSessionCheck};
 ghost use Rattle.pg_client.specs.Done.{batch_execute, check_connection};
@@ -9,11 +9,13 @@ ghost use Rattle.pg_client.specs.Queries.{place_of_query, IsLiveQuery};
 ghost use Rattle.pg_client.specs.Simple.{simple_query};
 ghost use Rattle.pg_execute.specs.Executes.{close, execute, query, query_scalar};
 ghost use Rattle.pg_execute.specs.Targets.{on_target};
+ghost use Rattle.pg_execute.specs.Typed.{execute_typed, query_typed};
 ghost use Rattle.pg_executed.specs.States.{place_of_close, IsLiveClose};
 ghost use Rattle.pg_executed.specs.Texts.{prepare_text};
-ghost use Rattle.pg_lookup.specs.Lookups.{prepare};
+ghost use Rattle.pg_lookup.specs.Lookups.{find_all, prepare};
 ghost use Rattle.pg_streams.specs.RowStreams.{query_raw};
 ghost use Rattle.pg_streams.specs.SimpleStreams.{simple_query_raw};
+ghost use Rattle.pg_typed_states.specs.Paired.{paired};
 ghost use Rattle.pg_calls.specs.Clearing.{Clears};
 
 use pg_checks::SessionCheckState;
@@ -28,7 +30,8 @@ use pg_prepared::PrepareState;
 use pg_query::{Polled, error_of};
 use pg_statements::Statement;
 use pg_streams::{Opens, QueryRawState, SimpleQueryRawState};
-use pg_types::{Oid, Value};
+use pg_typed_states::{ExecuteTypedState, QueryTypedState};
+use pg_types::{Oid, Type, Value};
 
 /// A client of a connection. It holds no connection: a call makes a state, which is polled over the desk of the
 /// connection until it answers. Making a state books nothing and takes no memory, and the state doesn't borrow the
@@ -230,6 +233,66 @@ impl Client {
         ensures asks { (⟦<ExecuteState<'a> as Polled>⟧.place result).dialogue ≡ on_target prepare_text (λ s. execute s values.now) target.entry }
     {
         self.execute(target, values)
+    }
+
+    /// Executes a text with these values, each of the type at its place, in one request, and answers its rows
+    /// (PostgreSQL documentation, "Extended Query"). Nothing is booked where one of these comes: Parameters, if the values
+    /// aren't as many as the types; Parse, if the text can't be sent, or there are more than 65,535 types; ToSql at the first
+    /// value that can't stand under its type; Encode, if the other frames can't be written. Behind that, Db comes at an error of
+    /// the server; Parse at a message that can't be read; UnexpectedMessage at one out of place; Closed as for `simple_query`.
+    /// Types of columns that aren't known are looked up in the server's catalog, with the errors of a prepare, once the rest of
+    /// the reply was taken.
+    pub fn query_typed<'a>(
+        &self,
+        query: &'a str,
+        values: &'a [Value],
+        types: &'a [Type],
+    ) -> QueryTypedState<'a>
+        ensures live { ⟦<QueryTypedState<'a> as Polled>⟧.is_live result }
+        ensures asks { (⟦<QueryTypedState<'a> as Polled>⟧.place result).dialogue ≡ paired (length types.now) values.now (query_typed find_all HowMany.Any query.now types.now values.now) }
+    {
+        QueryTypedState::new(HowMany::Any, query, types, values)
+    }
+
+    /// Like `query_typed`, where there must be one row: RowCount comes where there is none, or a second one.
+    pub fn query_typed_one<'a>(
+        &self,
+        query: &'a str,
+        values: &'a [Value],
+        types: &'a [Type],
+    ) -> QueryTypedState<'a>
+        ensures live { ⟦<QueryTypedState<'a> as Polled>⟧.is_live result }
+        ensures asks { (⟦<QueryTypedState<'a> as Polled>⟧.place result).dialogue ≡ paired (length types.now) values.now (query_typed find_all HowMany.One query.now types.now values.now) }
+    {
+        QueryTypedState::new(HowMany::One, query, types, values)
+    }
+
+    /// Like `query_typed`, where there may be one row: RowCount comes where there is a second one.
+    pub fn query_typed_opt<'a>(
+        &self,
+        query: &'a str,
+        values: &'a [Value],
+        types: &'a [Type],
+    ) -> QueryTypedState<'a>
+        ensures live { ⟦<QueryTypedState<'a> as Polled>⟧.is_live result }
+        ensures asks { (⟦<QueryTypedState<'a> as Polled>⟧.place result).dialogue ≡ paired (length types.now) values.now (query_typed find_all HowMany.AtMostOne query.now types.now values.now) }
+    {
+        QueryTypedState::new(HowMany::AtMostOne, query, types, values)
+    }
+
+    /// Executes a text with values of these types, in one request, and answers how many rows its last command affected, 0
+    /// where it is empty or none ended. Rows aren't read, and no type is looked up. The errors are those of `query_typed` but
+    /// those of a lookup.
+    pub fn execute_typed<'a>(
+        &self,
+        query: &'a str,
+        values: &'a [Value],
+        types: &'a [Type],
+    ) -> ExecuteTypedState<'a>
+        ensures live { ⟦<ExecuteTypedState<'a> as Polled>⟧.is_live result }
+        ensures asks { (⟦<ExecuteTypedState<'a> as Polled>⟧.place result).dialogue ≡ paired (length types.now) values.now (execute_typed query.now types.now values.now) }
+    {
+        ExecuteTypedState::new(query, types, values)
     }
 
     /// Closes a statement (PostgreSQL documentation, "Extended Query", under Close). Nobody reads the server's reply. Closed

@@ -14,3 +14,4 @@ pub use pg_query::Polled;
 pub use pg_streams::{
     Opens, QueryRawState, RowStream, SimpleQueryMessage, SimpleQueryRawState, SimpleQueryStream,
 };
+pub use pg_typed_states::{ExecuteTypedState, QueryTypedState};
