@@ -1,5 +1,5 @@
 -- Targets and values, as words of a line: each is told from what stands behind it, and by one meaning.
-use Rattle.std.proofs.Common.{◌≡◌, ◌≢◌, ◌<◌, ◌⊎◌, ℕ, ℤ, pos, true, false, List, [], ◌∷◌, ◌++◌, Option, Some, None, option_map, codes, Result, Ok, Err, cond, refl, sym, ap, subst, ◌∙◌, inl, inr, arith}
+use Rattle.std.proofs.Common.{◌≡◌, ◌≢◌, ◌<◌, ◌⊎◌, ℕ, ℤ, pos, true, false, List, [], ◌∷◌, ◌++◌, Option, Some, None, option_map, codes, Result, Ok, Err, cond, refl, sym, ap, subst, ◌∙◌, append_assoc, inl, inr, arith}
 use Rattle.std.specs.Prelude.{◌==◌}
 use Rattle.std.specs.Char.{digit_value}
 use Rattle.std.specs.Str.Parse.{AllDigits, digits_value}
@@ -9,11 +9,12 @@ use Rattle.hex.specs.declared.error.FromHexError.{FromHexError}
 use Rattle.pg_types.specs.declared.value.Value.{Value}
 use Rattle.pg_types.specs.declared.value.Value.TheVariants as value
 use Rattle.pg_spec.specs.SessionText.{IsHex, IsQuoted}
-use Rattle.pg_text.specs.SessionText.{IsInt, IsSlot, IsTarget, IsValue, minus}
+use Rattle.pg_text.specs.SessionText.{IsInt, IsPair, IsSlot, IsTarget, IsTypeName, IsValue, minus}
 use Rattle.pg_text.specs.Words.{BeginsWithQuote, IsBareTarget, IsBareValue, IsUtf8Quoted, Means, NoSpace, Takes, left_text}
 use Rattle.pg_text.specs.declared.command.CommandTarget.{CommandTarget}
 use Rattle.pg_text.specs.declared.command.CommandTarget.TheVariants as target
 use Rattle.pg_text.proofs.WordLaws.{Ends, begins, ends_at_space, hex_decodes, hex_no_space, no_space_from, number_ends, number_no_space, quoted_ends}
+use Rattle.pg_text.proofs.TypeNames.{type_name_ends}
 
 cc_head : {b c : ℕ} {v w : List ℕ} → b ∷ v ≡ c ∷ w → b ≡ c
 cc_head e = cc
@@ -288,3 +289,33 @@ no_value w other-null other-true other-false other-bytes none (value.Bool false)
 no_value w other-null other-true other-false other-bytes none (value.Int z) is = none z is
 no_value w other-null other-true other-false other-bytes none (value.Bytes bytes) (digits, hex, is) = other-bytes digits is
 no_value w other-null other-true other-false other-bytes none (value.Text t) is = is
+
+-- ---- types and values by turns
+
+pub pair_ends : Ends IsPair
+pair_ends (x, v) (y, u) a b l k (n, w, named, valued, is) (m, z, named', valued', also) e =
+    let both : n ++ left_text (Some (w ++ left_text l)) ≡ m ++ left_text (Some (z ++ left_text k)) =
+    sym (append_assoc n (32 ∷ w) (left_text l)) ∙ ap (λ t. t ++ left_text l) (sym is) ∙ e ∙ ap (λ t. t ++ left_text k) also ∙ append_assoc m (32 ∷ z) (left_text k) in
+    let first = type_name_ends x y n m (Some (w ++ left_text l)) (Some (z ++ left_text k)) named named' both in
+    let second = value_ends v u w z l k valued valued' (cc_tail (ap left_text first.2)) in
+    ((λ i. (first.0 i, second.0 i)), is ∙ (λ i. first.1 i ++ 32 ∷ second.1 i) ∙ sym also, second.2)
+
+-- behind the name of a type its value stands
+pair_front : (old : Option (List ℕ)) (name word spelled : List ℕ) (left : Option (List ℕ)) → spelled ≡ name ++ 32 ∷ word → left_text old ≡ 32 ∷ spelled ++ left_text left →
+    left_text old ≡ 32 ∷ name ++ left_text (Some (word ++ left_text left))
+pair_front old name word spelled left is e = e ∙ ap (λ t. 32 ∷ t ++ left_text left) is ∙ ap (λ t. 32 ∷ t) (append_assoc name (32 ∷ word) (left_text left))
+
+pub pair_nameless : (old new : Option (List ℕ)) → Takes IsTypeName old None new → Takes IsPair old None new
+pair_nameless old new none (y, u) spelled left (name, word, named, valued, is) e = none y name (Some (word ++ left_text left)) named (pair_front old name word spelled left is e)
+
+pub pair_valueless : (old mid new : Option (List ℕ)) (x : ℕ) → Takes IsTypeName old (Some x) mid → Takes IsValue mid None new → Takes IsPair old None new
+pair_valueless old mid new x taken none (y, u) spelled left (name, word, named, valued, is) e =
+    let same = type_name_ends x y taken.0 name mid (Some (word ++ left_text left)) taken.1 named (cc_tail (sym taken.2 ∙ pair_front old name word spelled left is e)) in
+    none u word left valued (ap left_text same.2)
+
+pub pair_some : (old mid new : Option (List ℕ)) (x : ℕ) (v : Value) → Takes IsTypeName old (Some x) mid → Takes IsValue mid (Some v) new → Takes IsPair old (Some (x, v)) new
+pair_some old mid new x v taken valued = (
+  taken.0 ++ 32 ∷ valued.0,
+  (taken.0, valued.0, taken.1, valued.1, refl),
+  taken.2 ∙ ap (λ t. 32 ∷ taken.0 ++ t) valued.2 ∙ ap (λ t. 32 ∷ t) (sym (append_assoc taken.0 (32 ∷ valued.0) (left_text new))),
+)

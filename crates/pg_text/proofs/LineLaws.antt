@@ -1,19 +1,22 @@
 -- Lines are read as they are spelled.
-use Rattle.std.proofs.Common.{◌≡◌, ◌≢◌, ◌<◌, ◌⊎◌, ℕ, true, false, List, [], ◌∷◌, ◌++◌, length, get_or, Option, Some, None, codes, refl, sym, ap, subst, ◌∙◌, append_assoc, append-nil, inl, inr}
+use Rattle.std.proofs.Common.{◌≡◌, ◌≢◌, ◌<◌, ◌⊎◌, ℕ, true, false, List, [], ◌∷◌, ◌++◌, length, get_or, map, Option, Some, None, codes, refl, sym, ap, subst, ◌∙◌, append_assoc, append-nil, inl, inr}
 use Rattle.std.specs.Prelude.{IsUtf8, is_none, cond, ◌==◌}
 use Rattle.std.specs.List.{AllZip, concat, join_with_byte}
 use Rattle.std.proofs.lemmas.Bool.{eqb-false}
 use Rattle.std.proofs.lemmas.List.Concat.{flat_map-append}
 use Rattle.pg_text.specs.SessionText as said
 use Rattle.pg_spec.specs.SessionText.{IsBytes, IsNumber, IsQuoted}
-use Rattle.pg_text.specs.SessionText.{IsSlot, IsTarget, IsTypeName, IsValue, Spells, SpellsExecution}
+use Rattle.pg_text.specs.SessionText.{IsPair, IsSlot, IsTarget, IsTypeName, IsValue, Spells, SpellsExecution, SpellsTyped}
 use Rattle.pg_types.specs.declared.value.Value.{Value}
 use Rattle.pg_text.specs.declared.command.CommandTarget.{CommandTarget}
+use Rattle.pg_text.specs.declared.command.TypedText.{TypedText}
 use Rattle.pg_text.specs.declared.execution.Execution.{Execution}
 use Rattle.pg_text.specs.declared.execution.Execution.TheVariants as form
-use Rattle.pg_text.specs.Executions.{FirstWordOf, command_of, execution_word}
+use Rattle.pg_text.specs.declared.execution.TypedExecution.{TypedExecution}
+use Rattle.pg_text.specs.declared.execution.TypedExecution.TheVariants as typed
+use Rattle.pg_text.specs.Executions.{FirstWordOf, command_of, execution_word, typed_command_of, typed_word}
 use Rattle.pg_text.specs.declared.line.Keyword.{Keyword}
-use Rattle.pg_text.specs.declared.line.Keyword.TheVariants.{Config, Nonce, Limit, Turns, Handle, Step, Cut, End, Simple, Batch, Check, Prepare, Clear, Executes, QueryRaw, Close}
+use Rattle.pg_text.specs.declared.line.Keyword.TheVariants.{Config, Nonce, Limit, Turns, Handle, Step, Cut, End, Simple, Batch, Check, Prepare, Clear, Executes, QueryRaw, ExecutesTyped, Close}
 use Rattle.pg_text.specs.declared.line.Line.{Line}
 use Rattle.pg_text.specs.declared.line.Line.TheVariants as line
 use Rattle.pg_text.specs.declared.command.Command.TheVariants as command
@@ -21,7 +24,7 @@ use Rattle.pg_text.specs.Lines.{FirstWord, FirstWordAmong, command_keywords, fir
 use Rattle.pg_text.specs.Words.{AllWords, behind, IsTake, IsTextOf, IsUtf8Quoted, IsWord, left_text, NoSpace, OneWord, Takes, TookAll}
 use Rattle.pg_text.proofs.WordLaws.{Ends, bytes_ends, no_space_from, number_ends, quoted_ends, word_ends}
 use Rattle.pg_text.proofs.TypeNames.{type_name_ends}
-use Rattle.pg_text.proofs.GivenLaws.{slot_ends, target_ends, value_ends}
+use Rattle.pg_text.proofs.GivenLaws.{pair_ends, slot_ends, target_ends, value_ends}
 
 -- ---- words behind one another
 
@@ -300,6 +303,24 @@ raw_valueless old mid last to m taken took none l words (other, n, values, word,
     let front = raw_behind old mid to taken other word number given named (e ∙ ap behind same) in
     none values given each (after_word IsTake take_ends mid last m took n (codes "take" ++ 32 ∷ number) given (number, digits, refl) front).1
 
+pub typed_some : (execution : TypedExecution) (old mid : Option (List ℕ)) (text : List ℕ) (pairs : List (ℕ × Value)) (types : List ℕ) (values : List Value) →
+    types ≡ map (λ p. p.0) pairs → values ≡ map (λ p. p.1) pairs → Takes IsUtf8Quoted old (Some text) mid → AllWords IsPair mid (Some pairs) →
+    ReadsRest (ExecutesTyped execution) old (Some (line.Command (typed_command_of execution (record { text = text; types = types; values = values }))))
+typed_some execution old mid text pairs types values t v taken all = (
+  said.CommandLine (typed_command_of execution (record { text = text; types = types; values = values })),
+  taken.0 ∷ all.0,
+  (text, pairs, taken.0, all.0, (λ i. said.CommandLine (typed_command_of execution (record { text = text; types = t i; values = v i }))), taken.1.0, taken.1.1, all.1, refl),
+  taken.2 ∙ ap (λ x. 32 ∷ taken.0 ++ x) all.2,
+  refl,
+)
+
+pub typed_textless : (execution : TypedExecution) (old new : Option (List ℕ)) → Takes IsUtf8Quoted old None new → ReadsRest (ExecutesTyped execution) old None
+typed_textless execution old new none l words (text, pairs, word, given, is, utf8, quoted, each, same) e = no_word IsUtf8Quoted old new none text word given (utf8, quoted) (e ∙ ap behind same)
+
+pub typed_pairless : (execution : TypedExecution) (old mid : Option (List ℕ)) (text : List ℕ) → Takes IsUtf8Quoted old (Some text) mid → AllWords IsPair mid None → ReadsRest (ExecutesTyped execution) old None
+typed_pairless execution old mid text taken none l words (other, pairs, word, given, is, utf8, quoted, each, same) e =
+    none pairs given each (after_word IsUtf8Quoted utf8_ends old mid text taken other word given (utf8, quoted) (e ∙ ap behind same)).1
+
 pub close_some : (old : Option (List ℕ)) (slot : ℕ) → OneWord IsSlot old (Some slot) → ReadsRest Close old (Some (line.Command (command.Close slot)))
 close_some old slot (word, is, e) = (said.CommandLine (command.Close slot), word ∷ [], (slot, word, refl, is, refl), e, refl)
 
@@ -326,6 +347,18 @@ execution_spells form.QueryScalar to values s h = h
 execution_spells form.QueryOneScalar to values s h = h
 execution_spells form.QueryOptScalar to values s h = h
 execution_spells form.Execute to values s h = h
+
+-- the same of a text in one request
+typed_words : (execution : TypedExecution) (asked : TypedText) (s : List ℕ) → SpellsTyped (typed_word execution) asked s →
+    (words : List (List ℕ)) × WordsOf (ExecutesTyped execution) (said.CommandLine (typed_command_of execution asked)) words × (s ≡ typed_word execution ++ behind words)
+typed_words execution asked s (utf8, pairs, word, given, t, v, quoted, each, e) =
+    (word ∷ given, (asked.text, pairs, word, given, (λ i. said.CommandLine (typed_command_of execution (record { text = asked.text; types = t i; values = v i }))), utf8, quoted, each, refl), e ∙ join_words (typed_word execution) (word ∷ given))
+
+typed_spells : (execution : TypedExecution) (asked : TypedText) (s : List ℕ) → SpellsTyped (typed_word execution) asked s → Spells (said.CommandLine (typed_command_of execution asked)) s
+typed_spells typed.Query asked s h = h
+typed_spells typed.QueryOne asked s h = h
+typed_spells typed.QueryOpt asked s h = h
+typed_spells typed.Execute asked s h = h
 
 -- a line says nothing, or its first word tells what it is
 pub spelled_words : (l : said.Line) (s : List ℕ) → Spells l s →
@@ -375,6 +408,10 @@ spelled_words (said.CommandLine (command.QueryScalar to values)) s h = let found
 spelled_words (said.CommandLine (command.QueryOneScalar to values)) s h = let found = execution_words form.QueryOneScalar to values s h in inr (Executes form.QueryOneScalar, found.0, found.1, found.2)
 spelled_words (said.CommandLine (command.QueryOptScalar to values)) s h = let found = execution_words form.QueryOptScalar to values s h in inr (Executes form.QueryOptScalar, found.0, found.1, found.2)
 spelled_words (said.CommandLine (command.Execute to values)) s h = let found = execution_words form.Execute to values s h in inr (Executes form.Execute, found.0, found.1, found.2)
+spelled_words (said.CommandLine (command.QueryTyped asked)) s h = let found = typed_words typed.Query asked s h in inr (ExecutesTyped typed.Query, found.0, found.1, found.2)
+spelled_words (said.CommandLine (command.QueryTypedOne asked)) s h = let found = typed_words typed.QueryOne asked s h in inr (ExecutesTyped typed.QueryOne, found.0, found.1, found.2)
+spelled_words (said.CommandLine (command.QueryTypedOpt asked)) s h = let found = typed_words typed.QueryOpt asked s h in inr (ExecutesTyped typed.QueryOpt, found.0, found.1, found.2)
+spelled_words (said.CommandLine (command.ExecuteTyped asked)) s h = let found = typed_words typed.Execute asked s h in inr (ExecutesTyped typed.Execute, found.0, found.1, found.2)
 spelled_words (said.CommandLine (command.Close slot)) s (word, named, e) = inr (Close, word ∷ [], (slot, word, refl, named, refl), e ∙ join_words (codes "close") (word ∷ []))
 
 pub words_spell : (keyword : Keyword) (l : said.Line) (words : List (List ℕ)) (s : List ℕ) → WordsOf keyword l words → s ≡ first_word keyword ++ behind words → Spells l s
@@ -409,6 +446,10 @@ words_spell (Executes execution) l words s (to, values, word, given, is, named, 
 words_spell QueryRaw l words s (to, n, values, word, number, given, is, named, digits, each, same) e =
     subst (λ (m : said.Line). Spells m s) (sym is)
     (word, number, given, named, digits, each, e ∙ sym (join_words (codes "query_raw") words) ∙ ap (λ w. join_with_byte 32 (codes "query_raw" ∷ w)) same)
+words_spell (ExecutesTyped execution) l words s (text, pairs, word, given, is, utf8, quoted, each, same) e =
+    subst (λ (m : said.Line). Spells m s) (sym is)
+    (typed_spells execution (record { text = text; types = map (λ p. p.0) pairs; values = map (λ p. p.1) pairs }) s
+    (utf8, pairs, word, given, refl, refl, quoted, each, e ∙ sym (join_words (typed_word execution) words) ∙ ap (λ w. join_with_byte 32 (typed_word execution ∷ w)) same))
 words_spell Close l words s (slot, word, is, named, same) e =
     subst (λ (m : said.Line). Spells m s) (sym is) (word, named, e ∙ sym (join_words (codes "close") words) ∙ ap (λ w. join_with_byte 32 (codes "close" ∷ w)) same)
 
@@ -434,6 +475,10 @@ first_no_space (Executes form.QueryOneScalar) = no_space_from (execution_word fo
 first_no_space (Executes form.QueryOptScalar) = no_space_from (execution_word form.QueryOptScalar) refl
 first_no_space (Executes form.Execute) = no_space_from (execution_word form.Execute) refl
 first_no_space QueryRaw = no_space_from (first_word QueryRaw) refl
+first_no_space (ExecutesTyped typed.Query) = no_space_from (typed_word typed.Query) refl
+first_no_space (ExecutesTyped typed.QueryOne) = no_space_from (typed_word typed.QueryOne) refl
+first_no_space (ExecutesTyped typed.QueryOpt) = no_space_from (typed_word typed.QueryOpt) refl
+first_no_space (ExecutesTyped typed.Execute) = no_space_from (typed_word typed.Execute) refl
 first_no_space Close = no_space_from (first_word Close) refl
 
 -- the query that a word begins, by what stands behind its first two letters
@@ -441,7 +486,13 @@ query_at : List ℕ → Keyword
 query_at w =
     cond (length w == 3) (Executes form.Query) (cond (length w == 10) (Executes form.QueryScalar)
     (cond (length w == 7) (cond (get_or w 5 0 == 110) (Executes form.QueryOne) (cond (get_or w 5 0 == 112) (Executes form.QueryOpt) QueryRaw))
-    (cond (get_or w 5 0 == 110) (Executes form.QueryOneScalar) (Executes form.QueryOptScalar))))
+    (cond (length w == 9) (ExecutesTyped typed.Query)
+    (cond (length w == 13) (cond (get_or w 11 0 == 110) (ExecutesTyped typed.QueryOne) (ExecutesTyped typed.QueryOpt))
+    (cond (get_or w 5 0 == 110) (Executes form.QueryOneScalar) (Executes form.QueryOptScalar))))))
+
+-- the execution that a word begins
+execution_at : List ℕ → Keyword
+execution_at w = cond (length w == 5) (Executes form.Execute) (ExecutesTyped typed.Execute)
 
 -- the line that a word begins, told by its letters
 keyword_at : List ℕ → Keyword
@@ -449,11 +500,11 @@ keyword_at [] = Config
 keyword_at (a ∷ []) = Config
 keyword_at (a ∷ b ∷ w) =
     cond (a == 99) (cond (b == 111) Config (cond (b == 104) Check (cond (b == 108) (cond (get_or w 0 0 == 101) Clear Close) Cut)))
-    (cond (a == 110) Nonce (cond (a == 108) Limit (cond (a == 116) Turns (cond (a == 104) Handle (cond (a == 101) (cond (b == 110) End (Executes form.Execute))
+    (cond (a == 110) Nonce (cond (a == 108) Limit (cond (a == 116) Turns (cond (a == 104) Handle (cond (a == 101) (cond (b == 110) End (execution_at w))
     (cond (a == 98) Batch (cond (a == 112) Prepare (cond (a == 113) (query_at w) (cond (b == 116) Step Simple)))))))))
 
 keyword_at-first_word : (keyword : Keyword) → keyword_at (first_word keyword) ≡ keyword
-unfolding keyword_at query_at
+unfolding keyword_at query_at execution_at
 keyword_at-first_word Config = refl
 keyword_at-first_word Nonce = refl
 keyword_at-first_word Limit = refl
@@ -475,27 +526,32 @@ keyword_at-first_word (Executes form.QueryOneScalar) = refl
 keyword_at-first_word (Executes form.QueryOptScalar) = refl
 keyword_at-first_word (Executes form.Execute) = refl
 keyword_at-first_word QueryRaw = refl
+keyword_at-first_word (ExecutesTyped typed.Query) = refl
+keyword_at-first_word (ExecutesTyped typed.QueryOne) = refl
+keyword_at-first_word (ExecutesTyped typed.QueryOpt) = refl
+keyword_at-first_word (ExecutesTyped typed.Execute) = refl
 keyword_at-first_word Close = refl
 
 -- a word that begins neither of the lines that are no commands, nor of the commands, begins no line
 pub no_keyword : (word : List ℕ) → FirstWordAmong session_keywords word None → FirstWordAmong command_keywords word None →
-    FirstWordOf execution_word word None → FirstWord word None
-no_keyword word session commands none Config = session.0
-no_keyword word session commands none Nonce = session.1.0
-no_keyword word session commands none Limit = session.1.1.0
-no_keyword word session commands none Turns = session.1.1.1.0
-no_keyword word session commands none Handle = session.1.1.1.1.0
-no_keyword word session commands none Step = session.1.1.1.1.1.0
-no_keyword word session commands none Cut = session.1.1.1.1.1.1.0
-no_keyword word session commands none End = session.1.1.1.1.1.1.1.0
-no_keyword word session commands none Simple = commands.0
-no_keyword word session commands none Batch = commands.1.0
-no_keyword word session commands none Check = commands.1.1.0
-no_keyword word session commands none Prepare = commands.1.1.1.0
-no_keyword word session commands none Clear = commands.1.1.1.1.0
-no_keyword word session commands none QueryRaw = commands.1.1.1.1.1.0
-no_keyword word session commands none Close = commands.1.1.1.1.1.1.0
-no_keyword word session commands none (Executes execution) = none execution
+    FirstWordOf execution_word word None → FirstWordOf typed_word word None → FirstWord word None
+no_keyword word session commands none untyped Config = session.0
+no_keyword word session commands none untyped Nonce = session.1.0
+no_keyword word session commands none untyped Limit = session.1.1.0
+no_keyword word session commands none untyped Turns = session.1.1.1.0
+no_keyword word session commands none untyped Handle = session.1.1.1.1.0
+no_keyword word session commands none untyped Step = session.1.1.1.1.1.0
+no_keyword word session commands none untyped Cut = session.1.1.1.1.1.1.0
+no_keyword word session commands none untyped End = session.1.1.1.1.1.1.1.0
+no_keyword word session commands none untyped Simple = commands.0
+no_keyword word session commands none untyped Batch = commands.1.0
+no_keyword word session commands none untyped Check = commands.1.1.0
+no_keyword word session commands none untyped Prepare = commands.1.1.1.0
+no_keyword word session commands none untyped Clear = commands.1.1.1.1.0
+no_keyword word session commands none untyped QueryRaw = commands.1.1.1.1.1.0
+no_keyword word session commands none untyped Close = commands.1.1.1.1.1.1.0
+no_keyword word session commands none untyped (Executes execution) = none execution
+no_keyword word session commands none untyped (ExecutesTyped execution) = untyped execution
 
 same_keyword : (a b : Keyword) → first_word a ≡ first_word b → a ≡ b
 same_keyword a b e = sym (keyword_at-first_word a) ∙ ap keyword_at e ∙ keyword_at-first_word b
@@ -612,6 +668,10 @@ same_words QueryRaw l m ws vs (to, n, values, w, number, given, p, named, digits
     let third = first_of (IsNumber 18446744073709551615) (number_ends 18446744073709551615) n k number other given given' digits digits' second.1 in
     let fourth = all_same IsValue value_ends values values' given given' each each' third.1 in
     p ∙ (λ i. said.CommandLine (command.QueryRaw (first.0 i) (third.0 i) (fourth i))) ∙ sym q
+same_words (ExecutesTyped execution) l m ws vs (t, pairs, w, given, p, utf8, quoted, each, a) (u, pairs', v, given', q, utf8', quoted', each', b) e =
+    let first = first_of IsQuoted quoted_ends t u w v given given' quoted quoted' (ap behind (sym a) ∙ e ∙ ap behind b) in
+    let second = all_same IsPair pair_ends pairs pairs' given given' each each' first.1 in
+    p ∙ (λ i. said.CommandLine (typed_command_of execution (record { text = first.0 i; types = map (λ x. x.0) (second i); values = map (λ x. x.1) (second i) }))) ∙ sym q
 same_words Close l m ws vs (slot, w, p, named, a) (slot', v, q, named', b) e =
     p ∙ ap (λ n. said.CommandLine (command.Close n)) (first_of IsSlot slot_ends slot slot' w v [] [] named named' (ap behind (sym a) ∙ e ∙ ap behind b)).0 ∙ sym q
 
@@ -637,6 +697,10 @@ word_says (Executes form.QueryOneScalar) t = eqb-false 113 35 refl
 word_says (Executes form.QueryOptScalar) t = eqb-false 113 35 refl
 word_says (Executes form.Execute) t = eqb-false 101 35 refl
 word_says QueryRaw t = eqb-false 113 35 refl
+word_says (ExecutesTyped typed.Query) t = eqb-false 113 35 refl
+word_says (ExecutesTyped typed.QueryOne) t = eqb-false 113 35 refl
+word_says (ExecutesTyped typed.QueryOpt) t = eqb-false 113 35 refl
+word_says (ExecutesTyped typed.Execute) t = eqb-false 101 35 refl
 word_says Close t = eqb-false 99 35 refl
 
 -- a line is spelled by at most one line

@@ -10,7 +10,7 @@ use Rattle.pg_text.specs.SessionText.{CanNotGoOn, CommandLine, ConfigLine, CutLi
 use Rattle.pg_text.specs.Sessions.{as_session}
 use Rattle.pg_text.specs.Views.{as_command, as_scripts}
 use Rattle.pg_text.specs.declared.command.Command.{Command}
-use Rattle.pg_text.specs.declared.command.Command.TheVariants.{Batch, Check, Clear, Close, Execute, Prepare, Query, QueryOne, QueryOneScalar, QueryOpt, QueryOptScalar, QueryRaw, QueryScalar, Simple}
+use Rattle.pg_text.specs.declared.command.Command.TheVariants.{Batch, Check, Clear, Close, Execute, ExecuteTyped, Prepare, Query, QueryOne, QueryOneScalar, QueryOpt, QueryOptScalar, QueryRaw, QueryScalar, QueryTyped, QueryTypedOne, QueryTypedOpt, Simple}
 use Rattle.pg_text.proofs.LineLaws.{one_line}
 
 -- ---- lists of what is led elsewhere
@@ -188,6 +188,10 @@ back_command (QueryScalar to values) = simple.Simple [] None
 back_command (QueryOneScalar to values) = simple.Simple [] None
 back_command (QueryOptScalar to values) = simple.Simple [] None
 back_command (Execute to values) = simple.Simple [] None
+back_command (QueryTyped asked) = simple.Simple [] None
+back_command (QueryTypedOne asked) = simple.Simple [] None
+back_command (QueryTypedOpt asked) = simple.Simple [] None
+back_command (ExecuteTyped asked) = simple.Simple [] None
 back_command (Close slot) = simple.Simple [] None
 
 abbrev back_line : Line → said.Line
@@ -354,6 +358,10 @@ spells-back (CommandLine (QueryScalar to values)) w is h = absurd is
 spells-back (CommandLine (QueryOneScalar to values)) w is h = absurd is
 spells-back (CommandLine (QueryOptScalar to values)) w is h = absurd is
 spells-back (CommandLine (Execute to values)) w is h = absurd is
+spells-back (CommandLine (QueryTyped asked)) w is h = absurd is
+spells-back (CommandLine (QueryTypedOne asked)) w is h = absurd is
+spells-back (CommandLine (QueryTypedOpt asked)) w is h = absurd is
+spells-back (CommandLine (ExecuteTyped asked)) w is h = absurd is
 spells-back (CommandLine (Close slot)) w is h = absurd is
 
 zip-back : (lines : List Line) (spelled : List (List ℕ)) → AllByRecursion IsSimpleLine lines → AllZip Spells lines spelled → AllZip said.Spells (map back_line lines) spelled

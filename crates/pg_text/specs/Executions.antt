@@ -4,8 +4,11 @@ use Rattle.pg_types.specs.declared.value.Value.{Value}
 use Rattle.pg_text.specs.declared.command.Command.{Command}
 use Rattle.pg_text.specs.declared.command.Command.TheVariants as command
 use Rattle.pg_text.specs.declared.command.CommandTarget.{CommandTarget}
+use Rattle.pg_text.specs.declared.command.TypedText.{TypedText}
 use Rattle.pg_text.specs.declared.execution.Execution.{Execution}
 use Rattle.pg_text.specs.declared.execution.Execution.TheVariants.{Execute, Query, QueryOne, QueryOneScalar, QueryOpt, QueryOptScalar, QueryScalar}
+use Rattle.pg_text.specs.declared.execution.TypedExecution.{TypedExecution}
+use Rattle.pg_text.specs.declared.execution.TypedExecution.TheVariants as typed
 
 -- the command with this target and these values
 abbrev pub command_of : Execution → CommandTarget → List Value → Command
@@ -26,6 +29,20 @@ execution_word QueryScalar = codes "query_scalar"
 execution_word QueryOneScalar = codes "query_one_scalar"
 execution_word QueryOptScalar = codes "query_opt_scalar"
 execution_word Execute = codes "execute"
+
+-- the command with this text, and values with their types
+abbrev pub typed_command_of : TypedExecution → TypedText → Command
+typed_command_of typed.Query asked = command.QueryTyped asked
+typed_command_of typed.QueryOne asked = command.QueryTypedOne asked
+typed_command_of typed.QueryOpt asked = command.QueryTypedOpt asked
+typed_command_of typed.Execute asked = command.ExecuteTyped asked
+
+-- the first word of its line
+abbrev pub typed_word : TypedExecution → List ℕ
+typed_word typed.Query = codes "query_typed"
+typed_word typed.QueryOne = codes "query_typed_one"
+typed_word typed.QueryOpt = codes "query_typed_opt"
+typed_word typed.Execute = codes "execute_typed"
 
 -- the word begins the line of this form, whose first word this is, or of none
 abbrev pub FirstWordOf : {F : Type 0} → (F → List ℕ) → List ℕ → Option F → Type 0

@@ -3,6 +3,7 @@ pub mod Drafts
 pub mod Scripts
 pub mod Words
 pub mod Executions
+pub mod Pairs
 pub mod Lines
 pub mod Views
 pub mod ReportText

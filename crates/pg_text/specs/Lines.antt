@@ -1,15 +1,15 @@
 -- The lines of a session text, told by their first words.
-use Rattle.std.specs.Prelude.{◌≡◌, ◌≢◌, ◌≤◌, ◌⊎◌, ℕ, List, [], ◌∷◌, Option, Some, None, IsUtf8, codes}
+use Rattle.std.specs.Prelude.{◌≡◌, ◌≢◌, ◌≤◌, ◌⊎◌, ℕ, List, [], ◌∷◌, map, Option, Some, None, IsUtf8, codes}
 use Rattle.std.specs.List.{AllByRecursion, AllZip, concat}
 use Rattle.pg_text.specs.declared.command.Command.TheVariants as command
 use Rattle.pg_text.specs.SessionText as said
 use Rattle.pg_spec.specs.SessionText.{IsBytes, IsNumber, IsQuoted}
-use Rattle.pg_text.specs.SessionText.{IsSlot, IsTarget, IsTypeName, IsValue, Spells}
+use Rattle.pg_text.specs.SessionText.{IsPair, IsSlot, IsTarget, IsTypeName, IsValue, Spells}
 use Rattle.pg_types.specs.declared.value.Value.{Value}
 use Rattle.pg_text.specs.declared.command.CommandTarget.{CommandTarget}
-use Rattle.pg_text.specs.Executions.{command_of, execution_word}
+use Rattle.pg_text.specs.Executions.{command_of, execution_word, typed_command_of, typed_word}
 use Rattle.pg_text.specs.declared.line.Keyword.{Keyword}
-use Rattle.pg_text.specs.declared.line.Keyword.TheVariants.{Config, Nonce, Limit, Turns, Handle, Step, Cut, End, Simple, Batch, Check, Prepare, Clear, Executes, QueryRaw, Close}
+use Rattle.pg_text.specs.declared.line.Keyword.TheVariants.{Config, Nonce, Limit, Turns, Handle, Step, Cut, End, Simple, Batch, Check, Prepare, Clear, Executes, QueryRaw, ExecutesTyped, Close}
 use Rattle.pg_text.specs.declared.line.Line.{Line}
 use Rattle.pg_text.specs.declared.line.Line.TheVariants as line
 use Rattle.pg_text.specs.Words.{behind, left_text}
@@ -31,6 +31,7 @@ first_word Prepare = codes "prepare"
 first_word Clear = codes "clear"
 first_word (Executes execution) = execution_word execution
 first_word QueryRaw = codes "query_raw"
+first_word (ExecutesTyped execution) = typed_word execution
 first_word Close = codes "close"
 
 -- the word begins this line, or none
@@ -89,6 +90,9 @@ WordsOf (Executes execution) l words = (to : CommandTarget) × (values : List Va
 WordsOf QueryRaw l words = (to : CommandTarget) × (n : ℕ) × (values : List Value) × (word : List ℕ) × (number : List ℕ) × (given : List (List ℕ))
     × (l ≡ said.CommandLine (command.QueryRaw to n values)) × IsTarget to word × IsNumber 18446744073709551615 n number × AllZip IsValue values given
     × (words ≡ word ∷ codes "take" ∷ number ∷ given)
+WordsOf (ExecutesTyped execution) l words = (text : List ℕ) × (pairs : List (ℕ × Value)) × (word : List ℕ) × (given : List (List ℕ))
+    × (l ≡ said.CommandLine (typed_command_of execution (record { text = text; types = map (λ p. p.0) pairs; values = map (λ p. p.1) pairs }))) × IsUtf8 text × IsQuoted text word
+    × AllZip IsPair pairs given × (words ≡ word ∷ given)
 WordsOf Close l words = (slot : ℕ) × (word : List ℕ) × (l ≡ said.CommandLine (command.Close slot)) × IsSlot slot word × (words ≡ word ∷ [])
 
 -- behind the first word a line goes on so; None: there is no such line

@@ -7,9 +7,10 @@ use Rattle.pg_types.specs.declared.value.Value.{Value}
 use Rattle.pg_types.specs.declared.value.Value.TheVariants as value
 use Rattle.pg_spec.specs.SessionText.{AreLines, IsBytes, IsHex, IsNumber, IsQuoted, IsWords, default_nonce, one_or}
 use Rattle.pg_text.specs.declared.command.Command.{Command}
-use Rattle.pg_text.specs.declared.command.Command.TheVariants.{Batch, Check, Clear, Close, Execute, Prepare, Query, QueryOne, QueryOneScalar, QueryOpt, QueryOptScalar, QueryRaw, QueryScalar, Simple}
+use Rattle.pg_text.specs.declared.command.Command.TheVariants.{Batch, Check, Clear, Close, Execute, ExecuteTyped, Prepare, Query, QueryOne, QueryOneScalar, QueryOpt, QueryOptScalar, QueryRaw, QueryScalar, QueryTyped, QueryTypedOne, QueryTypedOpt, Simple}
 use Rattle.pg_text.specs.declared.command.CommandTarget.{CommandTarget}
 use Rattle.pg_text.specs.declared.command.CommandTarget.TheVariants as target
+use Rattle.pg_text.specs.declared.command.TypedText.{TypedText}
 
 -- what a line says
 pub data Line : Type 0 where
@@ -56,9 +57,18 @@ IsValue (value.Int z) word = IsInt z word
 IsValue (value.Text text) word = IsUtf8 text × IsQuoted text word
 IsValue (value.Bytes bytes) word = (digits : List ℕ) × IsHex bytes digits × (word ≡ byte "x" ∷ digits)
 
+-- the name of a type, and a value behind a space
+abbrev pub IsPair : ℕ × Value → List ℕ → Type 0
+IsPair (oid, v) spelled = (name : List ℕ) × (word : List ℕ) × IsTypeName oid name × IsValue v word × (spelled ≡ name ++ byte " " ∷ word)
+
 -- a target and values behind the first word of a line
 abbrev pub SpellsExecution : (first : List ℕ) → CommandTarget → List Value → List ℕ → Type 0
 SpellsExecution first to values spelled = (word : List ℕ) × (words : List (List ℕ)) × IsTarget to word × AllZip IsValue values words × IsWords first (word ∷ words) spelled
+
+-- a text, and types and values by turns, behind the first word of a line
+abbrev pub SpellsTyped : (first : List ℕ) → TypedText → List ℕ → Type 0
+SpellsTyped first asked spelled = IsUtf8 asked.text × (pairs : List (ℕ × Value)) × (word : List ℕ) × (words : List (List ℕ))
+    × (asked.types ≡ map (λ p. p.0) pairs) × (asked.values ≡ map (λ p. p.1) pairs) × IsQuoted asked.text word × AllZip IsPair pairs words × IsWords first (word ∷ words) spelled
 
 -- how a line is spelled
 abbrev pub Spells : Line → List ℕ → Type 0
@@ -88,6 +98,10 @@ Spells (CommandLine (QueryScalar to values)) spelled = SpellsExecution (codes "q
 Spells (CommandLine (QueryOneScalar to values)) spelled = SpellsExecution (codes "query_one_scalar") to values spelled
 Spells (CommandLine (QueryOptScalar to values)) spelled = SpellsExecution (codes "query_opt_scalar") to values spelled
 Spells (CommandLine (Execute to values)) spelled = SpellsExecution (codes "execute") to values spelled
+Spells (CommandLine (QueryTyped asked)) spelled = SpellsTyped (codes "query_typed") asked spelled
+Spells (CommandLine (QueryTypedOne asked)) spelled = SpellsTyped (codes "query_typed_one") asked spelled
+Spells (CommandLine (QueryTypedOpt asked)) spelled = SpellsTyped (codes "query_typed_opt") asked spelled
+Spells (CommandLine (ExecuteTyped asked)) spelled = SpellsTyped (codes "execute_typed") asked spelled
 Spells (CommandLine (Close slot)) spelled = (word : List ℕ) × IsSlot slot word × IsWords (codes "close") (word ∷ []) spelled
 
 -- the text of a `config` line

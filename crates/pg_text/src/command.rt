@@ -14,6 +14,16 @@ pub enum CommandTarget {
     Text(Text),
 }
 
+/// A text, and values with their types.
+#[derive(Debug, Drop)]
+pub struct TypedText {
+    pub text: Text,
+    /// Oids, which are to be of built-in types.
+    pub types: List<Oid>,
+    /// The values, which are to be as many. Each is encoded for the type at its place.
+    pub values: List<Value>,
+}
+
 /// A command of a script.
 #[derive(Debug, Drop)]
 pub enum Command {
@@ -77,6 +87,14 @@ pub enum Command {
         target: CommandTarget,
         values: List<Value>,
     },
+    /// A text is executed in one request, and its rows are the answer.
+    QueryTyped(TypedText),
+    /// The same, where it must give one row.
+    QueryTypedOne(TypedText),
+    /// The same, where it may give one row at most.
+    QueryTypedOpt(TypedText),
+    /// A text is executed in one request, and the answer is how many rows it affected.
+    ExecuteTyped(TypedText),
     /// The statement in this slot is closed; then the slot is empty.
     Close {
         slot: u64,

@@ -17,7 +17,7 @@ mod session;
 mod type_name;
 mod word;
 
-pub use command::{Answer, Command, CommandTarget};
+pub use command::{Answer, Command, CommandTarget, TypedText};
 pub use laws::{
     one_line, one_session, refused_is_none, simple_refusals_stay, simple_reports_print_so,
     simple_texts_stay,

@@ -9,8 +9,8 @@ ghost use Rattle.pg_text.specs.Lines.{FirstWord, FirstWordAmong, ReadsLine, Read
 ghost use Rattle.pg_text.specs.Words.{AllBytes, AllWords, IsTake, IsTextOf, IsUtf8Quoted, OneWord, Takes};
 
 use crate::command::Command;
-use crate::executing::{execution_line, raw_line};
-use crate::execution::{Execution, execution_of};
+use crate::executing::{execution_line, raw_line, typed_line};
+use crate::execution::{Execution, TypedExecution, execution_of, typed_execution_of};
 use crate::given::next_slot;
 use crate::word::Words;
 use pg_types::{Blob, List, Oid, OutOfMemory, Text};
@@ -83,6 +83,7 @@ enum Keyword {
     Clear,
     Executes(Execution),
     QueryRaw,
+    ExecutesTyped(TypedExecution),
     Close,
 }
 
@@ -96,8 +97,11 @@ fn keyword_of(word: &[u8]) -> Option<Keyword>
     if let Some(keyword) = command_keyword_of(word) {
         return Some(keyword);
     }
-    match execution_of(word) {
-        Some(execution) => Some(Keyword::Executes(execution)),
+    if let Some(execution) = execution_of(word) {
+        return Some(Keyword::Executes(execution));
+    }
+    match typed_execution_of(word) {
+        Some(execution) => Some(Keyword::ExecutesTyped(execution)),
         None => None,
     }
 }
@@ -186,6 +190,7 @@ fn read_rest(
         Keyword::Clear => Ok(clear_line(words)),
         Keyword::Executes(execution) => execution_line(alloc, execution, words),
         Keyword::QueryRaw => raw_line(alloc, words),
+        Keyword::ExecutesTyped(execution) => typed_line(alloc, execution, words),
         Keyword::Close => Ok(close_line(words)),
     }
 }
