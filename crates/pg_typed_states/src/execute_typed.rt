@@ -3,6 +3,7 @@
 ghost use Rattle.std.specs.Prelude.{◌≡◌, length};
 ghost use Rattle.pg_scripts.specs.Maybes.{maybe_dialogue};
 ghost use Rattle.pg_execute.specs.Typed.{execute_typed};
+ghost use Rattle.pg_typed.specs.Types.{built_in_types, types_in};
 ghost use Rattle.pg_typed_states.specs.Paired.{paired};
 
 use futures::task::Poll;
@@ -11,19 +12,19 @@ use pg_errors::Error;
 use pg_query::{Command, Polled, Script};
 use pg_scripts::Maybe;
 use pg_typed::{ExecuteTyped, Types};
-use pg_types::{Type, Value};
+use pg_types::{Oid, Type, Value};
 use std::alloc::Global;
 
 type Executed<'a> = Maybe<u64, ExecuteTyped<'a>>;
 
-/// What is executed, where there are as many values as types.
-fn of_pairs<'a>(text: &'a str, types: &'a [Type], values: &'a [Value]) -> Executed<'a>
-    ensures { maybe_dialogue ⟦<ExecuteTyped<'a> as Script>⟧.dialogue result ≡ paired (length types.now) values.now (execute_typed text.now types.now values.now) }
+/// What is executed, where there are as many values as types, which are so many.
+fn of_pairs<'a>(text: &'a str, types: Types<'a>, count: usize, values: &'a [Value]) -> Executed<'a>
+    ensures { maybe_dialogue ⟦<ExecuteTyped<'a> as Script>⟧.dialogue result ≡ paired count values.now (execute_typed text.now (types_in types.entry) values.now) }
 {
-    if values.len() != types.len() {
-        return Maybe::Answers(Err(Error::Parameters(values.len(), types.len())));
+    if values.len() != count {
+        return Maybe::Answers(Err(Error::Parameters(values.len(), count)));
     }
-    Maybe::Goes(ExecuteTyped::new(text, Types::Given(types), values))
+    Maybe::Goes(ExecuteTyped::new(text, types, values))
 }
 
 /// The state that executes a text with values of given types, in one request. How many rows its last command affected is
@@ -40,7 +41,23 @@ impl<'a> ExecuteTypedState<'a> {
         ensures live { ⟦<ExecuteTypedState<'a> as Polled>⟧.is_live result }
         ensures asks { (⟦<ExecuteTypedState<'a> as Polled>⟧.place result).dialogue ≡ paired (length types.now) values.now (execute_typed text.now types.now values.now) }
     {
-        let script = of_pairs(text, types, values);
+        let script = of_pairs(text, Types::Given(types), types.len(), values);
+        ExecuteTypedState {
+            command: Command::new(script),
+        }
+    }
+
+    /// The same, where the types are built-in, and these are their oids. An oid of no such type is left out: the types behind
+    /// it then stand a place before, and a value past them is dropped.
+    pub fn of_built_ins(
+        text: &'a str,
+        oids: &'a [Oid],
+        values: &'a [Value],
+    ) -> ExecuteTypedState<'a>
+        ensures live { ⟦<ExecuteTypedState<'a> as Polled>⟧.is_live result }
+        ensures asks { (⟦<ExecuteTypedState<'a> as Polled>⟧.place result).dialogue ≡ paired (length oids.now) values.now (execute_typed text.now (built_in_types oids.now) values.now) }
+    {
+        let script = of_pairs(text, Types::BuiltIn(oids), oids.len(), values);
         ExecuteTypedState {
             command: Command::new(script),
         }

@@ -4,6 +4,7 @@ ghost use Rattle.std.specs.Prelude.{◌≡◌, length};
 ghost use Rattle.pg_scripts.specs.Maybes.{maybe_dialogue};
 ghost use Rattle.pg_lookup.specs.Lookups.{find_all};
 ghost use Rattle.pg_execute.specs.Typed.{query_typed};
+ghost use Rattle.pg_typed.specs.Types.{built_in_types, types_in};
 ghost use Rattle.pg_typed_states.specs.Paired.{paired};
 
 use futures::task::Poll;
@@ -16,26 +17,27 @@ use pg_query::{Command, Polled, Script};
 use pg_scripts::Maybe;
 use pg_typed::Types;
 use pg_typed_queries::QueryTyped;
-use pg_types::{Type, Value};
+use pg_types::{Oid, Type, Value};
 use std::alloc::Global;
 
 type Typed<'a> = QueryTyped<'a, Finds, <Finds as Finder>::Search>;
 
 type Queried<'a> = Maybe<ResultSet, Typed<'a>>;
 
-/// What is queried, where there are as many values as types.
+/// What is queried, where there are as many values as types, which are so many.
 fn of_pairs<'a>(
     how_many: HowMany,
     text: &'a str,
-    types: &'a [Type],
+    types: Types<'a>,
+    count: usize,
     values: &'a [Value],
 ) -> Queried<'a>
-    ensures { maybe_dialogue ⟦<Typed<'a> as Script>⟧.dialogue result ≡ paired (length types.now) values.now (query_typed find_all how_many text.now types.now values.now) }
+    ensures { maybe_dialogue ⟦<Typed<'a> as Script>⟧.dialogue result ≡ paired count values.now (query_typed find_all how_many text.now (types_in types.entry) values.now) }
 {
-    if values.len() != types.len() {
-        return Maybe::Answers(Err(Error::Parameters(values.len(), types.len())));
+    if values.len() != count {
+        return Maybe::Answers(Err(Error::Parameters(values.len(), count)));
     }
-    Maybe::Goes(QueryTyped::new(how_many, text, Types::Given(types), values, Finds {}))
+    Maybe::Goes(QueryTyped::new(how_many, text, types, values, Finds {}))
 }
 
 /// The state that queries a text with values of given types, in one request. Its rows are the answer.
@@ -57,7 +59,24 @@ impl<'a> QueryTypedState<'a> {
         ensures live { ⟦<QueryTypedState<'a> as Polled>⟧.is_live result }
         ensures asks { (⟦<QueryTypedState<'a> as Polled>⟧.place result).dialogue ≡ paired (length types.now) values.now (query_typed find_all how_many text.now types.now values.now) }
     {
-        let script = of_pairs(how_many, text, types, values);
+        let script = of_pairs(how_many, text, Types::Given(types), types.len(), values);
+        QueryTypedState {
+            command: Command::new(script),
+        }
+    }
+
+    /// The same, where the types are built-in, and these are their oids. An oid of no such type is left out: the types behind
+    /// it then stand a place before, and a value past them is dropped.
+    pub fn of_built_ins(
+        how_many: HowMany,
+        text: &'a str,
+        oids: &'a [Oid],
+        values: &'a [Value],
+    ) -> QueryTypedState<'a>
+        ensures live { ⟦<QueryTypedState<'a> as Polled>⟧.is_live result }
+        ensures asks { (⟦<QueryTypedState<'a> as Polled>⟧.place result).dialogue ≡ paired (length oids.now) values.now (query_typed find_all how_many text.now (built_in_types oids.now) values.now) }
+    {
+        let script = of_pairs(how_many, text, Types::BuiltIn(oids), oids.len(), values);
         QueryTypedState {
             command: Command::new(script),
         }
