@@ -2,7 +2,7 @@
 use Rattle.std.specs.Prelude.{Option, None}
 use Rattle.pg_statements.specs.declared.statement.Described.{Described as Statement}
 use Rattle.pg_text.specs.declared.command.Command.{Command}
-use Rattle.pg_text.specs.declared.command.Command.TheVariants.{Batch, Check, Clear, Close, Execute, Prepare, Query, QueryOne, QueryOneScalar, QueryOpt, QueryOptScalar, QueryRaw, QueryScalar, Simple}
+use Rattle.pg_text.specs.declared.command.Command.TheVariants.{Batch, Check, Clear, Close, Execute, ExecuteTyped, Prepare, Query, QueryOne, QueryOneScalar, QueryOpt, QueryOptScalar, QueryRaw, QueryScalar, QueryTyped, QueryTypedOne, QueryTypedOpt, Simple}
 use Rattle.pg_text.specs.declared.command.CommandTarget.{CommandTarget}
 use Rattle.pg_text.specs.declared.command.CommandTarget.TheVariants.{Slot, Text}
 use Rattle.pg_table.specs.Slots.{Slots, statement_in}
@@ -27,4 +27,8 @@ named (QueryScalar to values) own = named_by to own
 named (QueryOneScalar to values) own = named_by to own
 named (QueryOptScalar to values) own = named_by to own
 named (Execute to values) own = named_by to own
+named (QueryTyped asked) own = None
+named (QueryTypedOne asked) own = None
+named (QueryTypedOpt asked) own = None
+named (ExecuteTyped asked) own = None
 named (Close slot) own = statement_in own slot

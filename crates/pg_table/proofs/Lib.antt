@@ -6,6 +6,7 @@ pub mod Holding
 pub mod Finding
 pub mod MappedCommands
 pub mod Counted
+pub mod Pairs
 pub mod SimpleMeans
 pub mod Renamed
 pub mod RenamedSent

@@ -1,5 +1,5 @@
 -- What the commands of the table mean.
-use Rattle.std.proofs.Common.{◌≡◌, ℕ, List, [], Bool, true, false, Option, Some, None, option_map, Result, Ok, Err, refl, sym, ap, ◌∙◌, subst}
+use Rattle.std.proofs.Common.{◌≡◌, ℕ, List, [], Bool, true, false, Option, Some, None, option_map, length, Result, Ok, Err, refl, sym, ap, ◌∙◌, subst}
 use Rattle.std.specs.Prelude.{is_some}
 use Rattle.pg_spec.specs.Faults.{FrameFault}
 use Rattle.pg_spec.specs.Frames.{query_frame, sync_frame}
@@ -10,16 +10,21 @@ use Rattle.pg_client.specs.Simple.{answer_from, asks_by as asks_of, simple_query
 use Rattle.pg_client.proofs.Done.{batch-free, done-free}
 use Rattle.pg_client.proofs.Leaving.{query-free}
 use Rattle.pg_faults.specs.declared.error.Error.{Error}
-use Rattle.pg_lookup.specs.Lookups.{clear, prepare}
+use Rattle.pg_lookup.specs.Lookups.{clear, find_all, prepare}
 use Rattle.pg_lookup_laws.proofs.Commands.{IsTaken, answers, clearing, preparing-text}
 use Rattle.pg_execute.specs.Executes as execution
 use Rattle.pg_execute.specs.declared.how_many.HowMany.{HowMany}
 use Rattle.pg_execute.specs.declared.how_many.HowMany.TheVariants.{Any, AtMostOne, One}
 use Rattle.pg_execute_laws.proofs.Commands.{closes-taken, executes-taken, on-text, queries-taken, raw-queries-taken, scalars-taken}
+use Rattle.pg_execute.specs.Typed.{execute_typed, query_typed}
+use Rattle.pg_typed.specs.Types.{built_in_types}
+use Rattle.pg_typed_laws.proofs.Commands.{typed-executes-taken, typed-queries-taken}
+use Rattle.pg_typed_states.specs.Paired.{paired}
 use Rattle.pg_statements.specs.declared.statement.Described.{Described}
 use Rattle.pg_types.specs.declared.value.Value.{Value}
 use Rattle.pg_text.specs.declared.command.CommandTarget.{CommandTarget}
 use Rattle.pg_text.specs.declared.command.CommandTarget.TheVariants as target
+use Rattle.pg_text.specs.declared.command.TypedText.{TypedText}
 use Rattle.pg_query.specs.Dialogue.{Dialogue as Code}
 use Rattle.pg_query.specs.Leaving.{Nothing}
 use Rattle.pg_query.specs.Reading.{ends}
@@ -39,13 +44,14 @@ use Rattle.pg_core.proofs.Requests.{request-so}
 use Rattle.pg_turns.specs.Speeches.{AreCommands, BookWhole, BooksWhole, IsWholeRequest, LetGo, meaning_of}
 use Rattle.pg_table.specs.Mapped.{mapped, mapped_answer}
 use Rattle.pg_table.specs.Slots.{Slots, statement_in}
-use Rattle.pg_table.specs.Table.{in_count, in_done, in_messages, in_rows, in_scalars, in_statement, kept_answer, says_close, says_execute, says_query, says_query_raw, says_query_scalar, table, simply}
+use Rattle.pg_table.specs.Table.{in_count, in_done, in_messages, in_rows, in_scalars, in_statement, kept_answer, says_close, says_execute, says_execute_typed, says_query, says_query_raw, says_query_scalar, says_query_typed, table, simply}
 use Rattle.pg_table.specs.Targets.{on_target, or_missing}
 use Rattle.pg_table.specs.declared.state.AnyAnswer.{AnyAnswer}
 use Rattle.pg_table.proofs.Decided.{whole-decides}
 use Rattle.pg_table.proofs.DoneDecides.{done-decides, whole-sync}
 use Rattle.pg_table.proofs.Mapped.{asked-mapped, asks-mapped, decides-mapped, lets-mapped, reading_in}
 use Rattle.pg_table.proofs.MappedCommands.{books-mapped, command-mapped}
+use Rattle.pg_table.proofs.Pairs.{paired-taken}
 use Rattle.pg_table.proofs.Queries.{whole-query}
 
 -- ---- what is done with a statement in a slot, or with a text
@@ -76,6 +82,17 @@ says-scalar how own to values =
 
 says-execute : (own : Slots) (to : CommandTarget) (values : List Value) → IsTaken (says_execute own to values)
 says-execute own to values = taken-mapped in_count (on_target own to (λ s. execution.execute s values)) (on-target own to (λ s. execution.execute s values) (λ s. executes-taken s values))
+
+-- and so is a text in one request
+says-typed : (how : HowMany) (asked : TypedText) → IsTaken (says_query_typed how asked)
+says-typed how asked =
+    let says = query_typed find_all how asked.text (built_in_types asked.types) asked.values in
+    taken-mapped in_rows (paired (length asked.types) asked.values says) (paired-taken (length asked.types) asked.values says (typed-queries-taken how asked.text (built_in_types asked.types) asked.values))
+
+says-execute-typed : (asked : TypedText) → IsTaken (says_execute_typed asked)
+says-execute-typed asked =
+    let says = execute_typed asked.text (built_in_types asked.types) asked.values in
+    taken-mapped in_count (paired (length asked.types) asked.values says) (paired-taken (length asked.types) asked.values says (typed-executes-taken asked.text (built_in_types asked.types) asked.values))
 
 says-close : (own : Slots) (slot : ℕ) → IsTaken (says_close own slot)
 says-close own slot = taken-mapped in_done (or_missing execution.close (statement_in own slot)) (or-missing execution.close closes-taken (statement_in own slot))
@@ -115,6 +132,10 @@ are-commands own (command.QueryScalar to values) = (says-scalar Any own to value
 are-commands own (command.QueryOneScalar to values) = (says-scalar One own to values).command
 are-commands own (command.QueryOptScalar to values) = (says-scalar AtMostOne own to values).command
 are-commands own (command.Execute to values) = (says-execute own to values).command
+are-commands own (command.QueryTyped asked) = (says-typed Any asked).command
+are-commands own (command.QueryTypedOne asked) = (says-typed One asked).command
+are-commands own (command.QueryTypedOpt asked) = (says-typed AtMostOne asked).command
+are-commands own (command.ExecuteTyped asked) = (says-execute-typed asked).command
 are-commands own (command.Close slot) = (says-close own slot).command
 
 -- ---- and book whole requests
@@ -157,6 +178,10 @@ book-whole own (command.QueryScalar to values) = (says-scalar Any own to values)
 book-whole own (command.QueryOneScalar to values) = (says-scalar One own to values).whole
 book-whole own (command.QueryOptScalar to values) = (says-scalar AtMostOne own to values).whole
 book-whole own (command.Execute to values) = (says-execute own to values).whole
+book-whole own (command.QueryTyped asked) = (says-typed Any asked).whole
+book-whole own (command.QueryTypedOne asked) = (says-typed One asked).whole
+book-whole own (command.QueryTypedOpt asked) = (says-typed AtMostOne asked).whole
+book-whole own (command.ExecuteTyped asked) = (says-execute-typed asked).whole
 book-whole own (command.Close slot) = (says-close own slot).whole
 
 -- ---- and let them go
@@ -175,6 +200,10 @@ let-go own (command.QueryScalar to values) = (says-scalar Any own to values).let
 let-go own (command.QueryOneScalar to values) = (says-scalar One own to values).lets_go
 let-go own (command.QueryOptScalar to values) = (says-scalar AtMostOne own to values).lets_go
 let-go own (command.Execute to values) = (says-execute own to values).lets_go
+let-go own (command.QueryTyped asked) = (says-typed Any asked).lets_go
+let-go own (command.QueryTypedOne asked) = (says-typed One asked).lets_go
+let-go own (command.QueryTypedOpt asked) = (says-typed AtMostOne asked).lets_go
+let-go own (command.ExecuteTyped asked) = (says-execute-typed asked).lets_go
 let-go own (command.Close slot) = (says-close own slot).lets_go
 
 -- ---- and mean what the headline says
@@ -223,4 +252,8 @@ are-simple own (command.QueryScalar to values) text' take' e = absurd cc
 are-simple own (command.QueryOneScalar to values) text' take' e = absurd cc
 are-simple own (command.QueryOptScalar to values) text' take' e = absurd cc
 are-simple own (command.Execute to values) text' take' e = absurd cc
+are-simple own (command.QueryTyped asked) text' take' e = absurd cc
+are-simple own (command.QueryTypedOne asked) text' take' e = absurd cc
+are-simple own (command.QueryTypedOpt asked) text' take' e = absurd cc
+are-simple own (command.ExecuteTyped asked) text' take' e = absurd cc
 are-simple own (command.Close slot) text' take' e = absurd cc

@@ -10,11 +10,13 @@ use Rattle.pg_executed.specs.contracts.missing.MissingStatePolled.TheImpl as mis
 use Rattle.pg_prepared.specs.States.{IsLiveClear, place_of_clear}
 use Rattle.pg_prepared.specs.contracts.prepare.PrepareStatePolled.TheImpl as prepared
 use Rattle.pg_query.specs.Meaning.{Place}
+use Rattle.pg_typed_states.specs.contracts.execute_typed.ExecuteTypedStatePolled.TheImpl as typed_executed
+use Rattle.pg_typed_states.specs.contracts.query_typed.QueryTypedStatePolled.TheImpl as typed_queried
 use Rattle.pg_table.specs.Mapped.{mapped_place}
 use Rattle.pg_table.specs.Table.{in_count, in_done, in_messages, in_rows, in_scalars, in_statement}
 use Rattle.pg_table.specs.declared.state.AnyAnswer.{AnyAnswer}
 use Rattle.pg_table.specs.declared.state.AnyState.{AnyState}
-use Rattle.pg_table.specs.declared.state.AnyState.TheVariants.{Batch, Check, Clear, Close, Execute, Missing, Prepare, Query, QueryRaw, Scalar, Simple}
+use Rattle.pg_table.specs.declared.state.AnyState.TheVariants.{Batch, Check, Clear, Close, Execute, ExecuteTyped, Missing, Prepare, Query, QueryRaw, QueryTyped, Scalar, Simple}
 
 -- what it asks and answers from here on, and the request that it reads
 abbrev pub place_of : AnyState → Place AnyAnswer
@@ -27,6 +29,8 @@ place_of (Query state) = mapped_place in_rows (queried.ghosts.place state.value)
 place_of (QueryRaw state) = mapped_place in_rows (first_queried.ghosts.place state.value)
 place_of (Scalar state) = mapped_place in_scalars (scalars_queried.ghosts.place state.value)
 place_of (Execute state) = mapped_place in_count (executed.ghosts.place state.value)
+place_of (QueryTyped state) = mapped_place in_rows (typed_queried.ghosts.place state.value)
+place_of (ExecuteTyped state) = mapped_place in_count (typed_executed.ghosts.place state.value)
 place_of (Close state) = mapped_place in_done (place_of_close state.value)
 place_of (Missing state) = mapped_place in_done (missing.ghosts.place state.value)
 
@@ -41,5 +45,7 @@ IsLive (Query state) = queried.ghosts.is_live state.value
 IsLive (QueryRaw state) = first_queried.ghosts.is_live state.value
 IsLive (Scalar state) = scalars_queried.ghosts.is_live state.value
 IsLive (Execute state) = executed.ghosts.is_live state.value
+IsLive (QueryTyped state) = typed_queried.ghosts.is_live state.value
+IsLive (ExecuteTyped state) = typed_executed.ghosts.is_live state.value
 IsLive (Close state) = IsLiveClose state.value
 IsLive (Missing state) = missing.ghosts.is_live state.value

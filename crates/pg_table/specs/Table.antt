@@ -1,14 +1,15 @@
 -- The commands of a script: what each asks, and what is kept of its answer.
-use Rattle.std.specs.Prelude.{ℕ, List, [], Option, Some, None, Result, Ok, Err}
+use Rattle.std.specs.Prelude.{ℕ, List, [], length, Option, Some, None, Result, Ok, Err}
 use Rattle.pg_faults.specs.declared.error.Error.{Error}
 use Rattle.pg_client.specs.Done.{batch_execute, check_connection}
 use Rattle.pg_client.specs.Simple.{answer_from, simple_query}
 use Rattle.pg_course.specs.Simples.{Simply}
 use Rattle.pg_execute.specs.Executes as execution
+use Rattle.pg_execute.specs.Typed.{execute_typed, query_typed}
 use Rattle.pg_execute.specs.declared.how_many.HowMany.{HowMany}
 use Rattle.pg_execute.specs.declared.how_many.HowMany.TheVariants.{Any, AtMostOne, One}
 use Rattle.pg_execute.specs.declared.result_set.ResultSet.{ResultSet}
-use Rattle.pg_lookup.specs.Lookups.{clear, prepare}
+use Rattle.pg_lookup.specs.Lookups.{clear, find_all, prepare}
 use Rattle.pg_query.specs.Dialogue.{Dialogue}
 use Rattle.pg_query.specs.declared.simple_message.SimpleMessage.{SimpleMessage}
 use Rattle.pg_statements.specs.declared.statement.Described.{Described}
@@ -17,6 +18,9 @@ use Rattle.pg_text.specs.declared.command.Answer.TheVariants as answer
 use Rattle.pg_text.specs.declared.command.Command.{Command}
 use Rattle.pg_text.specs.declared.command.Command.TheVariants as command
 use Rattle.pg_text.specs.declared.command.CommandTarget.{CommandTarget}
+use Rattle.pg_text.specs.declared.command.TypedText.{TypedText}
+use Rattle.pg_typed.specs.Types.{built_in_types}
+use Rattle.pg_typed_states.specs.Paired.{paired}
 use Rattle.pg_types.specs.declared.value.Value.{Value}
 use Rattle.pg_turns.specs.Handles.{HandleState}
 use Rattle.pg_turns.specs.Speeches.{Speech}
@@ -61,6 +65,14 @@ says_query how slots to values = mapped in_rows (on_target slots to (λ s. execu
 abbrev pub says_query_raw : (take : ℕ) → Slots → CommandTarget → List Value → Dialogue AnyAnswer
 says_query_raw take slots to values = mapped in_rows (on_target slots to (λ s. execution.query_raw take s values))
 
+-- query_typed, query_typed_one, query_typed_opt: the types are built-in
+abbrev pub says_query_typed : HowMany → TypedText → Dialogue AnyAnswer
+says_query_typed how asked = mapped in_rows (paired (length asked.types) asked.values (query_typed find_all how asked.text (built_in_types asked.types) asked.values))
+
+-- execute_typed
+abbrev pub says_execute_typed : TypedText → Dialogue AnyAnswer
+says_execute_typed asked = mapped in_count (paired (length asked.types) asked.values (execute_typed asked.text (built_in_types asked.types) asked.values))
+
 -- query_scalar, query_one_scalar, query_opt_scalar
 abbrev pub says_query_scalar : HowMany → Slots → CommandTarget → List Value → Dialogue AnyAnswer
 says_query_scalar how slots to values = mapped in_scalars (on_target slots to (λ s. execution.query_scalar how s values))
@@ -90,6 +102,10 @@ says_of slots (command.QueryScalar to values) = says_query_scalar Any slots to v
 says_of slots (command.QueryOneScalar to values) = says_query_scalar One slots to values
 says_of slots (command.QueryOptScalar to values) = says_query_scalar AtMostOne slots to values
 says_of slots (command.Execute to values) = says_execute slots to values
+says_of slots (command.QueryTyped asked) = says_query_typed Any asked
+says_of slots (command.QueryTypedOne asked) = says_query_typed One asked
+says_of slots (command.QueryTypedOpt asked) = says_query_typed AtMostOne asked
+says_of slots (command.ExecuteTyped asked) = says_execute_typed asked
 says_of slots (command.Close slot) = says_close slots slot
 
 -- the answer that is kept of a command
@@ -122,6 +138,10 @@ slots_behind slots (command.QueryScalar to values) r = slots
 slots_behind slots (command.QueryOneScalar to values) r = slots
 slots_behind slots (command.QueryOptScalar to values) r = slots
 slots_behind slots (command.Execute to values) r = slots
+slots_behind slots (command.QueryTyped asked) r = slots
+slots_behind slots (command.QueryTypedOne asked) r = slots
+slots_behind slots (command.QueryTypedOpt asked) r = slots
+slots_behind slots (command.ExecuteTyped asked) r = slots
 slots_behind slots (command.Close slot) r = without slots slot
 
 -- the table of commands: a script keeps its slots between them, and none holds a statement before the first

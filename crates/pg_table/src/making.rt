@@ -7,7 +7,7 @@ ghost use Rattle.pg_lookup.specs.Lookups as lookups;
 ghost use Rattle.pg_query.specs.Dialogue.{Answer};
 ghost use Rattle.pg_table.specs.Mapped.{mapped};
 ghost use Rattle.pg_table.specs.States.{IsLive, place_of};
-ghost use Rattle.pg_table.specs.Table.{in_done, in_messages, in_statement, says_close, says_execute, says_of, says_query, says_query_raw, says_query_scalar};
+ghost use Rattle.pg_table.specs.Table.{in_done, in_messages, in_statement, says_close, says_execute, says_execute_typed, says_of, says_query, says_query_raw, says_query_scalar, says_query_typed};
 ghost use Rattle.pg_table.specs.Targets.{IsFound};
 
 use crate::slots::Slots;
@@ -19,7 +19,8 @@ use pg_executed::{
     CloseState, ExecuteState, FirstRowsState, MissingState, QueryScalarState, QueryState,
 };
 use pg_prepared::{ClearState, PrepareState};
-use pg_text::{Command, CommandTarget};
+use pg_text::{Command, CommandTarget, TypedText};
+use pg_typed_states::{ExecuteTypedState, QueryTypedState};
 use pg_types::{List, Oid, Text, Value};
 use std::alloc::Global;
 
@@ -55,6 +56,10 @@ pub fn begin<'a>(alloc: Global, command: &'a Command, slots: &Slots) -> Result<A
             query_scalar(alloc, HowMany::AtMostOne, target, values, slots)
         }
         Command::Execute { target, values } => execute(alloc, target, values, slots),
+        Command::QueryTyped(typed) => query_typed(alloc, HowMany::Any, typed),
+        Command::QueryTypedOne(typed) => query_typed(alloc, HowMany::One, typed),
+        Command::QueryTypedOpt(typed) => query_typed(alloc, HowMany::AtMostOne, typed),
+        Command::ExecuteTyped(typed) => execute_typed(alloc, typed),
         Command::Close { slot } => close(alloc, *slot, slots),
     }
 }
@@ -194,6 +199,38 @@ fn execute<'a>(
         }
         None => missing(alloc),
     }
+}
+
+/// The state of a query of a text with values of these types.
+fn query_typed<'a>(
+    alloc: Global,
+    how_many: HowMany,
+    typed: &'a TypedText,
+) -> Result<AnyState<'a>, Error>
+    ensures live { IfOk result IsLive }
+    ensures asks { IfOk result (λ state. (place_of state).dialogue ≡ says_query_typed how_many typed.now) }
+    ensures error { IfErr result (λ e. e ≡ Error.OutOfMemory) }
+{
+    let text = typed.text.as_str();
+    let types = typed.types.as_slice();
+    let values = typed.values.as_slice();
+    let state = QueryTypedState::of_built_ins(how_many, text, types, values);
+    let state = boxed(alloc, state)?;
+    Ok(AnyState::QueryTyped(state))
+}
+
+/// The state of an execution of a text with values of these types.
+fn execute_typed<'a>(alloc: Global, typed: &'a TypedText) -> Result<AnyState<'a>, Error>
+    ensures live { IfOk result IsLive }
+    ensures asks { IfOk result (λ state. (place_of state).dialogue ≡ says_execute_typed typed.now) }
+    ensures error { IfErr result (λ e. e ≡ Error.OutOfMemory) }
+{
+    let text = typed.text.as_str();
+    let types = typed.types.as_slice();
+    let values = typed.values.as_slice();
+    let state = ExecuteTypedState::of_built_ins(text, types, values);
+    let state = boxed(alloc, state)?;
+    Ok(AnyState::ExecuteTyped(state))
 }
 
 /// What a command names, by the slots of its script. Nothing where its slot holds nothing.

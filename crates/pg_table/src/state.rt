@@ -17,6 +17,7 @@ use pg_prepared::{ClearState, PrepareState};
 use pg_query::{Polled, SimpleMessage};
 use pg_statements::Statement;
 use pg_text::{Answer, Command};
+use pg_typed_states::{ExecuteTypedState, QueryTypedState};
 use pg_types::{List, Value};
 use std::alloc::Global;
 
@@ -32,6 +33,8 @@ pub enum AnyState<'a> {
     QueryRaw(Box<FirstRowsState<'a>>),
     Scalar(Box<QueryScalarState<'a>>),
     Execute(Box<ExecuteState<'a>>),
+    QueryTyped(Box<QueryTypedState<'a>>),
+    ExecuteTyped(Box<ExecuteTypedState<'a>>),
     Close(Box<CloseState>),
     Missing(Box<MissingState>),
 }
@@ -200,6 +203,8 @@ impl<'a> Polled for AnyState<'a> {
             AnyState::QueryRaw(state) => rows(state.poll(alloc, desk, stamp)),
             AnyState::Scalar(state) => scalars(state.poll(alloc, desk, stamp)),
             AnyState::Execute(state) => count(state.poll(alloc, desk, stamp)),
+            AnyState::QueryTyped(state) => rows(state.poll(alloc, desk, stamp)),
+            AnyState::ExecuteTyped(state) => count(state.poll(alloc, desk, stamp)),
             AnyState::Close(state) => done(state.poll(alloc, desk, stamp)),
             AnyState::Missing(state) => done(state.poll(alloc, desk, stamp)),
         }
@@ -216,6 +221,8 @@ impl<'a> Polled for AnyState<'a> {
             AnyState::QueryRaw(state) => Box::into_inner(state).hang_up(alloc, desk, stamp),
             AnyState::Scalar(state) => Box::into_inner(state).hang_up(alloc, desk, stamp),
             AnyState::Execute(state) => Box::into_inner(state).hang_up(alloc, desk, stamp),
+            AnyState::QueryTyped(state) => Box::into_inner(state).hang_up(alloc, desk, stamp),
+            AnyState::ExecuteTyped(state) => Box::into_inner(state).hang_up(alloc, desk, stamp),
             AnyState::Close(state) => Box::into_inner(state).hang_up(alloc, desk, stamp),
             AnyState::Missing(state) => Box::into_inner(state).hang_up(alloc, desk, stamp),
         }

@@ -20,8 +20,8 @@ pub use laws::{
     some_text_is_well_made,
 };
 pub use pg_text::{
-    Answer, Cells, Command, Pair, Report, Scripts, Session, SimpleMessage, TextFault, TurnMark,
-    report_text, session_text,
+    Answer, Cells, Command, CommandTarget, Pair, Report, Scripts, Session, SimpleMessage,
+    TextFault, TurnMark, TypedText, report_text, session_text,
 };
 pub use program::{Outcome, run};
 pub use session::run_session;

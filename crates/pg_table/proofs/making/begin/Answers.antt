@@ -27,5 +27,17 @@ returns-in-QueryOptScalar-clause-asks c = rw c.in-QueryOptScalar.is c.query_scal
 pub returns-in-Execute-clause-asks : goal.returns-in-Execute-clause-asks
 returns-in-Execute-clause-asks c = rw c.in-Execute.is c.execute.ensures.asks
 
+pub returns-in-QueryTyped-clause-asks : goal.returns-in-QueryTyped-clause-asks
+returns-in-QueryTyped-clause-asks c = rw c.in-QueryTyped.is c.query_typed.ensures.asks
+
+pub returns-in-QueryTypedOne-clause-asks : goal.returns-in-QueryTypedOne-clause-asks
+returns-in-QueryTypedOne-clause-asks c = rw c.in-QueryTypedOne.is c.query_typed-in-QueryTypedOne.ensures.asks
+
+pub returns-in-QueryTypedOpt-clause-asks : goal.returns-in-QueryTypedOpt-clause-asks
+returns-in-QueryTypedOpt-clause-asks c = rw c.in-QueryTypedOpt.is c.query_typed-in-QueryTypedOpt.ensures.asks
+
+pub returns-in-ExecuteTyped-clause-asks : goal.returns-in-ExecuteTyped-clause-asks
+returns-in-ExecuteTyped-clause-asks c = rw c.in-ExecuteTyped.is c.execute_typed.ensures.asks
+
 pub returns-in-Close-clause-asks : goal.returns-in-Close-clause-asks
 returns-in-Close-clause-asks c = rw c.in-Close.is c.close.ensures.asks

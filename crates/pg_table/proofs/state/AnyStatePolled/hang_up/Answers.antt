@@ -8,6 +8,8 @@ use Rattle.pg_executed.specs.contracts.execute.ExecuteStatePolled.TheImpl as exe
 use Rattle.pg_executed.specs.contracts.missing.MissingStatePolled.TheImpl as missing
 use Rattle.pg_prepared.specs.States.{place_of_clear}
 use Rattle.pg_prepared.specs.contracts.prepare.PrepareStatePolled.TheImpl as prepared
+use Rattle.pg_typed_states.specs.contracts.execute_typed.ExecuteTypedStatePolled.TheImpl as typed_executed
+use Rattle.pg_typed_states.specs.contracts.query_typed.QueryTypedStatePolled.TheImpl as typed_queried
 use Rattle.pg_table.specs.Table.{in_count, in_done, in_messages, in_rows, in_scalars, in_statement}
 use Rattle.pg_table.proofs.Mapped.{gives-up-mapped}
 use Rattle.pg_table.proofs.state.AnyStatePolled.hang_up.Goals as goal
@@ -65,6 +67,18 @@ returns-in-Execute g c =
     rw c.in-Execute.is
     (gives-up-mapped in_count g.D.Desk.becomes c.args.stamp c.args.desk.now (executed.ghosts.place c.in-Execute.state.value) c.hang_up-in-Execute.new.desk
     c.hang_up-in-Execute.result (rw c.into_inner-in-Execute.ensures at c.hang_up-in-Execute.ensures))
+
+pub returns-in-QueryTyped : goal.returns-in-QueryTyped
+returns-in-QueryTyped g c =
+    rw c.in-QueryTyped.is
+    (gives-up-mapped in_rows g.D.Desk.becomes c.args.stamp c.args.desk.now (typed_queried.ghosts.place c.in-QueryTyped.state.value) c.hang_up-in-QueryTyped.new.desk
+    c.hang_up-in-QueryTyped.result (rw c.into_inner-in-QueryTyped.ensures at c.hang_up-in-QueryTyped.ensures))
+
+pub returns-in-ExecuteTyped : goal.returns-in-ExecuteTyped
+returns-in-ExecuteTyped g c =
+    rw c.in-ExecuteTyped.is
+    (gives-up-mapped in_count g.D.Desk.becomes c.args.stamp c.args.desk.now (typed_executed.ghosts.place c.in-ExecuteTyped.state.value) c.hang_up-in-ExecuteTyped.new.desk
+    c.hang_up-in-ExecuteTyped.result (rw c.into_inner-in-ExecuteTyped.ensures at c.hang_up-in-ExecuteTyped.ensures))
 
 pub returns-in-Close : goal.returns-in-Close
 returns-in-Close g c =

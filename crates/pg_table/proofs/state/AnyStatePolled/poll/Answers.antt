@@ -8,6 +8,8 @@ use Rattle.pg_executed.specs.contracts.execute.ExecuteStatePolled.TheImpl as exe
 use Rattle.pg_executed.specs.contracts.missing.MissingStatePolled.TheImpl as missing
 use Rattle.pg_prepared.specs.States.{IsLiveClear, place_of_clear}
 use Rattle.pg_prepared.specs.contracts.prepare.PrepareStatePolled.TheImpl as prepared
+use Rattle.pg_typed_states.specs.contracts.execute_typed.ExecuteTypedStatePolled.TheImpl as typed_executed
+use Rattle.pg_typed_states.specs.contracts.query_typed.QueryTypedStatePolled.TheImpl as typed_queried
 use Rattle.pg_table.specs.Table.{in_count, in_done, in_messages, in_rows, in_scalars, in_statement}
 use Rattle.pg_table.proofs.Mapped.{poll-mapped}
 use Rattle.pg_table.proofs.state.AnyStatePolled.poll.Goals as goal
@@ -65,6 +67,18 @@ returns-in-Execute g c =
     rw (c.count.ensures, c.in-Execute.is)
     (poll-mapped in_count g.D.Desk.becomes c.args.stamp c.args.desk.now (executed.ghosts.place c.in-Execute.state.value) c.poll-in-Execute.new.desk (executed.ghosts.is_live c.poll-in-Execute.new.self) (executed.ghosts.place c.poll-in-Execute.new.self)
     c.poll-in-Execute.result (rw c.deref_mut-in-Execute.ensures.value at c.poll-in-Execute.ensures))
+
+pub returns-in-QueryTyped : goal.returns-in-QueryTyped
+returns-in-QueryTyped g c =
+    rw (c.rows-in-QueryTyped.ensures, c.in-QueryTyped.is)
+    (poll-mapped in_rows g.D.Desk.becomes c.args.stamp c.args.desk.now (typed_queried.ghosts.place c.in-QueryTyped.state.value) c.poll-in-QueryTyped.new.desk (typed_queried.ghosts.is_live c.poll-in-QueryTyped.new.self) (typed_queried.ghosts.place c.poll-in-QueryTyped.new.self)
+    c.poll-in-QueryTyped.result (rw c.deref_mut-in-QueryTyped.ensures.value at c.poll-in-QueryTyped.ensures))
+
+pub returns-in-ExecuteTyped : goal.returns-in-ExecuteTyped
+returns-in-ExecuteTyped g c =
+    rw (c.count-in-ExecuteTyped.ensures, c.in-ExecuteTyped.is)
+    (poll-mapped in_count g.D.Desk.becomes c.args.stamp c.args.desk.now (typed_executed.ghosts.place c.in-ExecuteTyped.state.value) c.poll-in-ExecuteTyped.new.desk (typed_executed.ghosts.is_live c.poll-in-ExecuteTyped.new.self) (typed_executed.ghosts.place c.poll-in-ExecuteTyped.new.self)
+    c.poll-in-ExecuteTyped.result (rw c.deref_mut-in-ExecuteTyped.ensures.value at c.poll-in-ExecuteTyped.ensures))
 
 pub returns-in-Close : goal.returns-in-Close
 returns-in-Close g c =

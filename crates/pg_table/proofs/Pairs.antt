@@ -1,0 +1,16 @@
+-- A text with values of given types is a command, also where they aren't as many.
+use Rattle.std.specs.Prelude.{length, ◌==◌, if◌then◌else◌}
+use Rattle.std.proofs.Common.{ℕ, List, Bool, true, false, Err}
+use Rattle.pg_spec.specs.Faults.{Parameters}
+use Rattle.pg_types.specs.declared.value.Value.{Value}
+use Rattle.pg_query.specs.Dialogue.{Dialogue, Answer}
+use Rattle.pg_lookup_laws.proofs.Commands.{IsTaken, answers}
+use Rattle.pg_typed_states.specs.Paired.{paired}
+
+-- as many values as types are taken, and others are refused
+pub paired-taken : {T : Type 0} (types : ℕ) (values : List Value) (d : Dialogue T) → IsTaken d → IsTaken (paired types values d)
+paired-taken types values d taken = by (length values == types)
+  where
+    by : (b : Bool) → IsTaken (if b then d else Answer (Err (Parameters (length values) types)))
+    by true = taken
+    by false = answers _
