@@ -1,7 +1,7 @@
 //! Session texts, and what they ask for.
 
 use pg_cases::written;
-use pg_text::{Command, CommandTarget, Session, TextFault, session_text};
+use pg_text::{Command, CommandTarget, Session, TextFault, TypedText, session_text};
 use pg_types::{List, Oid, Value};
 use pg_wire::{Link, LinkRead, LinkWrite, MemoryLink};
 use std::alloc::{AllocError, Global};
@@ -74,6 +74,30 @@ fn tell_raw(
     Ok(())
 }
 
+fn tell_typed(name: &str, typed: &TypedText, out: &mut String) -> Result<(), AllocError> {
+    write!(
+        out,
+        " {name} {:?} {:?}",
+        typed.text.as_str(),
+        typed.types.as_slice()
+    )?;
+    for value in typed.values.as_slice() {
+        tell_value(value, out)?;
+    }
+    Ok(())
+}
+
+/// A command that executes a text in one request.
+fn tell_in_one(command: &Command, out: &mut String) -> Result<(), AllocError> {
+    match command {
+        Command::QueryTyped(typed) => tell_typed("query_typed", typed, out),
+        Command::QueryTypedOne(typed) => tell_typed("query_typed_one", typed, out),
+        Command::QueryTypedOpt(typed) => tell_typed("query_typed_opt", typed, out),
+        Command::ExecuteTyped(typed) => tell_typed("execute_typed", typed, out),
+        _ => out.push_str(" another"),
+    }
+}
+
 /// A command that executes something, or closes it.
 fn tell_executed(command: &Command, out: &mut String) -> Result<(), AllocError> {
     match command {
@@ -104,7 +128,7 @@ fn tell_executed(command: &Command, out: &mut String) -> Result<(), AllocError> 
             tell_execution("execute", target, values.as_slice(), out)
         }
         Command::Close { slot } => write!(out, " close @{slot}"),
-        _ => out.push_str(" another"),
+        _ => tell_in_one(command, out),
     }
 }
 
