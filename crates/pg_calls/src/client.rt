@@ -281,8 +281,8 @@ impl Client {
     }
 
     /// Executes a text with values of these types, in one request, and answers how many rows its last command affected, 0
-    /// where it is empty or none ended. Rows aren't read, and no type is looked up. The errors are those of `query_typed` but
-    /// those of a lookup.
+    /// where it is empty, where NoData stands behind it, or where none ended. Rows aren't read, and no type is looked up. The
+    /// errors are those of `query_typed` but those of a lookup.
     pub fn execute_typed<'a>(
         &self,
         query: &'a str,

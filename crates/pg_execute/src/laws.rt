@@ -103,7 +103,7 @@ pub fn typed_queries_look_up_later()
     ensures refused_books { lookup.booked (example.typed_with (codes "q") (value.Text [] ∷ [])) ≡ [] }
 {}
 
-/// A text is executed in one request: the count of its last command, 0 where there are no rows or it is empty. Nothing is read of its columns and rows.
+/// A text is executed in one request: the count of its last command, 0 where that is empty, where NoData stands behind it, or where none ended. Nothing is read of its columns and rows.
 pub fn typed_executes_are_counted()
     ensures last { (example.typed_executed (example.headed 90000 ++ example.broken_row ∷ example.complete (codes "SELECT 3") ∷ replied.ready)).outcome.answer ≡ Some (Ok 3) }
     ensures without_rows { (example.typed_executed (example.complete (codes "UPDATE 2") ∷ example.headed_without_rows ++ replied.ready)).outcome.answer ≡ Some (Ok 0) }

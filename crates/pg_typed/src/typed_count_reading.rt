@@ -13,8 +13,8 @@ use pg_query::{Reading, extract_row_affected, malformed, server_error};
 use pg_wire::{CommandCompleteBody, Message, WireFault};
 use std::alloc::{AllocError, Global};
 
-/// How many rows the last command affected, 0 where it was empty, where there are no columns, or none ended. Columns
-/// and rows aren't read.
+/// How many rows the last command affected, 0 where it was empty, where NoData stands behind it, or where none ended.
+/// Columns and rows aren't read.
 #[derive(Drop)]
 pub struct TypedCountReading {
     count: u64,
