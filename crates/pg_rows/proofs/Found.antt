@@ -1,5 +1,5 @@
 -- The place of a column.
-use Rattle.std.proofs.Common.{◌≡◌, ℕ, suc, ◌+◌, ◌<◌, Bool, true, false, cond, not, nat_lt, List, [], ◌∷◌, length, map, get_or, Option, Some, None, refl, sym, ap, subst, ◌∙◌, arith, rules}
+use Rattle.std.proofs.Common.{◌≡◌, ℕ, ◌+◌, ◌<◌, Bool, true, false, cond, not, nat_lt, List, [], ◌∷◌, length, map, Option, Some, None, refl, ap, subst, arith}
 use Rattle.std.specs.List.{position, prefix_len}
 use Rattle.std.specs.Option.{option_or}
 use Rattle.std.specs.Str.{bytes_eq, str_eq_ignore_ascii_case}
@@ -8,7 +8,7 @@ use Rattle.std.proofs.lemmas.List.{length-map}
 use Rattle.std.proofs.lemmas.List.Quantifiers.{position-Some}
 use Rattle.pg_rows.specs.declared.row_index.RowIndex.{RowIndex}
 use Rattle.pg_rows.specs.declared.row_index.RowIndex.TheVariants.{At, Name}
-use Rattle.pg_rows.specs.Places.{place_by_name, place_of}
+use Rattle.pg_rows.specs.Places.{place_of}
 
 prefix-map : {A : Type 0} (p : List ℕ → Bool) (f : A → List ℕ) (xs : List A) → prefix_len p (map f xs) ≡ prefix_len (λ x. p (f x)) xs
 prefix-map p f [] = refl

@@ -1,5 +1,5 @@
 -- Values of columns.
-use Rattle.std.proofs.Common.{◌≡◌, ◌⊎◌, inl, inr, ℕ, ◌<◌, Bool, true, false, cond, List, [], length, map, get_or, Option, Some, None, Result, Ok, Err, refl, sym, ap, subst, ◌∙◌, MatchBool, MatchResult, IsTrue}
+use Rattle.std.proofs.Common.{◌≡◌, ◌⊎◌, inl, inr, ℕ, Bool, true, false, cond, List, [], get_or, Option, Some, None, Result, Ok, Err, refl, sym, ap, subst, ◌∙◌, MatchBool, MatchResult}
 use Rattle.std.specs.Prelude.{slice_get, option_map}
 use Rattle.std.specs.Str.{is_utf8}
 use denote.Bor.{Bor}

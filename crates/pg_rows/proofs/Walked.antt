@@ -1,58 +1,15 @@
 -- The cells of a DataRow, walked over one by one.
-use Rattle.std.proofs.Common.{◌≡◌, ◌≢◌, ℕ, zero, suc, ◌+◌, ◌-◌, ◌≤◌, ◌==◌, Bool, true, false, cond, List, [], ◌∷◌, length, take, drop, map, sum, Option, Some, None, Result, Ok, Err, refl, sym, ap, subst, ◌∙◌, arith, eq-eqb, leb, ℤ, pos}
-use Rattle.std.specs.Prelude.{int_lt, slice_get, unwrap_or}
+use Rattle.std.proofs.Common.{◌≡◌, ◌≢◌, ℕ, zero, suc, ◌+◌, ◌-◌, ◌≤◌, Bool, true, false, cond, List, [], ◌∷◌, length, take, drop, map, Option, Some, None, Result, Ok, Err, refl, sym, ap, ◌∙◌, arith, leb, ℤ, pos}
+use Rattle.std.specs.Prelude.{int_lt}
 use Rattle.std.specs.Option.{option_and_then}
 use Rattle.std.specs.Int.{w32, cast_signed, cast_unsigned, from_be_bytes}
 use Rattle.std.proofs.lemmas.Bool.{leb-true, ne_eqb}
 use Rattle.std.proofs.lemmas.List.{length-take-le, length-drop}
 use Rattle.std.proofs.lemmas.List.Sums.{sum_by-cons}
 use Rattle.pg_spec.specs.Bytes.{bytes_at, signed_at}
-use Rattle.pg_spec.specs.Bodies.{or_layout, cell_at as read_cell, cells_of, exactly}
+use Rattle.pg_spec.specs.Bodies.{or_layout, cell_at as read_cell, cells_of}
 use Rattle.pg_spec.specs.Faults.{WireFault, ◌>>=◌, Parse, FieldCount}
-use Rattle.pg_faults.specs.declared.error.Error.{Error}
-use Rattle.pg_wire.specs.Steps.{Step, ItemsLeft, counted_step}
-use Rattle.pg_wire.proofs.Items.{exactly-step}
-use Rattle.pg_rows.specs.Rows.{Cells, RowOf, HoldsCells, cells_read, cell_at, cell_size, cells_size, row_of, row_refusal}
-
-pub are-read : (r : Result Cells WireFault) (cells : Cells) → r ≡ Ok cells → r ≡ Ok (cells_read r)
-are-read r cells read = read ∙ ap (λ c. Ok c) (sym (ap cells_read read))
-
--- ---- one step
-
--- one cell was walked over
-pub record WalksOver (whole : Result Cells WireFault) (x : Option (List ℕ)) (others : Result Cells WireFault) : Type 0 where
-  pub front : cells_read whole ≡ x ∷ cells_read others
-  pub readable : others ≡ Ok (cells_read others)
-
-one-over : (whole others : Result Cells WireFault) (x : Option (List ℕ)) → whole ≡ Ok (cells_read whole) → whole ≡ (others >>= λ cells. Ok (x ∷ cells)) → WalksOver whole x others
-one-over whole (Ok cells) x readable is = record { front = ap cells_read is; readable = refl }
-one-over whole (Err fault) x readable is = absurd cc
-
--- what the cells are, by the first step
-abbrev by_step : Step (Option (List ℕ)) ItemsLeft → Result Cells WireFault
-by_step (Ok (Some read)) = exactly read.1.count read_cell read.1.bytes >>= λ others. Ok (read.0 ∷ others)
-by_step (Ok None) = Ok []
-by_step (Err cause) = Err cause
-
-stepped : (n : ℕ) (bytes : List ℕ) (step : Step (Option (List ℕ)) ItemsLeft) → counted_step read_cell n bytes ≡ step → cells_of n bytes ≡ by_step step
-stepped n bytes step is = exactly-step read_cell n bytes ∙ ap by_step is
-
-pub walked-over : (n : ℕ) (bytes : List ℕ) (x : Option (List ℕ)) (left : ItemsLeft) → cells_of n bytes ≡ Ok (cells_read (cells_of n bytes)) →
-    counted_step read_cell n bytes ≡ Ok (Some (x, left)) → WalksOver (cells_of n bytes) x (cells_of left.count left.bytes)
-walked-over n bytes x left readable step = one-over (cells_of n bytes) (cells_of left.count left.bytes) x readable (stepped n bytes (Ok (Some (x, left))) step)
-
--- no cell is left
-pub walked-through : (n : ℕ) (bytes : List ℕ) → counted_step read_cell n bytes ≡ Ok None → cells_read (cells_of n bytes) ≡ []
-walked-through n bytes step = ap cells_read (stepped n bytes (Ok None) step)
-
--- what can be read is never refused
-pub never-refused : (n : ℕ) (bytes : List ℕ) (cause : WireFault) → cells_of n bytes ≡ Ok (cells_read (cells_of n bytes)) → counted_step read_cell n bytes ≡ Err cause → ⊥
-never-refused n bytes cause readable step = let refused : cells_of n bytes ≡ Err cause = stepped n bytes (Err cause) step in cc
-
--- the cell at a place is the one a place earlier behind the first
-pub cell-behind : (x : Option (List ℕ)) (others : Cells) (place : ℕ) → place ≢ 0 → cell_at (x ∷ others) place ≡ cell_at others (place - 1)
-cell-behind x others zero some = absurd (some refl)
-cell-behind x others (suc k) some = let e : k ≡ suc k - 1 = omega arith in ap (cell_at others) e
+use Rattle.pg_rows.specs.Rows.{Cells, cells_read, cell_at, cell_size, cells_size, row_refusal}
 
 -- ---- how many cells there are
 
@@ -81,25 +38,6 @@ wrong-count columns count bytes readable other =
     let size : length (cells_read (cells_of count bytes)) ≡ count = cells-counted count bytes _ readable in
     ap (row_refusal columns) readable
     ∙ ap (λ (b : Bool). cond b None (Some (Parse FieldCount))) (ne_eqb (length (cells_read (cells_of count bytes))) columns (λ e. other (sym size ∙ e)))
-
-pub right-count : (columns count : ℕ) (bytes : List ℕ) → HoldsCells columns count bytes → row_refusal columns (cells_of count bytes) ≡ None
-right-count columns count bytes holds =
-    ap (row_refusal columns) holds.readable
-    ∙ ap (λ (b : Bool). cond b None (Some (Parse FieldCount))) (eq-eqb (length (cells_read (cells_of count bytes))) columns holds.width)
-
--- what is made of a body, by why it is refused
-abbrev made : {C : Type 0} → List C → Result Cells WireFault → Option Error → Result (RowOf C) Error
-made columns cells refusal = elim refusal [
-  | None ↦ Ok (record { columns = columns; cells = cells_read cells })
-  | Some e ↦ Err e
-]
-
-pub row-made : {C : Type 0} (columns : List C) (count : ℕ) (bytes : List ℕ) → HoldsCells (length columns) count bytes →
-    row_of columns (cells_of count bytes) ≡ Ok (record { columns = columns; cells = cells_read (cells_of count bytes) })
-row-made columns count bytes holds = ap (made columns (cells_of count bytes)) (right-count (length columns) count bytes holds)
-
-pub row-refused : {C : Type 0} (columns : List C) (cells : Result Cells WireFault) (e : Error) → row_refusal (length columns) cells ≡ Some e → row_of columns cells ≡ Err e
-row-refused columns cells e refused = ap (made columns cells) refused
 
 -- ---- how many bytes they take
 

@@ -1,9 +1,10 @@
 -- What a row is: its columns, and the cells that its DataRow holds (PostgreSQL documentation, "Message Formats", under DataRow).
-use Rattle.std.specs.Prelude.{◌≡◌, ℕ, ◌+◌, ◌==◌, List, [], length, map, sum, Option, Some, None, Result, Ok, Err, slice_get, unwrap_or, if◌then◌else◌}
+use Rattle.std.specs.Prelude.{◌≡◌, ℕ, ◌+◌, ◌==◌, List, [], length, drop, map, sum, Option, Some, None, Result, Ok, Err, slice_get, unwrap_or, if◌then◌else◌}
 use Rattle.pg_spec.specs.Bodies.{cells_of}
 use Rattle.pg_spec.specs.Faults.{WireFault, Parse, FieldCount}
 use Rattle.pg_spec.specs.SimpleQuery.{unreadable}
 use Rattle.pg_faults.specs.declared.error.Error.{Error}
+use Rattle.pg_wire.specs.Steps.{CellsLeft}
 
 -- the cells of a row; null is None
 abbrev pub Cells : Type 0
@@ -35,6 +36,19 @@ row_of columns cells = elim (row_refusal (length columns) cells) [
 pub record HoldsCells (columns count : ℕ) (bytes : List ℕ) : Type 0 where
   pub readable : cells_of count bytes ≡ Ok (cells_read (cells_of count bytes))
   pub width : length (cells_read (cells_of count bytes)) ≡ columns
+
+-- the cells can't be read, and this is the error
+abbrev pub IsUnreadable : Result Cells WireFault → Error → Type 0
+IsUnreadable read e = (fault : WireFault) × (read ≡ Err fault) × (e ≡ unreadable fault)
+
+-- what the cells that are left are read as
+abbrev pub left_cells : CellsLeft → Result Cells WireFault
+left_cells left = cells_of left.count (drop left.at left.buffer)
+
+-- the cells that are left lie in these bytes, and can be read
+pub record AreLeft (left : CellsLeft) (bytes : List ℕ) : Type 0 where
+  pub buffer : left.buffer ≡ bytes
+  pub readable : left_cells left ≡ Ok (cells_read (left_cells left))
 
 -- the cell at a place, null where there is none
 abbrev pub cell_at : Cells → ℕ → Option (List ℕ)

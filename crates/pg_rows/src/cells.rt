@@ -14,7 +14,7 @@ use pg_wire::DataRowBody;
 use std::ops::Range;
 
 /// Walks over all cells, and refuses a body that can't be read.
-fn walk(body: &DataRowBody) -> Result<(), WireFault>
+pub(crate) fn walk(body: &DataRowBody) -> Result<(), WireFault>
     ensures { MatchResult result
         (λ _. cells_of body.now.count body.now.cells ≡ Ok (cells_read (cells_of body.now.count body.now.cells)))
         (λ fault. Refuses (cells_of body.now.count body.now.cells) fault) }
@@ -30,7 +30,7 @@ fn walk(body: &DataRowBody) -> Result<(), WireFault>
 }
 
 /// The error of a body that can't be read.
-fn unreadable(fault: WireFault) -> Error
+pub(crate) fn unreadable(fault: WireFault) -> Error
     ensures { (cause : spec.WireFault) → wire_fault fault ≡ Some cause → result ≡ spec_reply.unreadable cause }
 {
     match fault {
@@ -47,9 +47,18 @@ pub(crate) fn check(columns: usize, body: &DataRowBody) -> Result<(), Error>
         (λ e. row_refusal columns (cells_of body.now.count body.now.cells) ≡ Some e) }
 {
     match walk(body) {
-        Ok(()) => {}
-        Err(fault) => return Err(unreadable(fault)),
+        Ok(()) => check_number(columns, body),
+        Err(fault) => Err(unreadable(fault)),
     }
+}
+
+/// Checks that a body, whose cells can be read, has so many. Parse comes exactly where they are of another number.
+pub(crate) fn check_number(columns: usize, body: &DataRowBody) -> Result<(), Error>
+    requires { cells_of body.now.count body.now.cells ≡ Ok (cells_read (cells_of body.now.count body.now.cells)) }
+    ensures { MatchResult result
+        (λ _. HoldsCells columns body.now.count body.now.cells)
+        (λ e. row_refusal columns (cells_of body.now.count body.now.cells) ≡ Some e) }
+{
     if body.len() != columns {
         return Err(Error::Parse(Cause::FieldCount));
     }
@@ -57,7 +66,7 @@ pub(crate) fn check(columns: usize, body: &DataRowBody) -> Result<(), Error>
 }
 
 /// The bytes in this range, none for null.
-fn bytes_in(buffer: &[u8], range: Option<Range<usize>>) -> Option<&[u8]>
+pub(crate) fn bytes_in(buffer: &[u8], range: Option<Range<usize>>) -> Option<&[u8]>
     requires { IsWithin buffer.now range }
     ensures { option_map (λ r. r.now) result ≡ cell_in buffer.now range }
 {

@@ -1,11 +1,11 @@
 //! Rows of prepared statements.
 
-ghost use Rattle.std.specs.Prelude.{◌≡◌, true, length, ◌==◌, Result, IfOk, IfErr};
+ghost use Rattle.std.specs.Prelude.{◌≡◌, length, ◌==◌, Ok, Result};
 ghost use Rattle.pg_spec.specs.Bodies.{cells_of};
-ghost use Rattle.pg_rows.specs.Rows.{row_of, cells_size};
+ghost use Rattle.pg_rows.specs.Rows.{cells_read, cells_size, row_of};
 ghost use Rattle.pg_rows.specs.Values.{CanGet, Gets, GetsValue, ReadsUnder};
 
-use crate::cells::{cell, check, size};
+use crate::cells::{cell, check, check_number, size};
 use crate::row_index::{RowIndex, no_column, place_of};
 use crate::values::{answer_at, value_of};
 use pg_faults::Error;
@@ -48,6 +48,15 @@ impl Row {
         ensures { result ≡ row_of statement.columns (cells_of body.count body.cells) }
     {
         check(statement.columns().len(), &body)?;
+        Ok(Row { statement, body })
+    }
+
+    /// The same of a body whose cells can be read: these aren't walked over again.
+    pub(crate) fn of_cells(statement: Statement, body: DataRowBody) -> Result<Row, Error>
+        requires { cells_of body.count body.cells ≡ Ok (cells_read (cells_of body.count body.cells)) }
+        ensures { result ≡ row_of statement.columns (cells_of body.count body.cells) }
+    {
+        check_number(statement.columns().len(), &body)?;
         Ok(Row { statement, body })
     }
 

@@ -1,4 +1,4 @@
-use Rattle.std.proofs.Common.{◌≡◌, ◌++◌, [], ◌∷◌}
+use Rattle.std.proofs.Common.{◌++◌, [], ◌∷◌}
 use Rattle.pg_spec.specs.Bodies.{cell_at as read_cell, cells_of}
 use Rattle.pg_wire.specs.Steps.{ReadsCell, cell_in, cells_left}
 use Rattle.pg_wire.proofs.Items.{one_more_item}
