@@ -1,7 +1,6 @@
 -- What a malformed message tells of a count.
 use Rattle.std.proofs.Common.{◌≡◌, ℕ, [], ◌∷◌, Option, Some, None, Result, Ok, Err, sym, ap, ◌∙◌}
 use Rattle.pg_spec.specs.Faults as spec
-use Rattle.pg_spec.specs.Messages.{message_of}
 use Rattle.pg_spec.specs.Messages as message
 use Rattle.pg_spec.specs.RawMessages.{RawMessage}
 use Rattle.pg_spec.specs.Readings.{Next, Answers}

@@ -1,3 +1,4 @@
+mod AsWide
 mod Counting
 mod OneOfTwo
 mod Sayings

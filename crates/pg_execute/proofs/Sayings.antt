@@ -1,42 +1,17 @@
 -- What a message says of the reply to a query.
-use Rattle.std.proofs.Common.{◌≡◌, ℕ, Bool, true, false, Option, Some, None, Result, Ok, Err, IfOk, refl, sym, ap, ◌∙◌}
+use Rattle.std.proofs.Common.{◌≡◌, ℕ, Bool, Option, Some, None, Result, Ok, Err, IfOk, sym, ap, ◌∙◌}
 use Rattle.std.specs.declared.alloc.AllocError.{AllocError}
 use Rattle.pg_spec.specs.Faults as spec
 use Rattle.pg_spec.specs.Messages.{Message, message_of}
 use Rattle.pg_spec.specs.RawMessages.{RawMessage}
 use Rattle.pg_wire.specs.Faults.{wire_fault}
-use Rattle.pg_wire.specs.Messages.{message_view}
-use Rattle.pg_wire.specs.declared.body.CommandCompleteBody.{CommandCompleteBody}
-use Rattle.pg_wire.specs.declared.body.DataRowBody.{DataRowBody}
-use Rattle.pg_wire.specs.declared.body.ErrorResponseBody.{ErrorResponseBody}
-use Rattle.pg_wire.specs.declared.body.ReadyForQueryBody.{ReadyForQueryBody}
 use Rattle.pg_wire.specs.declared.message.Message as wire
 use Rattle.pg_wire.specs.declared.message.Message.TheVariants as received
 use Rattle.pg_faults.specs.declared.fault.WireFault.{WireFault}
 use Rattle.pg_faults.specs.declared.error.Error.{Error}
-use Rattle.pg_faults.specs.declared.error.Error.TheVariants.{UnexpectedMessage}
 use Rattle.pg_query.specs.Messages.{IsMalformed}
 use Rattle.pg_query.specs.Replies.{malformed_error}
 use Rattle.pg_lookup.specs.QueryReplies.{Said, Fails, query_said, said_by}
-
--- any other message before BindComplete has no place there
-pub other-before : (columns : ℕ) (m : wire.Message) → (m ≡ received.BindComplete → ⊥) → ((b : ErrorResponseBody) → m ≡ received.ErrorResponse b → ⊥) →
-    Fails UnexpectedMessage ≡ query_said false columns (message_view m)
-other-before columns received.BindComplete b e = absurd (b refl)
-other-before columns (received.ErrorResponse body) b e = absurd (e body refl)
-other-before columns m b e = refl
-
--- nor has any other behind it
-pub other-behind : (columns : ℕ) (m : wire.Message) → ((b : DataRowBody) → m ≡ received.DataRow b → ⊥) → ((b : CommandCompleteBody) → m ≡ received.CommandComplete b → ⊥) →
-    (m ≡ received.EmptyQueryResponse → ⊥) → (m ≡ received.PortalSuspended → ⊥) → ((b : ReadyForQueryBody) → m ≡ received.ReadyForQuery b → ⊥) →
-    ((b : ErrorResponseBody) → m ≡ received.ErrorResponse b → ⊥) → Fails UnexpectedMessage ≡ query_said true columns (message_view m)
-other-behind columns (received.DataRow b) d c i s z e = absurd (d b refl)
-other-behind columns (received.CommandComplete b) d c i s z e = absurd (c b refl)
-other-behind columns received.EmptyQueryResponse d c i s z e = absurd (i refl)
-other-behind columns received.PortalSuspended d c i s z e = absurd (s refl)
-other-behind columns (received.ReadyForQuery b) d c i s z e = absurd (z b refl)
-other-behind columns (received.ErrorResponse b) d c i s z e = absurd (e b refl)
-other-behind columns m d c i s z e = refl
 
 -- what is said by what a message means
 abbrev said-of : Bool → ℕ → Result Message spec.WireFault → Said

@@ -7,6 +7,7 @@ pub mod Executes
 pub mod Faulting
 pub mod GivenValues
 pub mod Parameters
+pub mod ResultRows
 pub mod Rows
 pub mod RowsReadings
 pub mod Saying

@@ -4,7 +4,7 @@ ghost use Rattle.std.specs.Prelude.{◌≡◌};
 ghost use Rattle.pg_execute.specs.Rows.{nothing_got};
 ghost use Rattle.pg_execute.specs.Typed.{columns_came};
 
-use pg_query::Cells;
+use pg_rows::RowCells;
 use pg_types::List;
 use std::alloc::Global;
 
@@ -13,7 +13,7 @@ use std::alloc::Global;
 pub struct Got {
     /// BindComplete came.
     pub bound: bool,
-    pub rows: List<Cells>,
+    pub rows: List<RowCells>,
     /// How many rows the last command affected, where one ended.
     pub affected: Option<u64>,
 }

@@ -17,11 +17,13 @@ mod make;
 mod on_statement;
 mod on_text;
 mod request;
+mod result_rows;
 mod result_set;
 mod rows_reading;
 mod said;
 mod target;
 mod values;
+mod widths;
 
 pub use closing::{Posts, PostsBefore};
 pub use count_reading::CountReading;
@@ -44,3 +46,4 @@ pub use result_set::ResultSet;
 pub use rows_reading::RowsReading;
 pub use said::{Said, said_by};
 pub use target::{OnTarget, Target, on_target};
+pub use widths::rows_of_queries_have_their_columns;

@@ -15,7 +15,8 @@ use crate::how_many::HowMany;
 use crate::make::Make;
 use crate::said::{Said, said_by};
 use pg_errors::Error;
-use pg_query::{Cells, Reading};
+use pg_query::Reading;
+use pg_rows::RowCells;
 use pg_statements::Statement;
 use pg_wire::{Message, WireFault};
 use std::alloc::{AllocError, Global};
@@ -73,7 +74,7 @@ impl<M: Make> RowsReading<M> {
     }
 
     /// A row more. One too many is refused.
-    fn row(&mut self, cells: Cells) -> Result<Option<Result<M::Output, Error>>, AllocError>
+    fn row(&mut self, cells: RowCells) -> Result<Option<Result<M::Output, Error>>, AllocError>
         ensures same { self.new ≡ record self.old { got = self.new.got } }
         ensures does { IfOk result (λ told. Does (behind_row self.old.how_many (record self.old.got { rows = self.old.got.rows ++ cells ∷ [] })) told self.new.got) }
     {

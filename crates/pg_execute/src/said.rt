@@ -11,7 +11,8 @@ ghost use Rattle.pg_lookup.specs.QueryReplies as spec;
 ghost use Rattle.pg_execute.specs.Saying.{said_view, FailsAtFault};
 
 use pg_errors::{Cause, Error};
-use pg_query::{Cells, extract_row_affected, malformed, row_cells, server_error, unreadable};
+use pg_query::{extract_row_affected, malformed, server_error};
+use pg_rows::RowCells;
 use pg_wire::{CommandCompleteBody, DataRowBody, Message, WireFault};
 use std::alloc::{AllocError, Global};
 
@@ -20,7 +21,7 @@ use std::alloc::{AllocError, Global};
 pub enum Said {
     /// The portal was made.
     Bound,
-    Row(Cells),
+    Row(RowCells),
     /// A command ended, and affected so many rows.
     Complete(u64),
     /// The command is empty.
@@ -33,21 +34,21 @@ pub enum Said {
     Fails(Error),
 }
 
-/// What a row says: it has as many cells as there are columns.
-fn row_said(alloc: Global, columns: usize, body: &DataRowBody) -> Result<Said, AllocError>
+/// What a row says: it has as many cells as there are columns. It shares the bytes that were received.
+fn row_said(columns: usize, body: &DataRowBody) -> Result<Said, AllocError>
     ensures { IfOk result (λ said. said_view said ≡ spec.row_said columns (cells_of body.now.count body.now.cells)) }
 {
-    match row_cells(alloc, body) {
+    let Ok(shared) = body.share() else {
+        return Err(AllocError);
+    };
+    match RowCells::new(shared) {
         Ok(cells) => {
-            if cells.as_slice().len() != columns {
+            if cells.len() != columns {
                 return Ok(Said::Fails(Error::Parse(Cause::FieldCount)));
             }
             Ok(Said::Row(cells))
         }
-        Err(fault) => match unreadable(fault) {
-            Some(error) => Ok(Said::Fails(error)),
-            None => Err(AllocError),
-        },
+        Err(error) => Ok(Said::Fails(error)),
     }
 }
 
@@ -77,7 +78,7 @@ fn said_behind(alloc: Global, columns: usize, message: &Message) -> Result<Said,
     ensures { IfOk result (λ said. said_view said ≡ spec.query_said true columns (message_view message.now)) }
 {
     match message {
-        Message::DataRow(body) => row_said(alloc, columns, body),
+        Message::DataRow(body) => row_said(columns, body),
         Message::CommandComplete(body) => Ok(end_said(body)),
         Message::EmptyQueryResponse => Ok(Said::Empty),
         Message::PortalSuspended => Ok(Said::Suspended),

@@ -6,7 +6,7 @@ ghost use Rattle.pg_lookup.specs.Cells.{or_from_sql};
 ghost use Rattle.pg_execute.specs.Values as spec;
 
 use pg_errors::{Cause, Error};
-use pg_query::Cells;
+use pg_rows::RowCells;
 use pg_statements::Column;
 use pg_types::{FromSqlOwned, List, RustType, Type, Value, ValueFault, WrongType};
 use std::alloc::{AllocError, Global};
@@ -24,22 +24,15 @@ fn value_of(alloc: Global, ty: &Type, raw: Option<&[u8]>) -> Result<Value, Value
     <Value as FromSqlOwned>::from_sql_owned(alloc, ty, raw)
 }
 
-/// The first cell, null where there is none.
-fn first_cell(cells: &Cells) -> Option<&[u8]>
-    ensures { option_map (λ r. r.now) result ≡ unwrap_or (slice_get cells.now 0) None }
-{
-    match cells.as_slice().get(0) {
-        Some(Some(bytes)) => Some(bytes.as_slice()),
-        Some(None) => None,
-        None => None,
-    }
-}
-
 /// The first value of a row, or the error of its column.
-fn first_value(alloc: Global, ty: &Type, cells: &Cells) -> Result<Result<Value, Error>, AllocError>
+fn first_value(
+    alloc: Global,
+    ty: &Type,
+    cells: &RowCells,
+) -> Result<Result<Value, Error>, AllocError>
     ensures { IfOk result (λ v. v ≡ or_from_sql 0 (spec.value_of ty.now (unwrap_or (slice_get cells.now 0) None))) }
 {
-    match value_of(alloc, ty, first_cell(cells)) {
+    match value_of(alloc, ty, cells.cell(0)) {
         Ok(value) => Ok(Ok(value)),
         Err(ValueFault::OutOfMemory) => Err(AllocError),
         Err(fault) => Ok(Err(Error::FromSql(0, Cause::Value(fault)))),
@@ -50,7 +43,7 @@ fn first_value(alloc: Global, ty: &Type, cells: &Cells) -> Result<Result<Value, 
 fn first_values(
     alloc: Global,
     ty: &Type,
-    rows: &[Cells],
+    rows: &[RowCells],
 ) -> Result<Result<List<Value>, Error>, AllocError>
     ensures { IfOk result (λ values. values ≡ spec.first_values ty.now [] rows.now) }
 {
@@ -71,7 +64,7 @@ fn first_values(
 pub(crate) fn column_values(
     alloc: Global,
     columns: &[Column],
-    rows: &[Cells],
+    rows: &[RowCells],
 ) -> Result<Result<List<Value>, Error>, AllocError>
     ensures { IfOk result (λ values. values ≡ spec.column_values columns.now rows.now) }
 {

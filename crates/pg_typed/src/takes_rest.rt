@@ -12,7 +12,8 @@ ghost use Rattle.pg_typed.specs.Rests.{Takes, rest_at, takes_rest_of};
 use crate::reads_on::only_release;
 use pg_errors::Error;
 use pg_execute::{Got, HowMany, Said, said_by};
-use pg_query::{Action, Cells, Cleanup, Reply, Script, Want};
+use pg_query::{Action, Cleanup, Reply, Script, Want};
+use pg_rows::RowCells;
 use pg_wire::{Message, WireFault};
 use std::alloc::{AllocError, Global};
 use std::collections::VecDeque;
@@ -59,7 +60,7 @@ impl TakesRest {
     }
 
     /// A row more. One too many is refused.
-    fn row(&mut self, cells: Cells) -> Result<Option<Result<Got, Error>>, AllocError>
+    fn row(&mut self, cells: RowCells) -> Result<Option<Result<Got, Error>>, AllocError>
         ensures same { self.new ≡ record self.old { got = self.new.got } }
         ensures does { IfOk result (λ told. Does (behind_row self.old.how_many (record self.old.got { rows = self.old.got.rows ++ cells ∷ [] })) told self.new.got) }
     {
