@@ -2,11 +2,15 @@
 //! those that print as they are.
 
 use crate::list::push;
+use pg_cases::shared;
 use pg_desk::{Booking, Stamp};
 use pg_errors::Error;
 use pg_statements::Column;
-use pg_text::{Answer, Cells, Pair, Report, SimpleMessage, Statement, TurnMark, report_text};
+use pg_text::{
+    Answer, Cells, Pair, Report, RowCells, SimpleMessage, Statement, TurnMark, report_text,
+};
 use pg_types::{Blob, Kind, List, Oid, OutOfMemory, Text, Type, Value};
+use pg_wire::{DataRowBody, Message, WireFault};
 use std::alloc::{AllocError, Global};
 use std::str;
 
@@ -170,6 +174,40 @@ fn of_two_columns(alloc: Global) -> Result<Statement, OutOfMemory> {
     Statement::new(alloc, name, List::empty(alloc), columns)
 }
 
+/// A row of three cells as it is sent: null, one without bytes, and one of those at the borders.
+const THREE_CELLS: &[u8] =
+    b"\x00\x03\xff\xff\xff\xff\x00\x00\x00\x00\x00\x00\x00\x0e\x1f ~\x7f!\"#[\\]\x00\x0a\x80\xff";
+
+/// A row without cells.
+const NO_CELLS: &[u8] = b"\x00\x00";
+
+fn of_message(message: Message) -> Option<DataRowBody> {
+    match message {
+        Message::DataRow(body) => Some(body),
+        _ => None,
+    }
+}
+
+fn of_read(read: Result<Option<Message>, WireFault>) -> Option<DataRowBody> {
+    match read {
+        Ok(Some(message)) => of_message(message),
+        _ => None,
+    }
+}
+
+/// Adds the row that is sent so.
+fn put_sent(alloc: Global, sent: &[u8], rows: &mut List<RowCells>) -> Result<(), OutOfMemory> {
+    let mut received = shared::of_message(alloc, b'D', sent)?;
+    let read = Message::parse(&mut received);
+    let Some(body) = of_read(read) else {
+        return Ok(());
+    };
+    match RowCells::new(body) {
+        Ok(cells) => push(rows, cells),
+        Err(_) => Ok(()),
+    }
+}
+
 /// The answer that is no rows, and the one that is two.
 fn put_rows(alloc: Global, answers: &mut List<Answer>) -> Result<(), OutOfMemory> {
     let name = Text::from_str(alloc, "s0")?;
@@ -182,11 +220,9 @@ fn put_rows(alloc: Global, answers: &mut List<Answer>) -> Result<(), OutOfMemory
             affected: None,
         },
     )?;
-    let mut cells = List::empty(alloc);
-    put_cells(alloc, &mut cells)?;
     let mut rows = List::empty(alloc);
-    push(&mut rows, cells)?;
-    push(&mut rows, List::empty(alloc))?;
+    put_sent(alloc, THREE_CELLS, &mut rows)?;
+    put_sent(alloc, NO_CELLS, &mut rows)?;
     push(
         answers,
         Answer::Rows {

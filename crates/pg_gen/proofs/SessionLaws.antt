@@ -1,6 +1,7 @@
 -- The parts of a generated session, one command more.
-use Rattle.std.proofs.Common.{◌≡◌, ℕ, suc, ◌+◌, ◌*◌, ◌%◌, ◌^◌, ◌≤◌, ◌<◌, Bool, true, false, cond, ◌==◌, List, [], ◌∷◌, ◌++◌, length, map, sym, ap, subst, ◌∙◌, arith, append-nil, map-id, filter, eq-eqb, ne_eqb, Vec}
-use Rattle.std.specs.List.{AllByRecursion, range_with_len}
+use Rattle.std.proofs.Common.{◌≡◌, ℕ, suc, ◌+◌, ◌*◌, ◌%◌, ◌^◌, ◌≤◌, ◌<◌, Bool, true, false, cond, ◌==◌, List, [], ◌∷◌, ◌++◌, length, map, refl, sym, ap, subst, ◌∙◌, arith, append-nil, map-id, filter, eq-eqb, ne_eqb, Vec}
+use Rattle.std.specs.Prelude.{◌&&◌}
+use Rattle.std.specs.List.{AllByRecursion, list_all, range_with_len}
 use Rattle.std.proofs.lemmas.List.{length-map, map-append, map_push}
 use Rattle.std.proofs.lemmas.List.Elements.{All-from_recursion, filter-append}
 use Rattle.std.proofs.lemmas.List.FromFn.{length-range_with_len, map-range_with_len_more}
@@ -8,7 +9,7 @@ use Rattle.std.proofs.lemmas.List.Sums.{count_by-le-length, length-filter}
 use Rattle.pg_spec.specs.RawMessages.{RawMessage}
 use Rattle.pg_spec.specs.Report as said
 use Rattle.pg_wire.specs.Giving.{lists}
-use Rattle.pg_text.specs.Scripts.{AreShort}
+use Rattle.pg_text.specs.Scripts.{AreShort, are_typed, is_typed}
 use Rattle.pg_text.specs.Views.{as_command, as_scripts}
 use Rattle.pg_text.specs.declared.command.Command.{Command}
 use Rattle.pg_gen.specs.Draws.{draw, drawn, next_number, number_after}
@@ -74,6 +75,21 @@ short_from n scripts few e =
 
 pub eight_from : (n : ℕ) (scripts : List (List Command)) → scripts ≡ as_scripts (map (script n) (range_with_len 0 8)) → length scripts ≡ 8
 eight_from n scripts e = ap (λ (x : List (List Command)). length x) e
+
+-- none of them has values
+simple-typed : (commands : List said.Command) → list_all is_typed (map as_command commands) ≡ true
+simple-typed [] = refl
+simple-typed (said.Simple text take ∷ commands) = simple-typed commands
+
+each-typed : (n : ℕ) (handles : List ℕ) → are_typed (as_scripts (map (script n) handles)) ≡ true
+each-typed n [] = refl
+each-typed n (handle ∷ handles) = both (simple-typed (script n handle)) (each-typed n handles)
+  where
+    both : {a b : Bool} → a ≡ true → b ≡ true → (a && b) ≡ true
+    both p q = (λ i. p i && q i)
+
+pub typed_from : (n : ℕ) (scripts : List (List Command)) → scripts ≡ as_scripts (map (script n) (range_with_len 0 8)) → are_typed scripts ≡ true
+typed_from n scripts e = ap are_typed e ∙ each-typed n (range_with_len 0 8)
 
 -- ---- the plan
 

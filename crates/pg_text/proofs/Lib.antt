@@ -8,5 +8,6 @@ pub mod LineLaws
 pub mod DraftLaws
 pub mod TextLaws
 pub mod ReadLaws
+pub mod TypedLaws
 pub mod SimpleReports
 pub mod SimpleTexts

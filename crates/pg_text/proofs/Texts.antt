@@ -34,6 +34,14 @@ pub join_behind : {A : Type 0} (word : A → List ℕ) (first : List ℕ) (items
 join_behind word first [] = sym (append-nil first)
 join_behind word first (x ∷ items) = ap (λ rest. first ++ (32 ∷ rest)) (join_behind word (word x) items)
 
+-- the first of items that stand behind spaces was written
+pub first_written : {A : Type 0} (word : A → List ℕ) (items others : List A) (x : A) (old new : List ℕ) → items ≡ x ∷ others → new ≡ old ++ (32 ∷ word x) →
+    new ++ behind_spaces word others ≡ old ++ behind_spaces word items
+first_written {A} word items others x old new is wrote =
+    ap (λ (t : List ℕ). t ++ behind_spaces word others) wrote
+    ∙ append_assoc old (32 ∷ word x) (behind_spaces word others)
+    ∙ ap (λ (l : List A). old ++ behind_spaces word l) (sym is)
+
 -- ---- an answer
 
 joined : (old start handle command words more : List ℕ) →

@@ -1,7 +1,8 @@
 //! Commands of a script, and what they answer.
 
 use pg_errors::Error;
-use pg_query::{Cells, SimpleMessage};
+use pg_query::SimpleMessage;
+use pg_rows::RowCells;
 use pg_statements::Statement;
 use pg_types::{List, Oid, Text, Value};
 
@@ -18,9 +19,9 @@ pub enum CommandTarget {
 #[derive(Debug, Drop)]
 pub struct TypedText {
     pub text: Text,
-    /// Oids, which are to be of built-in types.
+    /// Oids of built-in types: a condition of `Scripts::new`.
     pub types: List<Oid>,
-    /// The values, which are to be as many. Each is encoded for the type at its place.
+    /// As many values, which is one too. Each is encoded for the type at its place.
     pub values: List<Value>,
 }
 
@@ -112,7 +113,7 @@ pub enum Answer {
     /// The rows that a statement gave, and how many the last command affected, where one ended.
     Rows {
         statement: Statement,
-        rows: List<Cells>,
+        rows: List<RowCells>,
         affected: Option<u64>,
     },
     /// The values of one column.

@@ -24,6 +24,7 @@ pub use laws::{
 };
 pub use parse::session_text;
 pub use pg_query::{Cells, SimpleMessage};
+pub use pg_rows::RowCells;
 pub use pg_spec::TurnMark;
 pub use pg_statements::Statement;
 pub use print::{error_text, report_text};

@@ -5,6 +5,7 @@ ghost use Rattle.pg_text.specs.SessionText as said;
 ghost use Rattle.pg_spec.specs.SessionText.{default_nonce};
 ghost use Rattle.pg_wire.specs.Giving.{lists};
 ghost use Rattle.pg_text.specs.Drafts.{AddsLast, HasCut, IsEmpty, IsWithin, ReadsOn, Steps, so_far, with_entry, with_line, with_read};
+ghost use Rattle.pg_text.specs.Scripts.{are_typed};
 ghost use Rattle.pg_text.specs.Sessions.{Finishes, ReadsText};
 ghost use Rattle.pg_text.specs.Texts.{lines_of};
 
@@ -263,7 +264,8 @@ impl Draft {
 
     /// The session, where `number` is that of the line after the last.
     fn finish(self, alloc: Global, number: u64) -> Result<Session, TextFault>
-        requires { IsWithin (2 ^ 32 - 1) self }
+        requires within { IsWithin (2 ^ 32 - 1) self }
+        requires typed { are_typed self.scripts.items ≡ true }
         ensures { Finishes (so_far self) number result }
     {
         let Draft {

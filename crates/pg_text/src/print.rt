@@ -1,6 +1,6 @@
 //! The text of a report, line by line.
 
-ghost use Rattle.std.specs.Prelude.{◌≡◌, ◌++◌, ◌∷◌, [], map, flat_map, codes, decimal, IfOk};
+ghost use Rattle.std.specs.Prelude.{◌≡◌, ◌++◌, ◌∷◌, [], map, flat_map, codes, decimal, option_map, IfOk};
 ghost use Rattle.std.specs.List.{concat, join_with_byte};
 ghost use Rattle.hex.specs.Hex.{encode_lower};
 ghost use Rattle.pg_spec.specs.ReportText as spec;
@@ -16,7 +16,8 @@ use crate::put::{put, put_hex, put_int, put_number, put_quoted, put_signed};
 use crate::report::{Pair, Report};
 use pg_desk::{Booking, Stamp};
 use pg_errors::{AsyncMessage, DbError, Error, Notification};
-use pg_query::{Cells, SimpleMessage};
+use pg_query::SimpleMessage;
+use pg_rows::RowCells;
 use pg_spec::TurnMark;
 use pg_statements::{Column, Statement};
 use pg_types::{Blob, List, OutOfMemory, Text, Type, Value};
@@ -285,7 +286,7 @@ fn put_result(
     alloc: Global,
     out: &mut String,
     statement: &Statement,
-    rows: &[Cells],
+    rows: &[RowCells],
     affected: Option<u64>,
 ) -> Result<(), OutOfMemory>
     ensures { Adds (written.answered (Answer.Rows statement.now rows.now affected)) out.old out.new result }
@@ -310,13 +311,35 @@ fn put_affected(out: &mut String, affected: Option<u64>) -> Result<(), OutOfMemo
     }
 }
 
-fn put_rows(alloc: Global, out: &mut String, rows: &[Cells]) -> Result<(), OutOfMemory>
+fn put_rows(alloc: Global, out: &mut String, rows: &[RowCells]) -> Result<(), OutOfMemory>
     ensures { Adds (flat_map text.row_line rows.now) out.old out.new result }
 {
     for cells in rows {
-        put_row(alloc, out, cells.as_slice())?;
+        put_shared_row(alloc, out, cells)?;
     }
     Ok(())
+}
+
+/// A row whose cells stand in the received bytes.
+fn put_shared_row(alloc: Global, out: &mut String, cells: &RowCells) -> Result<(), OutOfMemory>
+    ensures { Adds (text.row_line cells.now) out.old out.new result }
+{
+    put(out, "row")?;
+    put_shared_cells(alloc, out, cells)?;
+    put(out, "\n")
+}
+
+/// Each of its cells behind a space.
+fn put_shared_cells(alloc: Global, out: &mut String, cells: &RowCells) -> Result<(), OutOfMemory>
+    ensures { Adds (written.behind_spaces spec.cell cells.now) out.old out.new result }
+{
+    let mut left = cells.iter();
+    loop {
+        let Some(cell) = left.next() else {
+            return Ok(());
+        };
+        put_cell(alloc, out, cell)?;
+    }
 }
 
 /// How many values there are, and a line for each.
@@ -442,18 +465,29 @@ fn put_cells(alloc: Global, out: &mut String, cells: &[Option<Blob>]) -> Result<
     ensures { Adds (written.behind_spaces spec.cell cells.now) out.old out.new result }
 {
     for cell in cells {
-        put_cell(alloc, out, cell)?;
+        put_cell(alloc, out, bytes_of(cell))?;
     }
     Ok(())
 }
 
-fn put_cell(alloc: Global, out: &mut String, cell: &Option<Blob>) -> Result<(), OutOfMemory>
-    ensures { Adds (32 ∷ spec.cell cell.now) out.old out.new result }
+/// The bytes of a cell, None for null.
+fn bytes_of(cell: &Option<Blob>) -> Option<&[u8]>
+    ensures { option_map (λ r. r.now) result ≡ cell.now }
+{
+    match cell {
+        Some(bytes) => Some(bytes.as_slice()),
+        None => None,
+    }
+}
+
+/// A cell behind a space: its bytes in quotes, or null.
+fn put_cell(alloc: Global, out: &mut String, cell: Option<&[u8]>) -> Result<(), OutOfMemory>
+    ensures { Adds (32 ∷ spec.cell (option_map (λ r. r.now) cell.entry)) out.old out.new result }
 {
     put(out, " ")?;
     match cell {
         None => put(out, "null"),
-        Some(bytes) => put_quoted(alloc, out, bytes.as_slice()),
+        Some(bytes) => put_quoted(alloc, out, bytes),
     }
 }
 

@@ -20,7 +20,7 @@ pub use laws::{
     some_text_is_well_made,
 };
 pub use pg_text::{
-    Answer, Cells, Command, CommandTarget, Pair, Report, Scripts, Session, SimpleMessage,
+    Answer, Cells, Command, CommandTarget, Pair, Report, RowCells, Scripts, Session, SimpleMessage,
     TextFault, TurnMark, TypedText, report_text, session_text,
 };
 pub use program::{Outcome, run};

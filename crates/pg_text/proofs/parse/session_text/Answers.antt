@@ -1,8 +1,10 @@
-use Rattle.std.proofs.Common.{◌≡◌, ◌≤◌, ℕ, [], arith}
+use Rattle.std.proofs.Common.{◌≡◌, ◌≤◌, ℕ, [], ap, arith}
 use Rattle.std.proofs.lemmas.List.{nil_from_length}
 use Rattle.pg_text.specs.declared.parse.Draft.{Draft}
 use Rattle.pg_text.specs.Drafts.{IsWithin, so_far}
+use Rattle.pg_text.specs.Scripts.{are_typed}
 use Rattle.pg_text.proofs.ReadLaws.{ends, goes_on, refused_line, starts}
+use Rattle.pg_text.proofs.TypedLaws.{typed_next}
 use Rattle.pg_text.proofs.parse.session_text.Goals as goal
 
 is_within_more : (n m : ℕ) (d : Draft) → n ≤ m → IsWithin n d → IsWithin m d
@@ -12,6 +14,7 @@ pub loop-rest-init : goal.loop-rest-init
 loop-rest-init c = record {
   read = starts c.args.text.now (so_far c.new-draft.result) c.new-draft.ensures.nothing;
   within = is_within_more _ _ _ (omega arith) c.new-draft.ensures.within;
+  typed = ap are_typed c.new-draft.ensures.nothing.scripts;
   number = omega arith;
   rest = omega arith;
 }
@@ -20,6 +23,7 @@ pub loop-rest-preserved : goal.loop-rest-preserved
 loop-rest-preserved c = record {
   read = goes_on c.args.text.now c.loop-rest.rest.now c.cut_line.result.0.now c.cut_line.result.1.now c.loop-rest.number (so_far c.loop-rest.draft) (so_far c.read.new.self) c.loop-rest.invariant.read c.cut_line.ensures.lines (rw c.in-Ok-true.field-0-test at c.in-Ok-true.ensures.line);
   within = is_within_more _ _ _ (omega arith) (c.in-Ok-true.ensures.within _ c.loop-rest.invariant.within);
+  typed = typed_next (so_far c.loop-rest.draft) (so_far c.read.new.self) c.cut_line.result.0.now (rw c.in-Ok-true.field-0-test at c.in-Ok-true.ensures.line) c.loop-rest.invariant.typed;
   number = omega arith;
   rest = omega arith;
 }
