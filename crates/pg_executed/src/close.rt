@@ -13,25 +13,35 @@ use std::alloc::Global;
 
 /// The state that closes a statement. Nobody reads the server's reply.
 #[derive(Drop)]
-pub struct CloseState {
-    command: Command<Closing>,
+pub struct CloseState<'a> {
+    command: Command<Closing<'a>>,
 }
 
-impl CloseState {
+impl<'a> CloseState<'a> {
     ghost use Rattle.pg_executed.specs.States.{place_of_close, IsLiveClose};
 
     /// Makes the state that closes this statement. It takes no memory, and books nothing before its first poll.
-    pub fn new(statement: Statement) -> CloseState
+    pub fn new(statement: &'a Statement) -> CloseState<'a>
+        ensures live { IsLiveClose result }
+        ensures asks { (place_of_close result).dialogue ≡ close statement.now }
+    {
+        CloseState {
+            command: Command::new(Closing::Borrowed(statement)),
+        }
+    }
+
+    /// The same of a statement that can't be borrowed for so long.
+    pub fn owned(statement: Statement) -> CloseState<'a>
         ensures live { IsLiveClose result }
         ensures asks { (place_of_close result).dialogue ≡ close statement }
     {
         CloseState {
-            command: Command::new(Closing::New(statement)),
+            command: Command::new(Closing::Owned(statement)),
         }
     }
 }
 
-impl Polled for CloseState {
+impl<'a> Polled for CloseState<'a> {
     ghost use Rattle.pg_executed.specs.States.{place_of_close, IsLiveClose};
 
     type Output = ();

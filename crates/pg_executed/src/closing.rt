@@ -11,14 +11,15 @@ use std::mem;
 
 /// A statement that is closed.
 #[derive(Drop)]
-pub(crate) enum Closing {
+pub(crate) enum Closing<'a> {
     /// Nothing was done yet.
-    New(Statement),
+    Borrowed(&'a Statement),
+    Owned(Statement),
     /// The request was sent, or can't be written.
     Done,
 }
 
-impl Script for Closing {
+impl<'a> Script for Closing<'a> {
     ghost use Rattle.pg_query.specs.Scripts.{Nothing};
     ghost use Rattle.pg_executed.specs.Closing.{dialogue_of_closing, refuses_of_closing, steps_of_closing};
 
@@ -33,12 +34,14 @@ impl Script for Closing {
     ghost steps = { steps_of_closing };
 
     fn next(&mut self, alloc: Global) -> Result<Want<()>, AllocError> {
-        match mem::replace(self, Closing::Done) {
-            Closing::New(statement) => match close_request(alloc, statement.name())? {
-                Ok(request) => Ok(Want::Act(Action::Send(request))),
-                Err(error) => Ok(Want::Answer(Err(error))),
-            },
-            Closing::Done => Ok(Want::Answer(Ok(()))),
+        let request = match mem::replace(self, Closing::Done) {
+            Closing::Borrowed(statement) => close_request(alloc, statement.name())?,
+            Closing::Owned(statement) => close_request(alloc, statement.name())?,
+            Closing::Done => return Ok(Want::Answer(Ok(()))),
+        };
+        match request {
+            Ok(request) => Ok(Want::Act(Action::Send(request))),
+            Err(error) => Ok(Want::Answer(Err(error))),
         }
     }
 

@@ -259,7 +259,7 @@ fn close<'a>(alloc: Global, slot: u64, slots: &Slots) -> Result<AnyState<'a>, Er
     match slots.get(slot) {
         Some(statement) => {
             let statement = statement.copy()?;
-            let state = CloseState::new(statement);
+            let state = CloseState::owned(statement);
             let state = boxed(alloc, state)?;
             Ok(AnyState::Close(state))
         }

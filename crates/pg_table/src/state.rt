@@ -35,7 +35,7 @@ pub enum AnyState<'a> {
     Execute(Box<ExecuteState<'a>>),
     QueryTyped(Box<QueryTypedState<'a>>),
     ExecuteTyped(Box<ExecuteTypedState<'a>>),
-    Close(Box<CloseState>),
+    Close(Box<CloseState<'a>>),
     Missing(Box<MissingState>),
 }
 

@@ -14,7 +14,7 @@ use Rattle.pg_table.proofs.making.close.Goals as goal
 pub returns-in_ok-state-in-Some-clause-asks : goal.returns-in_ok-state-in-Some-clause-asks
 returns-in_ok-state-in-Some-clause-asks c =
     ap (λ (d : Dialogue (Unit {0})). mapped in_done d)
-    (ap (λ (s : CloseState). (place_of_close s).dialogue) c.in_ok-state-in-Some.ensures ∙ c.new-state.ensures.asks ∙ ap close c.in_ok-statement-in-Some.ensures)
+    (ap (λ (s : CloseState). (place_of_close s).dialogue) c.in_ok-state-in-Some.ensures ∙ c.owned-state.ensures.asks ∙ ap close c.in_ok-statement-in-Some.ensures)
     ∙ ap (λ (o : Option Described). mapped in_done (or_missing close o)) c.in-Some.ensures
 
 pub returns-in-None-clause-asks : goal.returns-in-None-clause-asks

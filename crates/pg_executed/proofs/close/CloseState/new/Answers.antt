@@ -4,4 +4,4 @@ use Rattle.pg_executed.proofs.Beginning.{sends-clean}
 use Rattle.pg_executed.proofs.close.CloseState.new.Goals as goal
 
 pub new-requires : goal.new-requires
-new-requires c = sends-clean (or_encode (close_request c.args.statement.name))
+new-requires c = sends-clean (or_encode (close_request c.args.statement.now.name))
