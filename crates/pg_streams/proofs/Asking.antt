@@ -1,5 +1,5 @@
 -- Where a request leads whose reply is given item by item.
-use Rattle.std.proofs.Common.{◌≡◌, ◌⊎◌, ℕ, false, List, [], ◌∷◌, Option, Some, None, Result, Ok, Err, refl, sym, ◌∙◌, ap, subst, inl, inr}
+use Rattle.std.proofs.Common.{◌≡◌, ◌⊎◌, ℕ, false, List, [], ◌∷◌, Option, Some, None, is_some, Result, Ok, Err, refl, sym, ◌∙◌, ap, subst, inl, inr}
 use Rattle.futures.specs.declared.task.Poll.{Poll}
 use Rattle.futures.specs.declared.task.Poll.TheVariants.{Ready, Pending}
 use Rattle.pg_spec.specs.Faults as spec
@@ -11,12 +11,15 @@ use Rattle.pg_desk.specs.declared.event.Event.{Event}
 use Rattle.pg_desk.specs.declared.event.Event.TheVariants as call
 use Rattle.pg_faults.specs.declared.error.Error.{Error}
 use Rattle.pg_faults.specs.declared.error.Error.TheVariants.{OutOfMemory}
-use Rattle.pg_query.specs.Dialogue.{Dialogue, Answer, Ask, Walks, cleaning}
+use Rattle.pg_query.specs.Dialogue.{Dialogue, Answer, Ask, Read, Walks, cleaning}
 use Rattle.pg_query.specs.Faults.{of_fault}
 use Rattle.pg_query.specs.Meaning.{GoesToAnswer, MatchPoll}
-use Rattle.pg_query.specs.Reading.{reads}
+use Rattle.pg_query.specs.Reading.{ends, reads}
 use Rattle.pg_query.specs.Scripts.{cleanup_of}
+use Rattle.pg_query.specs.declared.desk_call.Cleanup.TheVariants.{Release}
+use Rattle.pg_core.specs.Behind.{behind}
 use Rattle.pg_lookup.specs.Composing.{asks_for}
+use Rattle.pg_execute.specs.Executes.{closed_by, posts, posts_before}
 use Rattle.pg_streams.specs.Collecting.{Awaits, Gives, NoItemFirst, family_of, place_of, untold}
 use Rattle.pg_streams.specs.Families.{AnswersFor, Family, GoesFor, PausesFor}
 use Rattle.pg_streams.specs.Handing.{HandsOn, alone}
@@ -48,15 +51,15 @@ only-of hears giving more = told_only (first_told hears giving more)
 abbrev pub only-untold : {G I : Type 0} → (G → RawMessage → Heard G I) → Items G → List RawMessage → First (Unit {0}) I
 only-untold hears items more = told_only (untold hears items more)
 
-pub asks-opened : {D G I W : Type 0} (becomes : D → List Event → D → Type 0) (stamp : Stamp) (a b : D) (d : Dialogue W) (n : ℕ) (frame : List ℕ) (tells : G → List RawMessage → Option (Result W Error)) (hears : G → RawMessage → Heard G I) (giving : G) (id : ℕ) (items : Items G) →
-    d ≡ Ask false frame (reads false (tells giving)) → becomes a (call.Book stamp frame false (Ok id) ∷ []) b → items ≡ record { giving = giving; id = id; batch = []; close = None; over = false } →
+pub asks-opened : {D G I W : Type 0} (becomes : D → List Event → D → Type 0) (stamp : Stamp) (a b : D) (d : Dialogue W) (n : ℕ) (frame : List ℕ) (close : Option (List ℕ)) (tells : G → List RawMessage → Option (Result W Error)) (hears : G → RawMessage → Heard G I) (giving : G) (id : ℕ) (items : Items G) →
+    d ≡ Ask false frame (closed_by close (reads false (tells giving))) → becomes a (call.Book stamp frame false (Ok id) ∷ []) b → items ≡ record { giving = giving; id = id; batch = []; close = close; over = false } →
     GoesFor becomes stamp a (alone (record { dialogue = d; reads = n }) (only-of hears giving)) b (alone (place_of tells items) (only-untold hears items))
-asks-opened {W = W} becomes stamp a b d n frame tells hears giving id items is ev same =
+asks-opened {W = W} becomes stamp a b d n frame close tells hears giving id items is ev same =
     subst (λ (x : Items _). GoesFor becomes stamp a (alone (record { dialogue = d; reads = n }) (only-of hears giving)) b (alone (place_of tells x) (only-untold hears x))) (sym same) (record {
       events = call.Book stamp frame false (Ok id) ∷ [];
       became = ev;
-      walked = λ plan. subst (λ (x : Dialogue W). Walks stamp x n (call.Book stamp frame false (Ok id) ∷ []) (place_of tells (record { giving = giving; id = id; batch = []; close = None; over = false })).dialogue id) (sym is)
-          (reads false (tells giving), id, (refl, refl, refl, refl, refl), (collects-whole (tells giving), refl));
+      walked = λ plan. subst (λ (x : Dialogue W). Walks stamp x n (call.Book stamp frame false (Ok id) ∷ []) (place_of tells (record { giving = giving; id = id; batch = []; close = close; over = false })).dialogue id) (sym is)
+          (closed_by close (reads false (tells giving)), id, (refl, refl, refl, refl, refl), (collects-whole close (tells giving), refl));
       brought = refl;
     })
 
@@ -75,6 +78,16 @@ asks-refused {W = W} becomes stamp a b d next n frame fault e first IsFirst is e
   answers = λ plan. inl (ap (λ (x : Error). let y : Dialogue W = Answer (Err x) in y) (sym same));
   found = inl found;
 }
+
+-- where nothing is closed behind it
+pub none-closed : {W : Type 0} (request : Result (List ℕ) Error) (R : List RawMessage → Option (Result W Error)) → closed_by None (asks_for request (reads false R)) ≡ asks_for request (reads false R)
+none-closed {W} (Ok frame) R = λ i. Ask false frame (Read (Release ∷ []) (λ ms. is_some (R ms)) (λ ms. ends-so (R ms) i))
+  where
+    ends-so : (o : Option (Result W Error)) → behind (posts None) (ends false o) (posts_before None) ≡ ends false o
+    ends-so None = refl
+    ends-so (Some (Ok w)) = refl
+    ends-so (Some (Err e)) = refl
+none-closed (Err e) R = refl
 
 -- ---- a poll, for one who has had nothing yet
 

@@ -1,5 +1,5 @@
 -- Where a request leads that closes a statement.
-use Rattle.std.proofs.Common.{◌≡◌, ℕ, false, List, [], ◌∷◌, Option, Some, None, Result, Ok, Err, refl, sym, subst, inl}
+use Rattle.std.proofs.Common.{◌≡◌, ℕ, false, List, [], ◌∷◌, Option, Some, None, Result, Ok, Err, refl, sym, ap, subst, inl}
 use Rattle.pg_spec.specs.RawMessages.{RawMessage}
 use Rattle.pg_spec.specs.declared.stamps.Stamp.{Stamp}
 use Rattle.pg_desk.specs.declared.event.DeskFault.{DeskFault}
@@ -11,8 +11,9 @@ use Rattle.pg_query.specs.Faults.{of_fault}
 use Rattle.pg_query.specs.Meaning.{GoesToAnswer}
 use Rattle.pg_query.specs.declared.desk_call.Cleanup.TheVariants.{Release}
 use Rattle.pg_execute.specs.Executes.{posts, posts_before}
-use Rattle.pg_streams.specs.Collecting.{Drops, Dropped, Kept, Posts, Sends, Sent, Refused, family_behind, hung, was_told}
+use Rattle.pg_streams.specs.Collecting.{Drops, Dropped, FailsBehind, Kept, Posts, Sends, Sent, Refused, error_behind, family_behind, hung, was_told}
 use Rattle.pg_streams.specs.Families.{AnswersFor, Family}
+use Rattle.pg_streams.specs.Handing.{alone}
 use Rattle.pg_streams.specs.Hearing.{First}
 use Rattle.pg_streams.specs.declared.giving.Told.{Told}
 use Rattle.pg_streams.specs.declared.giving.Told.TheVariants.{Ends, Fails}
@@ -156,3 +157,26 @@ module _ {D G I W : Type 0} {becomes : D → List Event → D → Type 0} (stays
         answers = λ before. inl (settled-unless (Err e) said);
         found = inl first;
       })
+
+-- ---- refused values
+
+failed-by : {T : Type 0} (e : Error) (said : Result (Unit {0}) Error) (given : Error) → given ≡ error_behind said e → settled {T = T} (Err e) said ≡ Answer (Err given)
+failed-by {T} e (Ok x) given is = ap (λ (y : Error). let d : Dialogue T = Answer (Err y) in d) (sym is)
+failed-by {T} e (Err refused) given is = ap (λ (y : Error). let d : Dialogue T = Answer (Err y) in d) (sym is)
+
+-- the statement is closed before the error is given
+pub refused-closed : {D W G I : Type 0} (becomes : D → List Event → D → Type 0) → ((a : D) → becomes a [] a) → (stamp : Stamp) (a b : D) (d : Dialogue W) (n : ℕ) (close : Option (List ℕ)) (e given : Error) (first : List RawMessage → First G I) (IsFirst : First G I → Type 0) →
+    d ≡ posts_before close (Err e) → FailsBehind becomes stamp a close e b given → IsFirst (first []) → AnswersFor becomes stamp a (alone (record { dialogue = d; reads = n }) first) b (λ plan. Err given) IsFirst
+refused-closed {W = W} becomes stays stamp a b d n close e given first IsFirst is h found =
+    let k = closes becomes stays stamp a close b W n h.said h.posted in
+    record {
+      last = alone (record { dialogue = settled (Err e) h.said; reads = n }) first;
+      goes = record {
+        events = k.events;
+        became = k.became;
+        walked = λ plan. subst (λ (x : Dialogue W). Walks stamp x n k.events (settled (Err e) h.said) n) (sym is) (k.walked (Err e));
+        brought = brings-none first k.events k.quiet;
+      };
+      answers = λ plan. inl (failed-by e h.said given h.gives);
+      found = inl found;
+    }

@@ -10,12 +10,15 @@ use Rattle.pg_streams.specs.Collecting.{Gives, NoItemFirst, is_last, family_behi
 use Rattle.pg_streams.specs.Families.{AnswersFor, Family, GoesFor}
 use Rattle.pg_streams.specs.Handing.{alone}
 use Rattle.pg_streams.specs.Hearing.{Brings, First, first_told, told_or}
-use Rattle.pg_streams.specs.RowStates.{opening, opening_told, rows_opened, rows_over, rows_place}
+use Rattle.pg_streams.specs.RowStates.{IsLiveAt, IsLiveState, opening, opening_told, rows_opened, rows_over, rows_place, stage_statement, state_statement}
 use Rattle.pg_streams.specs.RowStreams.{RowsGiven}
 use Rattle.pg_streams.specs.RowTelling.{bound_heard, opening_heard}
 use Rattle.pg_streams.specs.declared.giving.Told.{Told}
 use Rattle.pg_streams.specs.declared.giving.Told.TheVariants.{Item, Ends, Fails}
 use Rattle.pg_streams.specs.declared.items.Items.{Items}
+use Rattle.pg_streams.specs.declared.query_raw.QueryRawState.{QueryRawState}
+use Rattle.pg_streams.specs.declared.query_raw.Stage.{Stage}
+use Rattle.pg_streams.specs.declared.query_raw.Stage.TheVariants.{New, Opens, Done}
 use Rattle.pg_streams.specs.declared.row_giving.RowGiving.{RowGiving}
 use Rattle.pg_streams.specs.declared.row_giving.RowOpening.{RowOpening}
 use Rattle.pg_streams.specs.declared.row_stream.RowStream.{RowStream}
@@ -101,3 +104,14 @@ module _ {D : Type 0} (becomes : D → List Event → D → Type 0) (stamp : Sta
 
   pub given-error : (e : Error) → x ≡ Err e → AnswersFor becomes stamp a (family_of opening_told opening_heard old) b (λ before. Err e) (NoItemFirst new)
   given-error e same = given (Err e) same
+
+-- ---- a state
+
+-- until it answered it knows its statement
+pub known-live : (stage : Stage) → IsLiveAt stage → stage_statement stage ≡ None → ⊥
+known-live (New s values) live is = cc
+known-live (Opens items) live is = cc
+known-live Done live is = live
+
+pub known-state : (s : QueryRawState) → IsLiveState s → state_statement s ≡ None → ⊥
+known-state s live is = known-live s.stage live is

@@ -14,7 +14,8 @@ use Rattle.pg_query.specs.Meaning.{Place}
 use Rattle.pg_query.specs.Reading.{ends, reads}
 use Rattle.pg_query.specs.declared.desk_call.Cleanup.TheVariants.{Release}
 use Rattle.pg_query.proofs.Walking.{feed-answer, feed-hang-up}
-use Rattle.pg_execute.specs.Executes.{posts, posts_before}
+use Rattle.pg_core.specs.Behind.{behind}
+use Rattle.pg_execute.specs.Executes.{closed_by, posts, posts_before}
 use Rattle.pg_streams.specs.Collecting.{IsRefused, Keeps, Reads, collects, family_behind, family_of, place_behind, stands, told_end, untold}
 use Rattle.pg_streams.specs.Families.{Family}
 use Rattle.pg_streams.specs.Hearing.{Heard, first_told, left_behind, told_or}
@@ -52,11 +53,11 @@ feed-posted ms None r = feed-answer ms r
 feed-posted [] (Some part) r = refl
 feed-posted (m ∷ ms) (Some part) r = feed-posted ms (Some part) r
 
--- one who has had nothing yet, and whose statement isn't closed, reads to the answer
-pub collects-whole : {W : Type 0} (R : List RawMessage → Option (Result W Error)) → collects None (λ ms. told_behind (λ whole. whole) (R ms)) ≡ reads false R
-collects-whole {W} R = λ i. Read (Release ∷ []) (λ ms. is_some (told-whole (R ms) i)) (λ ms. ends-whole (R ms) i)
+-- one who has had nothing yet reads to the answer, and closes the statement then, if it is to be closed
+pub collects-whole : {W : Type 0} (close : Option (List ℕ)) (R : List RawMessage → Option (Result W Error)) → collects close (λ ms. told_behind (λ whole. whole) (R ms)) ≡ closed_by close (reads false R)
+collects-whole {W} close R = λ i. Read (Release ∷ posts close) (λ ms. is_some (told-whole (R ms) i)) (λ ms. ends-whole (R ms) i)
   where
-    ends-whole : (o : Option (Result W Error)) → told_end None (told_behind (λ whole. whole) o) ≡ ends false o
+    ends-whole : (o : Option (Result W Error)) → told_end close (told_behind (λ whole. whole) o) ≡ behind (posts close) (ends false o) (posts_before close)
     ends-whole None = refl
     ends-whole (Some (Ok w)) = refl
     ends-whole (Some (Err e)) = refl

@@ -12,7 +12,7 @@ use Rattle.pg_faults.specs.declared.error.Error.{Error}
 use Rattle.pg_faults.specs.declared.fault.WireFault.{WireFault}
 use Rattle.pg_wire.specs.Faults.{wire_fault}
 use Rattle.pg_faults.specs.declared.error.Error.TheVariants.{OutOfMemory, UnexpectedMessage}
-use Rattle.pg_query.specs.Dialogue.{Dialogue, Answer, Read, HangUp, feed, cleaning}
+use Rattle.pg_query.specs.Dialogue.{Dialogue, Read, HangUp, feed, cleaning}
 use Rattle.pg_query.specs.Faults.{of_fault}
 use Rattle.pg_query.specs.Meaning.{Place}
 use Rattle.pg_query.specs.declared.desk_call.Cleanup.TheVariants.{Release}
@@ -30,7 +30,7 @@ use Rattle.pg_streams.specs.declared.items.Items.{Items}
 abbrev pub told_end : {W : Type 0} → (close : Option (List ℕ)) → Option (Result W Error) → Dialogue W
 told_end close (Some (Ok whole)) = posts_before close (Ok whole)
 told_end close (Some (Err e)) = HangUp (posts_before close (Err e))
-told_end close None = Answer (Err UnexpectedMessage)
+told_end close None = posts_before close (Err UnexpectedMessage)
 
 -- one who collects reads on until the end or an error is told
 abbrev pub collects : {W : Type 0} → (close : Option (List ℕ)) → (tells : List RawMessage → Option (Result W Error)) → Dialogue W
@@ -143,6 +143,17 @@ pub data Sends {D : Type 0} (becomes : D → List Event → D → Type 0) (stamp
 abbrev pub Posts : {D : Type 0} → (D → List Event → D → Type 0) → Stamp → D → Option (List ℕ) → D → Result (Unit {0}) Error → Type 0
 Posts becomes stamp a (Some part) b r = Sends becomes stamp a part b r
 Posts becomes stamp a None b r = (b ≡ a) × (r ≡ Ok tt)
+
+-- an error behind a request, or why that was refused
+abbrev pub error_behind : Result (Unit {0}) Error → (e : Error) → Error
+error_behind (Ok x) e = e
+error_behind (Err refused) e = refused
+
+-- An error is given behind a request that there may be.
+pub record FailsBehind {D : Type 0} (becomes : D → List Event → D → Type 0) (stamp : Stamp) (a : D) (part : Option (List ℕ)) (e : Error) (b : D) (given : Error) : Type 0 where
+  pub said : Result (Unit {0}) Error
+  pub posted : Posts becomes stamp a part b said
+  pub gives : given ≡ error_behind said e
 
 -- The request that is read is hung up, and then the statement is closed.
 pub data Drops {D : Type 0} (becomes : D → List Event → D → Type 0) (stamp : Stamp) (a : D) (id : ℕ) (close : Option (List ℕ)) (b : D) (r : Result (Unit {0}) Error) : Type 0 where

@@ -1,11 +1,13 @@
 -- A stream that is handed on.
-use Rattle.std.specs.Prelude.{List, Result, Ok, Err}
+use Rattle.std.specs.Prelude.{◌≡◌, ◌⊎◌, ℕ, List, Option, Some, None, Result, Ok, Err}
 use Rattle.pg_spec.specs.RawMessages.{RawMessage}
 use Rattle.pg_spec.specs.declared.stamps.Stamp.{Stamp}
 use Rattle.pg_desk.specs.declared.event.Event.{Event}
 use Rattle.pg_faults.specs.declared.error.Error.{Error}
-use Rattle.pg_query.specs.Meaning.{Place}
-use Rattle.pg_streams.specs.Families.{AnswersFor, Family, GoesFor}
+use Rattle.pg_faults.specs.declared.error.Error.TheVariants.{Closed}
+use Rattle.pg_query.specs.Dialogue.{Answer, Dialogue}
+use Rattle.pg_query.specs.Meaning.{Goes, GoesToAnswer, Pauses, Place}
+use Rattle.pg_streams.specs.Families.{AnswersFor, Family, GoesFor, PausesFor}
 use Rattle.pg_streams.specs.Hearing.{First, IsNoItem}
 
 -- one place, whatever the plan is, and what is told first where more messages come
@@ -16,3 +18,32 @@ alone place first = record { place = λ plan. place; first = first }
 abbrev pub HandsOn : {D S W G I : Type 0} → (D → List Event → D → Type 0) → (stands : S → Family (Unit {0}) W G I) → (is_open : S → Type 0) → Stamp → D → Family (Unit {0}) W G I → D → Result S Error → Type 0
 HandsOn becomes stands is_open stamp a p b (Ok stream) = GoesFor becomes stamp a p b (stands stream) × is_open stream
 HandsOn becomes stands is_open stamp a p b (Err e) = AnswersFor becomes stamp a p b (λ plan. Err e) (λ first. IsNoItem first.told)
+
+-- ---- where it has to be found out what is asked for
+
+-- where nobody stands who finds out what is known
+abbrev pub nothing_to_find : {K : Type 0} → Place K
+nothing_to_find = record { dialogue = Answer (Err Closed); reads = 0 }
+
+-- where one stands who asks for the reply by what was found out, and what is told first of it then; a request of this number was read before
+abbrev pub asking : {K W G I : Type 0} → (asks : K → Dialogue W) → (first : K → List RawMessage → First G I) → K → (reads : ℕ) → Family (Unit {0}) W G I
+asking asks first k n = alone (record { dialogue = asks k; reads = n }) (first k)
+
+-- Some events led to where the reply is asked for by what was found out, and this is true of the others.
+pub record FoundOut {D K W G I : Type 0} (becomes : D → List Event → D → Type 0) (stamp : Stamp) (a : D) (p : Place W) (asked : K → ℕ → Family (Unit {0}) W G I) (IsBehind : K → D → Family (Unit {0}) W G I → Type 0) : Type 0 where
+  pub known : K
+  pub mid : D
+  pub reads : ℕ
+  pub finds : Goes becomes stamp a p mid ((asked known reads).place tt)
+  pub behind : IsBehind known mid (asked known reads)
+
+-- A stream is handed on behind what was found out. An error comes before that, where it is what one is answered who finds it out, or behind that.
+abbrev pub HandsOnLater : {D S K W G I : Type 0} → (D → List Event → D → Type 0) → (stands : S → Family (Unit {0}) W G I) → (is_open : S → Type 0) → (known : S → K) → Stamp → D → (finding : Place K) → Place W → (asked : K → ℕ → Family (Unit {0}) W G I) → D → Result S Error → Type 0
+HandsOnLater becomes stands is_open known stamp a finding p asked b (Ok stream) = FoundOut becomes stamp a p asked (λ k mid q. HandsOn becomes stands is_open stamp mid q b (Ok stream) × (known stream ≡ k))
+HandsOnLater becomes stands is_open known stamp a finding p asked b (Err e) =
+    (GoesToAnswer becomes stamp a finding b (Err e) × GoesToAnswer becomes stamp a p b (Err e)) ⊎ FoundOut becomes stamp a p asked (λ k mid q. HandsOn becomes stands is_open stamp mid q b (Err e))
+
+-- One waits before it was found out, or behind that.
+abbrev pub PausesLater : {D K W G I : Type 0} → (D → List Event → D → Type 0) → Stamp → D → Place W → (asked : K → ℕ → Family (Unit {0}) W G I) → D → (new : Place W) → (first : K → List RawMessage → First G I) → (knows : Option K) → Type 0
+PausesLater becomes stamp a p asked b new first knows =
+    ((knows ≡ None) × Pauses becomes stamp a p b new) ⊎ FoundOut becomes stamp a p asked (λ k mid q. (knows ≡ Some k) × PausesFor becomes stamp mid q b (alone new (first k)))

@@ -6,6 +6,7 @@ use Rattle.pg_faults.specs.declared.error.Error.TheVariants.{Closed}
 use Rattle.pg_statements.specs.declared.statement.Described.{Described as Statement}
 use Rattle.pg_query.specs.Dialogue.{Answer}
 use Rattle.pg_query.specs.Meaning.{Place}
+use Rattle.pg_execute.specs.Executes.{closed_by}
 use Rattle.pg_statements.specs.declared.column.Column.{Column}
 use Rattle.pg_rows.specs.Rows.{RowOf}
 use Rattle.pg_types.specs.declared.value.Value.{Value}
@@ -19,6 +20,7 @@ use Rattle.pg_streams.specs.declared.giving.Told.TheVariants.{Item}
 use Rattle.pg_streams.specs.declared.items.Items.{Items}
 use Rattle.pg_streams.specs.declared.query_raw.Handed.{Handed}
 use Rattle.pg_streams.specs.declared.query_raw.Handed.TheVariants.{Borrowed, Owned}
+use Rattle.pg_streams.specs.declared.query_raw.QueryRawState.{QueryRawState}
 use Rattle.pg_streams.specs.declared.query_raw.Stage.{Stage}
 use Rattle.pg_streams.specs.declared.query_raw.Stage.TheVariants.{New, Opens, Done}
 use Rattle.pg_streams.specs.declared.row_giving.RowGiving.{RowGiving}
@@ -77,9 +79,11 @@ opening items = alone (place_of opening_told items) (opening_first items)
 abbrev pub asked_first : Statement → List RawMessage → First (Unit {0}) (Unit {0})
 asked_first s more = told_only (first_told opening_heard (record { statement = s; bound = false }) more)
 
--- where one stands who executes it with these values
-abbrev pub asked : Statement → List Value → Family (Unit {0}) RowsGiven (Unit {0}) (Unit {0})
-asked s vs = alone (record { dialogue = query_raw s vs; reads = 0 }) (asked_first s)
+-- where one stands who executes it with these values, and closes it by this request, if there is one; a request of this number was read before
+abbrev pub asked : (close : Option (List ℕ)) → Statement → List Value → (reads : ℕ) → Family (Unit {0}) RowsGiven (Unit {0}) (Unit {0})
+asked close s vs n = alone (record { dialogue = closed_by close (query_raw s vs); reads = n }) (asked_first s)
+
+-- ---- its state
 
 -- the statement that was handed in
 abbrev pub handed : Handed → Statement
@@ -115,3 +119,19 @@ abbrev pub IsLiveAt : Stage → Type 0
 IsLiveAt (New s values) = Unit {0}
 IsLiveAt (Opens items) = IsOpening items
 IsLiveAt Done = ⊥
+
+-- where a state stands
+abbrev pub state_place : QueryRawState → Place RowsGiven
+state_place s = stage_place s.stage
+
+-- what is told first
+abbrev pub state_first : QueryRawState → List RawMessage → First (Unit {0}) (Unit {0})
+state_first s = stage_first s.stage
+
+-- its statement, until it answered
+abbrev pub state_statement : QueryRawState → Option Statement
+state_statement s = stage_statement s.stage
+
+-- it hasn't answered
+abbrev pub IsLiveState : QueryRawState → Type 0
+IsLiveState s = IsLiveAt s.stage

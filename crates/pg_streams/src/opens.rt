@@ -1,10 +1,11 @@
 //! What the state of a command is to the one who polls it, where it hands on a stream of its reply.
 
-ghost use Rattle.std.specs.Prelude.{◌≡◌, List, IfOk};
+ghost use Rattle.std.specs.Prelude.{◌≡◌, List, Option, Some, None, IfOk};
 ghost use Rattle.pg_spec.specs.RawMessages.{RawMessage};
+ghost use Rattle.pg_query.specs.Dialogue.{Dialogue};
 ghost use Rattle.pg_query.specs.Meaning.{Place, GivesUp, MatchPoll};
 ghost use Rattle.pg_streams.specs.Families.{PausesFor};
-ghost use Rattle.pg_streams.specs.Handing.{HandsOn, alone};
+ghost use Rattle.pg_streams.specs.Handing.{HandsOn, HandsOnLater, PausesLater, alone, asking};
 ghost use Rattle.pg_streams.specs.Hearing.{First};
 
 use futures::task::Poll;
@@ -23,23 +24,29 @@ pub trait Opens {
     /// Where he stands, and the request that is read.
     ghost place: { Self → Place Whole };
 
+    /// What is known of the reply once it is asked for, and stays.
+    ghost Known: { Type 0 };
+
+    /// That of a state. None where it has to find that out, before it asks for the reply.
+    ghost knows: { Self → Option Known };
+
+    /// That of a stream.
+    ghost known: { Self.Stream → Known };
+
+    /// What he asks and is answered who found that out.
+    ghost asks: { Self → Known → Dialogue Whole };
+
+    /// Where he stands who finds that out, and the request that is read then. It is read by nobody where it is known.
+    ghost finding: { Self → Place Known };
+
     /// What is told first of the reply, where more messages come: the item that opens the stream, or an error.
-    ghost first: { Self → List RawMessage → First (Unit {0}) (Unit {0}) };
+    ghost first: { Self → Known → List RawMessage → First (Unit {0}) (Unit {0}) };
 
     /// Where he stands once he has the stream.
     ghost stands: { Self.Stream → Place Whole };
 
     /// What was told first then. The messages that are left are those that the stream reads next.
     ghost opened: { Self.Stream → List RawMessage → First (Unit {0}) (Unit {0}) };
-
-    /// What is known of the reply from the first and stays.
-    ghost Known: { Type 0 };
-
-    /// That of a state.
-    ghost knows: { Self → Known };
-
-    /// That of a stream.
-    ghost known: { Self.Stream → Known };
 
     /// The stream gives more.
     ghost is_open: { Self.Stream → Type 0 };
@@ -49,6 +56,7 @@ pub trait Opens {
 
     /// Goes on until it hands on the stream, or an error, or no message is there. Each state says when which error comes. Behind
     /// one that a message tells the request was hung up; at OutOfMemory nobody reads or hangs up what is left of the reply.
+    /// Where it has to find out what it asks for, some of the events do that, and what is told first is said of the others.
     fn poll<D: Desk>(
         &mut self,
         alloc: Global,
@@ -56,10 +64,13 @@ pub trait Opens {
         stamp: Stamp,
     ) -> Poll<Result<Self::Stream, Error>>
         requires { is_live self.old }
-        ensures opens { MatchPoll result
-            (λ r. HandsOn D.becomes (λ s. alone (stands s) (opened s)) is_open stamp desk.old (alone (place self.old) (first self.old)) desk.new r)
-            (PausesFor D.becomes stamp desk.old (alone (place self.old) (first self.old)) desk.new (alone (place self.new) (first self.new)) × is_live self.new) }
-        ensures known { MatchPoll result (λ r. IfOk r (λ stream. known stream ≡ knows self.old)) (knows self.new ≡ knows self.old) };
+        ensures opens { (k : Known) → knows self.old ≡ Some k → MatchPoll result
+            (λ r. HandsOn D.becomes (λ s. alone (stands s) (opened s)) is_open stamp desk.old (alone (place self.old) (first self.old k)) desk.new r)
+            (PausesFor D.becomes stamp desk.old (alone (place self.old) (first self.old k)) desk.new (alone (place self.new) (first self.new k)) × is_live self.new) }
+        ensures known { (k : Known) → knows self.old ≡ Some k → MatchPoll result (λ r. IfOk r (λ stream. known stream ≡ k)) (knows self.new ≡ Some k) }
+        ensures finds { knows self.old ≡ None → MatchPoll result
+            (λ r. HandsOnLater D.becomes (λ s. alone (stands s) (opened s)) is_open known stamp desk.old (finding self.old) (place self.old) (asking (asks self.old) (first self.old)) desk.new r)
+            (PausesLater D.becomes stamp desk.old (place self.old) (asking (asks self.old) (first self.old)) desk.new (place self.new) (first self.new) (knows self.new) × is_live self.new) };
 
     /// Ends it without an answer, and does what is left to do.
     fn hang_up<D: Desk>(self, alloc: Global, desk: &mut D, stamp: Stamp) -> Result<(), Error>

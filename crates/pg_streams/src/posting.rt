@@ -1,7 +1,7 @@
 //! A request whose reply nobody reads.
 
 ghost use Rattle.std.specs.Prelude.{◌≡◌};
-ghost use Rattle.pg_streams.specs.Collecting.{Drops, Posts};
+ghost use Rattle.pg_streams.specs.Collecting.{Drops, FailsBehind, Posts};
 
 use bytes::Bytes;
 use pg_desk::{Desk, Stamp};
@@ -43,5 +43,21 @@ pub(crate) fn hang_up<D: Desk>(
     match desk.hang_up(id) {
         Ok(()) => post(alloc, desk, stamp, part),
         Err(fault) => Err(error_of(fault)),
+    }
+}
+
+/// Sends a request, if there is one, hangs it up, and gives this error behind it, or why the desk refused that.
+pub(crate) fn fail_behind<D: Desk>(
+    alloc: Global,
+    desk: &mut D,
+    stamp: Stamp,
+    part: Option<Bytes>,
+    error: Error,
+) -> Error
+    ensures { FailsBehind D.becomes stamp desk.old part error desk.new result }
+{
+    match post(alloc, desk, stamp, part) {
+        Ok(()) => error,
+        Err(refused) => refused,
     }
 }

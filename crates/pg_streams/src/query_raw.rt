@@ -1,21 +1,24 @@
 //! A statement that is queried, whose rows are given one by one.
 
-ghost use Rattle.std.specs.Prelude.{◌≡◌, false, IfOk, Some};
+ghost use Rattle.std.specs.Prelude.{◌≡◌, ℕ, false, IfOk, Some};
 ghost use Rattle.pg_query.specs.Meaning.{MatchPoll};
+ghost use Rattle.pg_execute.specs.Executes.{close_part};
 ghost use Rattle.pg_streams.specs.Families.{PausesFor};
 ghost use Rattle.pg_streams.specs.Handing.{HandsOn, alone};
 ghost use Rattle.pg_streams.specs.RowStates as spec;
-ghost use Rattle.pg_streams.specs.RowStates.{IsLiveAt, IsOpening, asked, opening, rows_opened, rows_over, rows_place, stage_first, stage_place, stage_statement, statement_of};
+ghost use Rattle.pg_streams.specs.RowStates.{IsLiveAt, IsLiveState, IsOpening, asked, opening, rows_opened, rows_over, rows_place, stage_first, stage_place, stage_statement, state_first, state_place, state_statement, statement_of};
 ghost use Rattle.pg_streams.specs.RowStreams.{query_raw};
 
 use crate::items::Items;
 use crate::opens;
+use crate::posting::fail_behind;
 use crate::row_giving::RowOpening;
 use crate::row_stream::RowStream;
+use bytes::Bytes;
 use futures::task::Poll;
 use pg_desk::{Desk, Stamp};
 use pg_errors::Error;
-use pg_execute::execute_request;
+use pg_execute::{close_bytes, execute_request};
 use pg_query::error_of;
 use pg_statements::Statement;
 use pg_types::{OutOfMemory, Value};
@@ -52,20 +55,22 @@ pub(crate) enum Stage<'a> {
     Done,
 }
 
-/// Books the request that executes a statement with these values.
+/// Books the request that executes a statement with these values. Another request closes the statement behind the reply, if there
+/// is one; where values are refused it is sent at once, and nothing else is booked.
 fn ask<D: Desk>(
     alloc: Global,
     desk: &mut D,
     stamp: Stamp,
     statement: Statement,
     values: &[Value],
+    close: Option<Bytes>,
 ) -> Result<Items<RowOpening>, Error>
-    ensures goes { HandsOn D.becomes opening IsOpening stamp desk.old (asked statement values.now) desk.new result }
+    ensures goes { (n : ℕ) → HandsOn D.becomes opening IsOpening stamp desk.old (asked close statement values.now n) desk.new result }
     ensures known { IfOk result (λ items. items.giving.statement ≡ statement) }
 {
     let request = match execute_request(alloc, &statement, values) {
         Ok(Ok(request)) => request,
-        Ok(Err(error)) => return Err(error),
+        Ok(Err(error)) => return Err(fail_behind(alloc, desk, stamp, close, error)),
         Err(_) => return Err(Error::OutOfMemory),
     };
     match desk.book(alloc, stamp, request, false) {
@@ -74,7 +79,7 @@ fn ask<D: Desk>(
                 statement,
                 bound: false,
             };
-            Ok(Items::new(opening, id, None))
+            Ok(Items::new(opening, id, close))
         }
         Err(fault) => Err(error_of(fault)),
     }
@@ -113,6 +118,33 @@ impl<'a> QueryRawState<'a> {
         }
     }
 
+    /// Books the request that executes a statement which was prepared for that alone, and gives the state that goes on behind
+    /// that. The statement is closed behind its rows, behind an error that a message tells, where it is given up, and where values
+    /// are refused, which comes as in `new`. Nothing is closed where the desk takes no requests any more, or gives no more of the
+    /// reply. Where the desk refuses the close, its error is the answer.
+    pub fn closing<D: Desk>(
+        alloc: Global,
+        desk: &mut D,
+        stamp: Stamp,
+        statement: Statement,
+        values: &[Value],
+    ) -> Result<QueryRawState<'a>, Error>
+        ensures goes { (n : ℕ) → HandsOn D.becomes (λ s. alone (state_place s) (state_first s)) IsLiveState stamp desk.old (asked (close_part statement.name) statement values.now n) desk.new result }
+        ensures knows { IfOk result (λ state. state_statement state ≡ Some statement) }
+    {
+        let Ok(close) = close_bytes(alloc, statement.name()) else {
+            return Err(Error::OutOfMemory);
+        };
+        match ask(alloc, desk, stamp, statement, values, close) {
+            Ok(items) => {
+                Ok(QueryRawState {
+                    stage: Stage::Opens(items),
+                })
+            }
+            Err(error) => Err(error),
+        }
+    }
+
     /// Reads on to BindComplete.
     fn open<D: Desk>(
         &mut self,
@@ -144,9 +176,9 @@ impl<'a> QueryRawState<'a> {
 }
 
 impl<'a> opens::Opens for QueryRawState<'a> {
-    ghost use Rattle.std.specs.Prelude as prelude;
-    ghost use Rattle.std.specs.Prelude.{◌≡◌, false, Some};
+    ghost use Rattle.std.specs.Prelude.{◌≡◌, false};
     ghost use Rattle.pg_statements.specs.declared.statement.Described as described;
+    ghost use Rattle.pg_streams.specs.Handing.{nothing_to_find};
     ghost use Rattle.pg_streams.specs.RowStates.{IsLiveAt, rows_opened, rows_over, rows_place, stage_first, stage_place, stage_statement, statement_of};
     ghost use Rattle.pg_streams.specs.RowStreams as streams;
 
@@ -156,17 +188,21 @@ impl<'a> opens::Opens for QueryRawState<'a> {
 
     ghost place = { λ s. stage_place s.stage };
 
-    ghost first = { λ s. stage_first s.stage };
+    ghost Known = { described.Described };
+
+    ghost knows = { λ s. stage_statement s.stage };
+
+    ghost known = { statement_of };
+
+    ghost asks = { λ s _. (stage_place s.stage).dialogue };
+
+    ghost finding = { λ _. nothing_to_find };
+
+    ghost first = { λ s _. stage_first s.stage };
 
     ghost stands = { rows_place };
 
     ghost opened = { rows_opened };
-
-    ghost Known = { prelude.Option described.Described };
-
-    ghost knows = { λ s. stage_statement s.stage };
-
-    ghost known = { λ s. Some (statement_of s) };
 
     ghost is_open = { λ s. rows_over s ≡ false };
 
@@ -183,7 +219,7 @@ impl<'a> opens::Opens for QueryRawState<'a> {
                 let Ok(statement) = handed.into_statement() else {
                     return Poll::Ready(Err(Error::OutOfMemory));
                 };
-                match ask(alloc, desk, stamp, statement, values) {
+                match ask(alloc, desk, stamp, statement, values, None) {
                     Ok(items) => self.open(alloc, desk, stamp, items),
                     Err(error) => Poll::Ready(Err(error)),
                 }

@@ -49,8 +49,9 @@ impl<'a> SimpleQueryRawState<'a> {
 
 impl<'a> Opens for SimpleQueryRawState<'a> {
     ghost use Rattle.std.specs.Prelude as prelude;
-    ghost use Rattle.std.specs.Prelude.{◌≡◌, None, false, option_map};
+    ghost use Rattle.std.specs.Prelude.{◌≡◌, None, Some, false, option_map};
     ghost use Rattle.pg_streams.specs.declared.simple_query_message.SimpleQueryMessage as part;
+    ghost use Rattle.pg_streams.specs.Handing.{nothing_to_find};
     ghost use Rattle.pg_streams.specs.SimpleStates.{IsNew, asks_text, parts_opened, parts_over, parts_place};
 
     type Stream = SimpleQueryStream;
@@ -59,17 +60,21 @@ impl<'a> Opens for SimpleQueryRawState<'a> {
 
     ghost place = { λ s. record { dialogue = asks_text (option_map (λ t. t.now) s.text); reads = 0 } };
 
-    ghost first = { λ _ more. record { told = None; giving = tt; left = more } };
+    ghost Known = { Unit {0} };
+
+    ghost knows = { λ _. Some tt };
+
+    ghost known = { λ _. tt };
+
+    ghost asks = { λ s _. asks_text (option_map (λ t. t.now) s.text) };
+
+    ghost finding = { λ _. nothing_to_find };
+
+    ghost first = { λ _ _ more. record { told = None; giving = tt; left = more } };
 
     ghost stands = { parts_place };
 
     ghost opened = { parts_opened };
-
-    ghost Known = { Unit {0} };
-
-    ghost knows = { λ _. tt };
-
-    ghost known = { λ _. tt };
 
     ghost is_open = { λ s. parts_over s ≡ false };
 

@@ -12,13 +12,13 @@ abbrev nothing-first : List RawMessage → First (Unit {0}) (Unit {0})
 nothing-first more = record { told = None; giving = tt; left = more }
 
 pub returns-in-Err-clause-opens : goal.returns-in-Err-clause-opens
-returns-in-Err-clause-opens g c =
+returns-in-Err-clause-opens g c k said =
     let d = asks_text (option_map (λ t. t.now) c.args.self.now.text) in
     let is : d ≡ simple_query_raw c.in-Some.text.now = ap (λ (o : Option (Bor (List ℕ))). asks_text (option_map (λ t. t.now) o)) (sym c.take.ensures.value ∙ c.in-Some.is) in
     text-refused g.D.Desk.becomes g.met.D.Desk.stays c.args.stamp c.args.desk.now d 0 c.in-Some.text.now c.in-Err.error nothing-first (λ first. IsNoItem first.told) is c.in-Err.ensures tt
 
 pub returns-in-Err-book-clause-opens : goal.returns-in-Err-book-clause-opens
-returns-in-Err-book-clause-opens g c =
+returns-in-Err-book-clause-opens g c k said =
     let d = asks_text (option_map (λ t. t.now) c.args.self.now.text) in
     let is : d ≡ simple_query_raw c.in-Some.text.now = ap (λ (o : Option (Bor (List ℕ))). asks_text (option_map (λ t. t.now) o)) (sym c.take.ensures.value ∙ c.in-Some.is) in
     asks-refused g.D.Desk.becomes c.args.stamp c.args.desk.now c.book.new.self d (reads false (parts_from None)) 0 c.in-Ok.frame c.in-Err-book.fault c.error_of.result nothing-first (λ first. IsNoItem first.told)
