@@ -1,6 +1,6 @@
 //! The client, and what it can be asked.
 
-ghost use Rattle.std.specs.Prelude.{◌≡◌, [], length, None, Some};
+ghost use Rattle.std.specs.Prelude.{◌≡◌, [], length, None};
 ghost use Rattle.pg_checks.specs.Showing.{session_check};
 ghost use Rattle.pg_checks.specs.States.{place_of_check as place_of_session_check, IsLiveCheck as IsLiveSessionCheck};
 ghost use Rattle.pg_client.specs.Done.{batch_execute, check_connection};
@@ -13,6 +13,7 @@ ghost use Rattle.pg_execute.specs.Typed.{execute_typed, query_typed};
 ghost use Rattle.pg_executed.specs.States.{place_of_close, IsLiveClose};
 ghost use Rattle.pg_executed.specs.Texts.{prepare_text};
 ghost use Rattle.pg_lookup.specs.Lookups.{find_all, prepare};
+ghost use Rattle.pg_raw.specs.States.{statement_in};
 ghost use Rattle.pg_streams.specs.RowStreams.{query_raw};
 ghost use Rattle.pg_streams.specs.SimpleStreams.{simple_query_raw};
 ghost use Rattle.pg_typed_states.specs.Paired.{paired};
@@ -28,8 +29,9 @@ use pg_executed::{CloseState, ExecuteState, QueryScalarState, QueryState};
 use pg_open::{CancelToken, SessionInfo};
 use pg_prepared::PrepareState;
 use pg_query::{Polled, error_of};
+use pg_raw::RawState;
 use pg_statements::Statement;
-use pg_streams::{Opens, QueryRawState, SimpleQueryRawState};
+use pg_streams::{Opens, SimpleQueryRawState};
 use pg_typed_states::{ExecuteTypedState, QueryTypedState};
 use pg_types::{Oid, Type, Value};
 
@@ -158,14 +160,14 @@ impl Client {
         QueryState::new(target, HowMany::Any, values)
     }
 
-    /// Like `query` of a statement, where its rows are handed on as a stream, once the server took the values. The errors are
-    /// those of `query`; from then on they come from the stream.
-    pub fn query_raw<'a>(&self, statement: &'a Statement, values: &'a [Value]) -> QueryRawState<'a>
-        ensures live { ⟦<QueryRawState<'a> as Opens>⟧.is_live result }
-        ensures asks { (⟦<QueryRawState<'a> as Opens>⟧.place result).dialogue ≡ query_raw statement.now values.now }
-        ensures knows { ⟦<QueryRawState<'a> as Opens>⟧.knows result ≡ Some statement.now }
+    /// Like `query`, where its rows are handed on as a stream, once the server took the values. The errors are those of `query`;
+    /// from then on they come from the stream. The statement of a text is closed behind the stream.
+    pub fn query_raw<'a>(&self, target: Target<'a>, values: &'a [Value]) -> RawState<'a>
+        ensures live { ⟦<RawState<'a> as Opens>⟧.is_live result }
+        ensures asks { (⟦<RawState<'a> as Opens>⟧.place result).dialogue ≡ on_target prepare_text (λ s. query_raw s values.now) target.entry }
+        ensures knows { ⟦<RawState<'a> as Opens>⟧.knows result ≡ statement_in target.entry }
     {
-        QueryRawState::new(statement, values)
+        RawState::new(target, values)
     }
 
     /// Like `query`, where there must be one row, which is the answer's only one: RowCount comes where there is none, or a
@@ -298,9 +300,9 @@ impl Client {
     /// Closes a statement (PostgreSQL documentation, "Extended Query", under Close). Nobody reads the server's reply. Closed
     /// comes where the desk takes no requests any more; Encode where the statement's name can't be written, which no prepare
     /// gives, and nothing is sent then.
-    pub fn close(&self, statement: Statement) -> CloseState
+    pub fn close<'a>(&self, statement: &'a Statement) -> CloseState<'a>
         ensures live { IsLiveClose result }
-        ensures asks { (place_of_close result).dialogue ≡ close statement }
+        ensures asks { (place_of_close result).dialogue ≡ close statement.now }
     {
         CloseState::new(statement)
     }

@@ -1,0 +1,197 @@
+//! A statement or a text is queried, and its rows are given one by one.
+
+ghost use Rattle.std.specs.Prelude.{◌≡◌, ℕ, false, Some, IfOk};
+ghost use Rattle.pg_statements.specs.declared.statement.Described.{Described};
+ghost use Rattle.pg_query.specs.Meaning.{MatchPoll};
+ghost use Rattle.pg_execute.specs.Executes.{close_part};
+ghost use Rattle.pg_execute.specs.Targets.{on_target};
+ghost use Rattle.pg_executed.specs.Texts.{prepare_text};
+ghost use Rattle.pg_streams.specs.Families.{PausesFor};
+ghost use Rattle.pg_streams.specs.Handing.{HandsOn, HandsOnLater, PausesLater, alone, asking};
+ghost use Rattle.pg_streams.specs.RowStates.{IsLiveState, asked, asked_first, rows_opened, rows_over, rows_place, state_first, state_place, state_statement, statement_of};
+ghost use Rattle.pg_streams.specs.RowStreams.{query_raw};
+ghost use Rattle.pg_raw.specs.States.{IsLiveAt, IsPreparing, place_of_prepare, queried_and_closed, stage_first, stage_place, stage_statement, statement_in, text_place};
+
+use futures::task::Poll;
+use pg_desk::{Desk, Stamp};
+use pg_errors::Error;
+use pg_execute::Target;
+use pg_prepared::PrepareState;
+use pg_query::Polled;
+use pg_statements::Statement;
+use pg_streams::{Opens, QueryRawState, RowStream};
+use pg_types::Value;
+use std::alloc::Global;
+use std::mem;
+
+/// How far such a command has come.
+#[derive(Drop)]
+pub(crate) enum Stage<'a> {
+    /// A text is prepared, to be queried with these values.
+    Prepares(PrepareState<'a>, &'a [Value]),
+    /// A statement is queried.
+    Queries(QueryRawState<'a>),
+    /// It answered.
+    Done,
+}
+
+/// The state that executes a statement or a text as a query whose stream of rows is the answer, once BindComplete came.
+#[derive(Drop)]
+pub struct RawState<'a> {
+    stage: Stage<'a>,
+}
+
+impl<'a> RawState<'a> {
+    /// Makes the state that executes this target with these values. It takes no memory, and books nothing before its first poll.
+    /// A text is prepared before, with the errors of that, and its statement is closed behind the rows, behind an error that a
+    /// message tells, behind refused values, and where the stream is given up, or the state once its query was booked. The other
+    /// errors come as of `QueryRawState::new`.
+    pub fn new(target: Target<'a>, values: &'a [Value]) -> RawState<'a>
+        ensures live { ⟦<RawState<'a> as Opens>⟧.is_live result }
+        ensures asks { (⟦<RawState<'a> as Opens>⟧.place result).dialogue ≡ on_target prepare_text (λ s. query_raw s values.now) target.entry }
+        ensures knows { ⟦<RawState<'a> as Opens>⟧.knows result ≡ statement_in target.entry }
+    {
+        match target {
+            Target::Query(text) => {
+                RawState {
+                    stage: Stage::Prepares(PrepareState::new(text, &[]), values),
+                }
+            }
+            Target::Statement(statement) => {
+                RawState {
+                    stage: Stage::Queries(QueryRawState::new(statement, values)),
+                }
+            }
+            Target::Owned(statement) => {
+                RawState {
+                    stage: Stage::Queries(QueryRawState::owned(statement, values)),
+                }
+            }
+        }
+    }
+
+    /// Goes on with a text that is prepared.
+    fn prepare<D: Desk>(
+        &mut self,
+        alloc: Global,
+        desk: &mut D,
+        stamp: Stamp,
+        state: PrepareState<'a>,
+        values: &'a [Value],
+    ) -> Poll<Result<RowStream, Error>>
+        requires { IsPreparing state }
+        ensures finds { MatchPoll result
+            (λ r. HandsOnLater D.becomes (λ s. alone (rows_place s) (rows_opened s)) (λ s. rows_over s ≡ false) statement_of stamp desk.old (place_of_prepare state.entry) (text_place (place_of_prepare state.entry) values.now) (asking (queried_and_closed values.now) asked_first) desk.new r)
+            (PausesLater D.becomes stamp desk.old (text_place (place_of_prepare state.entry) values.now) (asking (queried_and_closed values.now) asked_first) desk.new (stage_place self.new.stage) (stage_first self.new.stage) (stage_statement self.new.stage) × IsLiveAt self.new.stage) }
+    {
+        let mut state = state;
+        match state.poll(alloc, desk, stamp) {
+            Poll::Pending => {
+                self.stage = Stage::Prepares(state, values);
+                Poll::Pending
+            }
+            Poll::Ready(Ok(statement)) => self.query(alloc, desk, stamp, statement, values),
+            Poll::Ready(Err(error)) => Poll::Ready(Err(error)),
+        }
+    }
+
+    /// Queries a statement that was prepared for that alone.
+    fn query<D: Desk>(
+        &mut self,
+        alloc: Global,
+        desk: &mut D,
+        stamp: Stamp,
+        statement: Statement,
+        values: &[Value],
+    ) -> Poll<Result<RowStream, Error>>
+        ensures opens { (n : ℕ) → MatchPoll result
+            (λ r. HandsOn D.becomes (λ s. alone (rows_place s) (rows_opened s)) (λ s. rows_over s ≡ false) stamp desk.old (asked (close_part statement.name) statement values.now n) desk.new r)
+            (PausesFor D.becomes stamp desk.old (asked (close_part statement.name) statement values.now n) desk.new (alone (stage_place self.new.stage) (stage_first self.new.stage statement)) × IsLiveAt self.new.stage) }
+        ensures known { MatchPoll result (λ r. IfOk r (λ stream. statement_of stream ≡ statement)) (stage_statement self.new.stage ≡ Some statement) }
+    {
+        match QueryRawState::closing(alloc, desk, stamp, statement, values) {
+            Ok(state) => self.go_on(alloc, desk, stamp, state),
+            Err(error) => Poll::Ready(Err(error)),
+        }
+    }
+
+    /// Goes on with a statement that is queried.
+    fn go_on<D: Desk>(
+        &mut self,
+        alloc: Global,
+        desk: &mut D,
+        stamp: Stamp,
+        state: QueryRawState<'a>,
+    ) -> Poll<Result<RowStream, Error>>
+        requires { IsLiveState state }
+        ensures opens { (k : Described) → state_statement state.entry ≡ Some k → MatchPoll result
+            (λ r. HandsOn D.becomes (λ s. alone (rows_place s) (rows_opened s)) (λ s. rows_over s ≡ false) stamp desk.old (alone (state_place state.entry) (state_first state.entry)) desk.new r)
+            (PausesFor D.becomes stamp desk.old (alone (state_place state.entry) (state_first state.entry)) desk.new (alone (stage_place self.new.stage) (stage_first self.new.stage k)) × IsLiveAt self.new.stage) }
+        ensures known { (k : Described) → state_statement state.entry ≡ Some k → MatchPoll result (λ r. IfOk r (λ stream. statement_of stream ≡ k)) (stage_statement self.new.stage ≡ Some k) }
+    {
+        let mut state = state;
+        match state.poll(alloc, desk, stamp) {
+            Poll::Pending => {
+                self.stage = Stage::Queries(state);
+                Poll::Pending
+            }
+            Poll::Ready(answer) => Poll::Ready(answer),
+        }
+    }
+}
+
+impl<'a> Opens for RawState<'a> {
+    ghost use Rattle.std.specs.Prelude.{◌≡◌, false};
+    ghost use Rattle.pg_statements.specs.declared.statement.Described as described;
+    ghost use Rattle.pg_streams.specs.RowStates.{rows_opened, rows_over, rows_place, statement_of};
+    ghost use Rattle.pg_streams.specs.RowStreams as streams;
+    ghost use Rattle.pg_raw.specs.States.{IsLiveAt, stage_asks, stage_finding, stage_first, stage_place, stage_statement};
+
+    type Stream = RowStream;
+
+    ghost Whole = { streams.RowsGiven };
+
+    ghost place = { λ s. stage_place s.stage };
+
+    ghost Known = { described.Described };
+
+    ghost knows = { λ s. stage_statement s.stage };
+
+    ghost known = { statement_of };
+
+    ghost asks = { λ s. stage_asks s.stage };
+
+    ghost finding = { λ s. stage_finding s.stage };
+
+    ghost first = { λ s. stage_first s.stage };
+
+    ghost stands = { rows_place };
+
+    ghost opened = { rows_opened };
+
+    ghost is_open = { λ s. rows_over s ≡ false };
+
+    ghost is_live = { λ s. IsLiveAt s.stage };
+
+    fn poll<D: Desk>(
+        &mut self,
+        alloc: Global,
+        desk: &mut D,
+        stamp: Stamp,
+    ) -> Poll<Result<RowStream, Error>> {
+        match mem::replace(&mut self.stage, Stage::Done) {
+            Stage::Prepares(state, values) => self.prepare(alloc, desk, stamp, state, values),
+            Stage::Queries(state) => self.go_on(alloc, desk, stamp, state),
+            Stage::Done => Poll::Ready(Err(Error::Closed)),
+        }
+    }
+
+    fn hang_up<D: Desk>(self, alloc: Global, desk: &mut D, stamp: Stamp) -> Result<(), Error> {
+        let RawState { stage } = self;
+        match stage {
+            Stage::Prepares(state, _) => state.hang_up(alloc, desk, stamp),
+            Stage::Queries(state) => state.hang_up(alloc, desk, stamp),
+            Stage::Done => Ok(()),
+        }
+    }
+}
