@@ -29,7 +29,7 @@ use pg_executed::{CloseState, ExecuteState, QueryScalarState, QueryState};
 use pg_open::{CancelToken, SessionInfo};
 use pg_prepared::PrepareState;
 use pg_query::{Polled, error_of};
-use pg_raw::RawState;
+use pg_raw::QueryRawState;
 use pg_statements::Statement;
 use pg_streams::{Opens, SimpleQueryRawState};
 use pg_typed_states::{ExecuteTypedState, QueryTypedState};
@@ -162,12 +162,12 @@ impl Client {
 
     /// Like `query`, where its rows are handed on as a stream, once the server took the values. The errors are those of `query`;
     /// from then on they come from the stream. The statement of a text is closed behind the stream.
-    pub fn query_raw<'a>(&self, target: Target<'a>, values: &'a [Value]) -> RawState<'a>
-        ensures live { ⟦<RawState<'a> as Opens>⟧.is_live result }
-        ensures asks { (⟦<RawState<'a> as Opens>⟧.place result).dialogue ≡ on_target prepare_text (λ s. query_raw s values.now) target.entry }
-        ensures knows { ⟦<RawState<'a> as Opens>⟧.knows result ≡ statement_in target.entry }
+    pub fn query_raw<'a>(&self, target: Target<'a>, values: &'a [Value]) -> QueryRawState<'a>
+        ensures live { ⟦<QueryRawState<'a> as Opens>⟧.is_live result }
+        ensures asks { (⟦<QueryRawState<'a> as Opens>⟧.place result).dialogue ≡ on_target prepare_text (λ s. query_raw s values.now) target.entry }
+        ensures knows { ⟦<QueryRawState<'a> as Opens>⟧.knows result ≡ statement_in target.entry }
     {
-        RawState::new(target, values)
+        QueryRawState::new(target, values)
     }
 
     /// Like `query`, where there must be one row, which is the answer's only one: RowCount comes where there is none, or a

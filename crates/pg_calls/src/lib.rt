@@ -11,7 +11,7 @@ pub use pg_executed::{CloseState, ExecuteState, QueryScalarState, QueryState};
 pub use pg_open::{CancelToken, SessionInfo};
 pub use pg_prepared::PrepareState;
 pub use pg_query::Polled;
-pub use pg_raw::RawState;
+pub use pg_raw::QueryRawState;
 pub use pg_streams::{
     Opens, RowStream, SimpleQueryMessage, SimpleQueryRawState, SimpleQueryStream,
 };

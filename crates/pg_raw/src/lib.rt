@@ -3,4 +3,4 @@
 
 mod raw;
 
-pub use raw::RawState;
+pub use raw::QueryRawState;

@@ -19,7 +19,7 @@ use pg_execute::Target;
 use pg_prepared::PrepareState;
 use pg_query::Polled;
 use pg_statements::Statement;
-use pg_streams::{Opens, QueryRawState, RowStream};
+use pg_streams::{Opens, RowStream, StatementRawState};
 use pg_types::Value;
 use std::alloc::Global;
 use std::mem;
@@ -30,41 +30,41 @@ pub(crate) enum Stage<'a> {
     /// A text is prepared, to be queried with these values.
     Prepares(PrepareState<'a>, &'a [Value]),
     /// A statement is queried.
-    Queries(QueryRawState<'a>),
+    Queries(StatementRawState<'a>),
     /// It answered.
     Done,
 }
 
 /// The state that executes a statement or a text as a query whose stream of rows is the answer, once BindComplete came.
 #[derive(Drop)]
-pub struct RawState<'a> {
+pub struct QueryRawState<'a> {
     stage: Stage<'a>,
 }
 
-impl<'a> RawState<'a> {
+impl<'a> QueryRawState<'a> {
     /// Makes the state that executes this target with these values. It takes no memory, and books nothing before its first poll.
     /// A text is prepared before, with the errors of that, and its statement is closed behind the rows, behind an error that a
     /// message tells, behind refused values, and where the stream is given up, or the state once its query was booked. The other
-    /// errors come as of `QueryRawState::new`.
-    pub fn new(target: Target<'a>, values: &'a [Value]) -> RawState<'a>
-        ensures live { ⟦<RawState<'a> as Opens>⟧.is_live result }
-        ensures asks { (⟦<RawState<'a> as Opens>⟧.place result).dialogue ≡ on_target prepare_text (λ s. query_raw s values.now) target.entry }
-        ensures knows { ⟦<RawState<'a> as Opens>⟧.knows result ≡ statement_in target.entry }
+    /// errors come as of `StatementRawState::new`.
+    pub fn new(target: Target<'a>, values: &'a [Value]) -> QueryRawState<'a>
+        ensures live { ⟦<QueryRawState<'a> as Opens>⟧.is_live result }
+        ensures asks { (⟦<QueryRawState<'a> as Opens>⟧.place result).dialogue ≡ on_target prepare_text (λ s. query_raw s values.now) target.entry }
+        ensures knows { ⟦<QueryRawState<'a> as Opens>⟧.knows result ≡ statement_in target.entry }
     {
         match target {
             Target::Query(text) => {
-                RawState {
+                QueryRawState {
                     stage: Stage::Prepares(PrepareState::new(text, &[]), values),
                 }
             }
             Target::Statement(statement) => {
-                RawState {
-                    stage: Stage::Queries(QueryRawState::new(statement, values)),
+                QueryRawState {
+                    stage: Stage::Queries(StatementRawState::new(statement, values)),
                 }
             }
             Target::Owned(statement) => {
-                RawState {
-                    stage: Stage::Queries(QueryRawState::owned(statement, values)),
+                QueryRawState {
+                    stage: Stage::Queries(StatementRawState::owned(statement, values)),
                 }
             }
         }
@@ -109,7 +109,7 @@ impl<'a> RawState<'a> {
             (PausesFor D.becomes stamp desk.old (asked (close_part statement.name) statement values.now n) desk.new (alone (stage_place self.new.stage) (stage_first self.new.stage statement)) × IsLiveAt self.new.stage) }
         ensures known { MatchPoll result (λ r. IfOk r (λ stream. statement_of stream ≡ statement)) (stage_statement self.new.stage ≡ Some statement) }
     {
-        match QueryRawState::closing(alloc, desk, stamp, statement, values) {
+        match StatementRawState::closing(alloc, desk, stamp, statement, values) {
             Ok(state) => self.go_on(alloc, desk, stamp, state),
             Err(error) => Poll::Ready(Err(error)),
         }
@@ -121,7 +121,7 @@ impl<'a> RawState<'a> {
         alloc: Global,
         desk: &mut D,
         stamp: Stamp,
-        state: QueryRawState<'a>,
+        state: StatementRawState<'a>,
     ) -> Poll<Result<RowStream, Error>>
         requires { IsLiveState state }
         ensures opens { (k : Described) → state_statement state.entry ≡ Some k → MatchPoll result
@@ -140,7 +140,7 @@ impl<'a> RawState<'a> {
     }
 }
 
-impl<'a> Opens for RawState<'a> {
+impl<'a> Opens for QueryRawState<'a> {
     ghost use Rattle.std.specs.Prelude.{◌≡◌, false};
     ghost use Rattle.pg_statements.specs.declared.statement.Described as described;
     ghost use Rattle.pg_streams.specs.RowStates.{rows_opened, rows_over, rows_place, statement_of};
@@ -187,7 +187,7 @@ impl<'a> Opens for RawState<'a> {
     }
 
     fn hang_up<D: Desk>(self, alloc: Global, desk: &mut D, stamp: Stamp) -> Result<(), Error> {
-        let RawState { stage } = self;
+        let QueryRawState { stage } = self;
         match stage {
             Stage::Prepares(state, _) => state.hang_up(alloc, desk, stamp),
             Stage::Queries(state) => state.hang_up(alloc, desk, stamp),

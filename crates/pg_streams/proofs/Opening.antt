@@ -16,7 +16,7 @@ use Rattle.pg_streams.specs.RowTelling.{bound_heard, opening_heard}
 use Rattle.pg_streams.specs.declared.giving.Told.{Told}
 use Rattle.pg_streams.specs.declared.giving.Told.TheVariants.{Item, Ends, Fails}
 use Rattle.pg_streams.specs.declared.items.Items.{Items}
-use Rattle.pg_streams.specs.declared.query_raw.QueryRawState.{QueryRawState}
+use Rattle.pg_streams.specs.declared.query_raw.StatementRawState.{StatementRawState}
 use Rattle.pg_streams.specs.declared.query_raw.Stage.{Stage}
 use Rattle.pg_streams.specs.declared.query_raw.Stage.TheVariants.{New, Opens, Done}
 use Rattle.pg_streams.specs.declared.row_giving.RowGiving.{RowGiving}
@@ -113,5 +113,5 @@ known-live (New s values) live is = cc
 known-live (Opens items) live is = cc
 known-live Done live is = live
 
-pub known-state : (s : QueryRawState) → IsLiveState s → state_statement s ≡ None → ⊥
+pub known-state : (s : StatementRawState) → IsLiveState s → state_statement s ≡ None → ⊥
 known-state s live is = known-live s.stage live is

@@ -20,7 +20,7 @@ use Rattle.pg_streams.specs.declared.giving.Told.TheVariants.{Item}
 use Rattle.pg_streams.specs.declared.items.Items.{Items}
 use Rattle.pg_streams.specs.declared.query_raw.Handed.{Handed}
 use Rattle.pg_streams.specs.declared.query_raw.Handed.TheVariants.{Borrowed, Owned}
-use Rattle.pg_streams.specs.declared.query_raw.QueryRawState.{QueryRawState}
+use Rattle.pg_streams.specs.declared.query_raw.StatementRawState.{StatementRawState}
 use Rattle.pg_streams.specs.declared.query_raw.Stage.{Stage}
 use Rattle.pg_streams.specs.declared.query_raw.Stage.TheVariants.{New, Opens, Done}
 use Rattle.pg_streams.specs.declared.row_giving.RowGiving.{RowGiving}
@@ -121,17 +121,17 @@ IsLiveAt (Opens items) = IsOpening items
 IsLiveAt Done = ⊥
 
 -- where a state stands
-abbrev pub state_place : QueryRawState → Place RowsGiven
+abbrev pub state_place : StatementRawState → Place RowsGiven
 state_place s = stage_place s.stage
 
 -- what is told first
-abbrev pub state_first : QueryRawState → List RawMessage → First (Unit {0}) (Unit {0})
+abbrev pub state_first : StatementRawState → List RawMessage → First (Unit {0}) (Unit {0})
 state_first s = stage_first s.stage
 
 -- its statement, until it answered
-abbrev pub state_statement : QueryRawState → Option Statement
+abbrev pub state_statement : StatementRawState → Option Statement
 state_statement s = stage_statement s.stage
 
 -- it hasn't answered
-abbrev pub IsLiveState : QueryRawState → Type 0
+abbrev pub IsLiveState : StatementRawState → Type 0
 IsLiveState s = IsLiveAt s.stage

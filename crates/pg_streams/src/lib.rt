@@ -16,7 +16,7 @@ mod simple_query_stream;
 pub use giving::{Giving, Told};
 pub use items::Items;
 pub use opens::Opens;
-pub use query_raw::QueryRawState;
+pub use query_raw::StatementRawState;
 pub use row_stream::RowStream;
 pub use simple_query_message::SimpleQueryMessage;
 pub use simple_query_raw::SimpleQueryRawState;

@@ -87,33 +87,33 @@ fn ask<D: Desk>(
 
 /// The state that executes a statement as a query whose stream of rows is the answer, once BindComplete came.
 #[derive(Drop)]
-pub struct QueryRawState<'a> {
+pub struct StatementRawState<'a> {
     stage: Stage<'a>,
 }
 
-impl<'a> QueryRawState<'a> {
+impl<'a> StatementRawState<'a> {
     /// Makes the state that executes this statement with these values. It takes no memory, and books nothing before its first
     /// poll. Refused values book nothing: Parameters comes where they aren't as many as the parameters, then ToSql at the first
     /// that can't stand as its parameter, then Encode where the frames can't be written. Behind that Db comes at an error of the
     /// server, Parse at a message that can't be read, UnexpectedMessage at one out of place, Closed where the desk takes no
     /// requests any more, or gives no more of the reply.
-    pub fn new(statement: &'a Statement, values: &'a [Value]) -> QueryRawState<'a>
-        ensures live { ⟦<QueryRawState<'a> as opens::Opens>⟧.is_live result }
-        ensures asks { (⟦<QueryRawState<'a> as opens::Opens>⟧.place result).dialogue ≡ query_raw statement.now values.now }
-        ensures knows { ⟦<QueryRawState<'a> as opens::Opens>⟧.knows result ≡ Some statement.now }
+    pub fn new(statement: &'a Statement, values: &'a [Value]) -> StatementRawState<'a>
+        ensures live { ⟦<StatementRawState<'a> as opens::Opens>⟧.is_live result }
+        ensures asks { (⟦<StatementRawState<'a> as opens::Opens>⟧.place result).dialogue ≡ query_raw statement.now values.now }
+        ensures knows { ⟦<StatementRawState<'a> as opens::Opens>⟧.knows result ≡ Some statement.now }
     {
-        QueryRawState {
+        StatementRawState {
             stage: Stage::New(Handed::Borrowed(statement), values),
         }
     }
 
     /// The same of a statement that can't be borrowed for so long.
-    pub fn owned(statement: Statement, values: &'a [Value]) -> QueryRawState<'a>
-        ensures live { ⟦<QueryRawState<'a> as opens::Opens>⟧.is_live result }
-        ensures asks { (⟦<QueryRawState<'a> as opens::Opens>⟧.place result).dialogue ≡ query_raw statement values.now }
-        ensures knows { ⟦<QueryRawState<'a> as opens::Opens>⟧.knows result ≡ Some statement }
+    pub fn owned(statement: Statement, values: &'a [Value]) -> StatementRawState<'a>
+        ensures live { ⟦<StatementRawState<'a> as opens::Opens>⟧.is_live result }
+        ensures asks { (⟦<StatementRawState<'a> as opens::Opens>⟧.place result).dialogue ≡ query_raw statement values.now }
+        ensures knows { ⟦<StatementRawState<'a> as opens::Opens>⟧.knows result ≡ Some statement }
     {
-        QueryRawState {
+        StatementRawState {
             stage: Stage::New(Handed::Owned(statement), values),
         }
     }
@@ -128,7 +128,7 @@ impl<'a> QueryRawState<'a> {
         stamp: Stamp,
         statement: Statement,
         values: &[Value],
-    ) -> Result<QueryRawState<'a>, Error>
+    ) -> Result<StatementRawState<'a>, Error>
         ensures goes { (n : ℕ) → HandsOn D.becomes (λ s. alone (state_place s) (state_first s)) IsLiveState stamp desk.old (asked (close_part statement.name) statement values.now n) desk.new result }
         ensures knows { IfOk result (λ state. state_statement state ≡ Some statement) }
     {
@@ -137,7 +137,7 @@ impl<'a> QueryRawState<'a> {
         };
         match ask(alloc, desk, stamp, statement, values, close) {
             Ok(items) => {
-                Ok(QueryRawState {
+                Ok(StatementRawState {
                     stage: Stage::Opens(items),
                 })
             }
@@ -175,7 +175,7 @@ impl<'a> QueryRawState<'a> {
     }
 }
 
-impl<'a> opens::Opens for QueryRawState<'a> {
+impl<'a> opens::Opens for StatementRawState<'a> {
     ghost use Rattle.std.specs.Prelude.{◌≡◌, false};
     ghost use Rattle.pg_statements.specs.declared.statement.Described as described;
     ghost use Rattle.pg_streams.specs.Handing.{nothing_to_find};
@@ -230,7 +230,7 @@ impl<'a> opens::Opens for QueryRawState<'a> {
     }
 
     fn hang_up<D: Desk>(self, alloc: Global, desk: &mut D, stamp: Stamp) -> Result<(), Error> {
-        let QueryRawState { stage } = self;
+        let StatementRawState { stage } = self;
         match stage {
             Stage::Opens(items) => items.hang_up(alloc, desk, stamp),
             // Nothing was asked yet.

@@ -6,7 +6,7 @@ use Rattle.pg_streams.specs.RowStreams.{RowsGiven}
 use Rattle.pg_streams.specs.declared.row_stream.RowStream.{RowStream}
 use Rattle.pg_streams.proofs.Asking.{handed-on}
 use Rattle.pg_raw.specs.States.{IsLiveAt, stage_first, stage_place}
-use Rattle.pg_raw.proofs.raw.RawState.query.Goals as goal
+use Rattle.pg_raw.proofs.raw.QueryRawState.query.Goals as goal
 
 abbrev rows-stand : RowStream → Family (Unit {0}) RowsGiven (Unit {0}) (Unit {0})
 rows-stand s = alone (rows_place s) (rows_opened s)

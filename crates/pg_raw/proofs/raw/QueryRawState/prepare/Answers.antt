@@ -11,7 +11,7 @@ use Rattle.pg_raw.specs.States.{IsLiveAt, place_of_prepare, queried_and_closed, 
 use Rattle.pg_raw.proofs.Behind.{error-whole, pauses-whole, value-whole}
 use Rattle.pg_raw.proofs.Later.{handed-later}
 use Rattle.pg_raw.proofs.Texts.{queried-deaf}
-use Rattle.pg_raw.proofs.raw.RawState.prepare.Goals as goal
+use Rattle.pg_raw.proofs.raw.QueryRawState.prepare.Goals as goal
 
 abbrev rows-stand : RowStream → Family (Unit {0}) RowsGiven (Unit {0}) (Unit {0})
 rows-stand s = alone (rows_place s) (rows_opened s)

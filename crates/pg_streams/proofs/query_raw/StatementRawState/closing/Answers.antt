@@ -5,7 +5,7 @@ use Rattle.pg_streams.specs.Handing.{HandsOn}
 use Rattle.pg_streams.specs.Hearing.{IsNoItem}
 use Rattle.pg_streams.specs.RowStates.{IsOpening, asked, opening}
 use Rattle.pg_streams.proofs.Asking.{lacks}
-use Rattle.pg_streams.proofs.query_raw.QueryRawState.closing.Goals as goal
+use Rattle.pg_streams.proofs.query_raw.StatementRawState.closing.Goals as goal
 
 pub returns-in_default-clause-goes : goal.returns-in_default-clause-goes
 returns-in_default-clause-goes g c n =

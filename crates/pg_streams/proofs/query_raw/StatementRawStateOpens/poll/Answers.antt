@@ -11,7 +11,7 @@ use Rattle.pg_streams.specs.RowStreams.{RowsGiven, query_raw, rows_from}
 use Rattle.pg_streams.specs.declared.query_raw.Stage.{Stage}
 use Rattle.pg_streams.specs.declared.row_stream.RowStream.{RowStream}
 use Rattle.pg_streams.proofs.Asking.{lacks, handed-on, none-closed}
-use Rattle.pg_streams.proofs.query_raw.QueryRawStateOpens.poll.Goals as goal
+use Rattle.pg_streams.proofs.query_raw.StatementRawStateOpens.poll.Goals as goal
 
 -- where one stands at a stage
 abbrev stage-stands : Stage → Family (Unit {0}) RowsGiven (Unit {0}) (Unit {0})

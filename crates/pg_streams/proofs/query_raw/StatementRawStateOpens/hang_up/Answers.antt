@@ -8,7 +8,7 @@ use Rattle.pg_streams.specs.RowStates.{handed, stage_place}
 use Rattle.pg_streams.specs.RowStreams.{query_raw, rows_from}
 use Rattle.pg_streams.specs.declared.query_raw.Stage.{Stage}
 use Rattle.pg_streams.proofs.Asking.{asked-cleanup, nothing-left}
-use Rattle.pg_streams.proofs.query_raw.QueryRawStateOpens.hang_up.Goals as goal
+use Rattle.pg_streams.proofs.query_raw.StatementRawStateOpens.hang_up.Goals as goal
 
 pub returns-in-New : goal.returns-in-New
 returns-in-New g c =

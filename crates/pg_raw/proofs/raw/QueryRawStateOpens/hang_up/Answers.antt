@@ -4,7 +4,7 @@ use Rattle.pg_raw.specs.States.{place_of_prepare, queried_and_closed, stage_plac
 use Rattle.pg_raw.specs.declared.raw.Stage.{Stage}
 use Rattle.pg_raw.proofs.Behind.{gives-up-whole}
 use Rattle.pg_raw.proofs.Texts.{queried-deaf, queried-fresh}
-use Rattle.pg_raw.proofs.raw.RawStateOpens.hang_up.Goals as goal
+use Rattle.pg_raw.proofs.raw.QueryRawStateOpens.hang_up.Goals as goal
 
 pub returns-in-Prepares : goal.returns-in-Prepares
 returns-in-Prepares g c =

@@ -8,7 +8,7 @@ use Rattle.pg_streams.specs.declared.row_stream.RowStream.{RowStream}
 use Rattle.pg_streams.proofs.Opening.{known-state}
 use Rattle.pg_raw.specs.States.{IsLiveAt, stage_asks, stage_finding, stage_first, stage_place, stage_statement}
 use Rattle.pg_raw.specs.declared.raw.Stage.{Stage}
-use Rattle.pg_raw.proofs.raw.RawStateOpens.poll.Goals as goal
+use Rattle.pg_raw.proofs.raw.QueryRawStateOpens.poll.Goals as goal
 
 abbrev rows-stand : RowStream → Family (Unit {0}) RowsGiven (Unit {0}) (Unit {0})
 rows-stand s = alone (rows_place s) (rows_opened s)

@@ -7,7 +7,7 @@ use Rattle.pg_streams.specs.RowTelling.{opening_heard}
 use Rattle.pg_streams.specs.declared.row_giving.RowOpening.{RowOpening}
 use Rattle.pg_streams.proofs.Asking.{errs-whole, pauses-whole, poll-lacks}
 use Rattle.pg_streams.proofs.Opening.{given-bound, given-error, still-unbound, now-bound, opened-goes, opened-on}
-use Rattle.pg_streams.proofs.query_raw.QueryRawState.open.Goals as goal
+use Rattle.pg_streams.proofs.query_raw.StatementRawState.open.Goals as goal
 
 pub returns-in-Pending-clause-opens : goal.returns-in-Pending-clause-opens
 returns-in-Pending-clause-opens g c =

@@ -1,4 +1,4 @@
-use Rattle.pg_raw.proofs.raw.RawState.go_on.Goals as goal
+use Rattle.pg_raw.proofs.raw.QueryRawState.go_on.Goals as goal
 
 pub returns-in-Pending-clause-opens : goal.returns-in-Pending-clause-opens
 returns-in-Pending-clause-opens g c k said = c.in-Pending.ensures.opens k said
