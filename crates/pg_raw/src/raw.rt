@@ -7,7 +7,7 @@ ghost use Rattle.pg_execute.specs.Executes.{close_part};
 ghost use Rattle.pg_execute.specs.Targets.{on_target};
 ghost use Rattle.pg_executed.specs.Texts.{prepare_text};
 ghost use Rattle.pg_streams.specs.Families.{PausesFor};
-ghost use Rattle.pg_streams.specs.Handing.{HandsOn, HandsOnLater, PausesLater, alone, asking};
+ghost use Rattle.pg_streams.specs.Handing.{HandsOn, HandsOnLater, PausesLater, alone, asking, never_whole};
 ghost use Rattle.pg_streams.specs.RowStates.{IsLiveState, asked, asked_first, rows_opened, rows_over, rows_place, state_first, state_place, state_statement, statement_of};
 ghost use Rattle.pg_streams.specs.RowStreams.{query_raw};
 ghost use Rattle.pg_raw.specs.States.{IsLiveAt, IsPreparing, place_of_prepare, queried_and_closed, stage_first, stage_place, stage_statement, statement_in, text_place};
@@ -81,8 +81,8 @@ impl<'a> QueryRawState<'a> {
     ) -> Poll<Result<RowStream, Error>>
         requires { IsPreparing state }
         ensures finds { MatchPoll result
-            (λ r. HandsOnLater D.becomes (λ s. alone (rows_place s) (rows_opened s)) (λ s. rows_over s ≡ false) statement_of stamp desk.old (place_of_prepare state.entry) (text_place (place_of_prepare state.entry) values.now) (asking (queried_and_closed values.now) asked_first) desk.new r)
-            (PausesLater D.becomes stamp desk.old (text_place (place_of_prepare state.entry) values.now) (asking (queried_and_closed values.now) asked_first) desk.new (stage_place self.new.stage) (stage_first self.new.stage) (stage_statement self.new.stage) × IsLiveAt self.new.stage) }
+            (λ r. HandsOnLater D.becomes (λ s. alone (rows_place s) (rows_opened s)) (λ s. rows_over s ≡ false) statement_of never_whole stamp desk.old (place_of_prepare state.entry) (text_place (place_of_prepare state.entry) values.now) (asking (queried_and_closed values.now) asked_first) desk.new r)
+            (PausesLater D.becomes stamp desk.old (text_place (place_of_prepare state.entry) values.now) (asking (queried_and_closed values.now) asked_first) never_whole desk.new (stage_place self.new.stage) (stage_first self.new.stage) (stage_statement self.new.stage) × IsLiveAt self.new.stage) }
     {
         let mut state = state;
         match state.poll(alloc, desk, stamp) {
@@ -143,6 +143,7 @@ impl<'a> QueryRawState<'a> {
 impl<'a> Opens for QueryRawState<'a> {
     ghost use Rattle.std.specs.Prelude.{◌≡◌, false};
     ghost use Rattle.pg_statements.specs.declared.statement.Described as described;
+    ghost use Rattle.pg_streams.specs.Handing.{never_whole};
     ghost use Rattle.pg_streams.specs.RowStates.{rows_opened, rows_over, rows_place, statement_of};
     ghost use Rattle.pg_streams.specs.RowStreams as streams;
     ghost use Rattle.pg_raw.specs.States.{IsLiveAt, stage_asks, stage_finding, stage_first, stage_place, stage_statement};
@@ -162,6 +163,8 @@ impl<'a> Opens for QueryRawState<'a> {
     ghost asks = { λ s. stage_asks s.stage };
 
     ghost finding = { λ s. stage_finding s.stage };
+
+    ghost is_whole = { never_whole };
 
     ghost first = { λ s. stage_first s.stage };
 

@@ -5,3 +5,5 @@ pub mod Asking
 pub mod Opening
 pub mod Rows
 pub mod Parts
+pub mod Brought
+pub mod Behind

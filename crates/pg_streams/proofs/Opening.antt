@@ -6,11 +6,12 @@ use Rattle.pg_spec.specs.declared.stamps.Stamp.{Stamp}
 use Rattle.pg_desk.specs.declared.event.Event.{Event}
 use Rattle.pg_faults.specs.declared.error.Error.{Error}
 use Rattle.pg_lookup.specs.QueryReplies.{Said, Bound, Row, Complete, Empty, Suspended, Ready, Fails as Wrong, said_by}
+use Rattle.pg_streams.specs.Brought.{joined}
 use Rattle.pg_streams.specs.Collecting.{Gives, NoItemFirst, is_last, family_behind, family_of, place_of, untold, was_told}
 use Rattle.pg_streams.specs.Families.{AnswersFor, Family, GoesFor}
 use Rattle.pg_streams.specs.Handing.{alone}
 use Rattle.pg_streams.specs.Hearing.{Brings, First, first_told, told_or}
-use Rattle.pg_streams.specs.RowStates.{IsLiveAt, IsLiveState, opening, opening_told, rows_opened, rows_over, rows_place, stage_statement, state_statement}
+use Rattle.pg_streams.specs.RowStates.{IsLiveAt, IsLiveState, opening, opening_told, rows_opened, rows_over, rows_place, stage_statement, state_statement, unread, unread_if}
 use Rattle.pg_streams.specs.RowStreams.{RowsGiven}
 use Rattle.pg_streams.specs.RowTelling.{bound_heard, opening_heard}
 use Rattle.pg_streams.specs.declared.giving.Told.{Told}
@@ -75,11 +76,13 @@ abbrev rows-of : Items RowOpening → Items RowGiving
 rows-of s = record { giving = record { statement = s.giving.statement; affected = None }; id = s.id; batch = s.batch; close = s.close; over = s.over }
 
 -- a stream stands where its opening did behind BindComplete
-pub opened-goes : {D : Type 0} {becomes : D → List Event → D → Type 0} {stamp : Stamp} {a b : D} (old new : Items RowOpening) (stream : RowStream) → rows_place stream ≡ place_of opening_told new → stream.items ≡ rows-of new →
+pub opened-goes : {D : Type 0} {becomes : D → List Event → D → Type 0} {stamp : Stamp} {a b : D} (old new : Items RowOpening) (stream : RowStream) → rows_place stream ≡ place_of opening_told new → stream.items ≡ rows-of new → stream.taken ≡ false →
     GoesFor becomes stamp a (family_of opening_told opening_heard old) b (family_behind opening_told take-none end-opening (Item tt) new) → GoesFor becomes stamp a (opening old) b (alone (rows_place stream) (rows_opened stream))
-opened-goes {becomes = becomes} {stamp} {a} {b} old new stream place same h =
+opened-goes {becomes = becomes} {stamp} {a} {b} old new stream place same live h =
     let behind : Family (RowsGiven → RowsGiven) RowsGiven RowOpening (Unit {0}) = family_behind opening_told take-none end-opening (Item tt) new in
-    let is : alone (rows_place stream) (rows_opened stream) ≡ whole-of behind = λ i. alone (place i) (λ more. record { told = Some (Item tt); giving = tt; left = (same i).batch ++ more }) in
+    let left : unread stream ≡ new.batch =
+    ap (λ (taken : Bool). unread_if taken stream.items.batch (joined stream.later.items)) live ∙ ap (λ (items : Items RowGiving). items.batch) same in
+    let is : alone (rows_place stream) (rows_opened stream) ≡ whole-of behind = λ i. alone (place i) (λ more. record { told = Some (Item tt); giving = tt; left = left i ++ more }) in
     subst (λ (q : Family (Unit {0}) RowsGiven (Unit {0}) (Unit {0})). GoesFor becomes stamp a (opening old) b q) (sym is) (whole-goes (family_of opening_told opening_heard old) behind h)
 
 -- and gives more

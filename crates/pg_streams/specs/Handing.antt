@@ -29,21 +29,52 @@ nothing_to_find = record { dialogue = Answer (Err Closed); reads = 0 }
 abbrev pub asking : {K W G I : Type 0} → (asks : K → Dialogue W) → (first : K → List RawMessage → First G I) → K → (reads : ℕ) → Family (Unit {0}) W G I
 asking asks first k n = alone (record { dialogue = asks k; reads = n }) (first k)
 
--- Some events led to where the reply is asked for by what was found out, and this is true of the others.
-pub record FoundOut {D K W G I : Type 0} (becomes : D → List Event → D → Type 0) (stamp : Stamp) (a : D) (p : Place W) (asked : K → ℕ → Family (Unit {0}) W G I) (IsBehind : K → D → Family (Unit {0}) W G I → Type 0) : Type 0 where
+-- no stream is brought whole, whatever is found out
+abbrev pub never_whole : {K : Type 0} → K → Type 0
+never_whole k = ⊥
+
+-- Some events led to where the reply is asked for by what was found out, which isn't brought whole, and this is true of the others.
+pub record FoundOut {D K W G I : Type 0} (becomes : D → List Event → D → Type 0) (stamp : Stamp) (a : D) (p : Place W) (asked : K → ℕ → Family (Unit {0}) W G I) (is_whole : K → Type 0) (IsBehind : K → D → Family (Unit {0}) W G I → Type 0) : Type 0 where
   pub known : K
+  pub apart : is_whole known → ⊥
   pub mid : D
   pub reads : ℕ
   pub finds : Goes becomes stamp a p mid ((asked known reads).place tt)
   pub behind : IsBehind known mid (asked known reads)
 
--- A stream is handed on behind what was found out. An error comes before that, where it is what one is answered who finds it out, or behind that.
-abbrev pub HandsOnLater : {D S K W G I : Type 0} → (D → List Event → D → Type 0) → (stands : S → Family (Unit {0}) W G I) → (is_open : S → Type 0) → (known : S → K) → Stamp → D → (finding : Place K) → Place W → (asked : K → ℕ → Family (Unit {0}) W G I) → D → Result S Error → Type 0
-HandsOnLater becomes stands is_open known stamp a finding p asked b (Ok stream) = FoundOut becomes stamp a p asked (λ k mid q. HandsOn becomes stands is_open stamp mid q b (Ok stream) × (known stream ≡ k))
-HandsOnLater becomes stands is_open known stamp a finding p asked b (Err e) =
-    (GoesToAnswer becomes stamp a finding b (Err e) × GoesToAnswer becomes stamp a p b (Err e)) ⊎ FoundOut becomes stamp a p asked (λ k mid q. HandsOn becomes stands is_open stamp mid q b (Err e))
+-- Some events brought what is told first, and this is true of the others, which bring nothing of the reply.
+pub record BroughtBefore {D W G I : Type 0} (becomes : D → List Event → D → Type 0) (stamp : Stamp) (a : D) (old : Family (Unit {0}) W G I) (last : List RawMessage → First G I) (IsBehind : D → Place W → Type 0) : Type 0 where
+  pub mid : D
+  pub place : Place W
+  pub brings : GoesFor becomes stamp a old mid (alone place last)
+  pub behind : IsBehind mid place
+
+-- where one stands first, by what will be found out, and what is told first then
+abbrev pub before_found : {K W G I : Type 0} → Place W → (asked : K → ℕ → Family (Unit {0}) W G I) → K → Family (Unit {0}) W G I
+before_found p asked k = alone p (asked k 0).first
+
+-- A stream is handed on that was brought whole before all was found out: the events led to the answer of one who collects it, where the number of
+-- the request that was read last counts for nothing.
+abbrev pub HandsOnWhole : {D S K W G I : Type 0} → (D → List Event → D → Type 0) → (stands : S → Family (Unit {0}) W G I) → (is_open : S → Type 0) → (known : S → K) → (is_whole : K → Type 0) → Stamp → D → Place W → (asked : K → ℕ → Family (Unit {0}) W G I) → D → S → Type 0
+HandsOnWhole becomes stands is_open known is_whole stamp a p asked b stream =
+    BroughtBefore becomes stamp a (before_found p asked (known stream)) (stands stream).first
+    (λ mid q. (n : ℕ) × Goes becomes stamp mid q b (record { dialogue = ((stands stream).place tt).dialogue; reads = n }))
+    × is_open stream × is_whole (known stream)
+
+-- A stream is handed on behind what was found out, or was brought whole before. An error comes before that, where it is what one is answered who finds it out, or behind that.
+abbrev pub HandsOnLater : {D S K W G I : Type 0} → (D → List Event → D → Type 0) → (stands : S → Family (Unit {0}) W G I) → (is_open : S → Type 0) → (known : S → K) → (is_whole : K → Type 0) → Stamp → D → (finding : Place K) → Place W → (asked : K → ℕ → Family (Unit {0}) W G I) → D → Result S Error → Type 0
+HandsOnLater becomes stands is_open known is_whole stamp a finding p asked b (Ok stream) =
+    FoundOut becomes stamp a p asked is_whole (λ k mid q. HandsOn becomes stands is_open stamp mid q b (Ok stream) × (known stream ≡ k)) ⊎ HandsOnWhole becomes stands is_open known is_whole stamp a p asked b stream
+HandsOnLater becomes stands is_open known is_whole stamp a finding p asked b (Err e) =
+    (GoesToAnswer becomes stamp a finding b (Err e) × GoesToAnswer becomes stamp a p b (Err e)) ⊎ FoundOut becomes stamp a p asked is_whole (λ k mid q. HandsOn becomes stands is_open stamp mid q b (Err e))
+
+-- One waits before it was found out, and nothing of the reply came, or, where it is brought whole, some of it or all of it.
+pub data PausesBefore {D K W G I : Type 0} (becomes : D → List Event → D → Type 0) (stamp : Stamp) (a : D) (p : Place W) (asked : K → ℕ → Family (Unit {0}) W G I) (is_whole : K → Type 0) (b : D) (new : Place W) (first : K → List RawMessage → First G I) : Type 0 where
+  NoneCame : Pauses becomes stamp a p b new → ((k : K) → first k ≡ (asked k 0).first) → PausesBefore becomes stamp a p asked is_whole b new first
+  SomeCame : (k : K) → is_whole k → PausesFor becomes stamp a (before_found p asked k) b (alone new (first k)) → PausesBefore becomes stamp a p asked is_whole b new first
+  AllCame : (k : K) → is_whole k → BroughtBefore becomes stamp a (before_found p asked k) (first k) (λ mid q. Pauses becomes stamp mid q b new) → PausesBefore becomes stamp a p asked is_whole b new first
 
 -- One waits before it was found out, or behind that.
-abbrev pub PausesLater : {D K W G I : Type 0} → (D → List Event → D → Type 0) → Stamp → D → Place W → (asked : K → ℕ → Family (Unit {0}) W G I) → D → (new : Place W) → (first : K → List RawMessage → First G I) → (knows : Option K) → Type 0
-PausesLater becomes stamp a p asked b new first knows =
-    ((knows ≡ None) × Pauses becomes stamp a p b new) ⊎ FoundOut becomes stamp a p asked (λ k mid q. (knows ≡ Some k) × PausesFor becomes stamp mid q b (alone new (first k)))
+abbrev pub PausesLater : {D K W G I : Type 0} → (D → List Event → D → Type 0) → Stamp → D → Place W → (asked : K → ℕ → Family (Unit {0}) W G I) → (is_whole : K → Type 0) → D → (new : Place W) → (first : K → List RawMessage → First G I) → (knows : Option K) → Type 0
+PausesLater becomes stamp a p asked is_whole b new first knows =
+    ((knows ≡ None) × PausesBefore becomes stamp a p asked is_whole b new first) ⊎ FoundOut becomes stamp a p asked is_whole (λ k mid q. (knows ≡ Some k) × PausesFor becomes stamp mid q b (alone new (first k)))

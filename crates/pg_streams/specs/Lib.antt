@@ -3,6 +3,7 @@ pub mod Families
 pub mod Telling
 pub mod Collecting
 pub mod Handing
+pub mod Brought
 pub mod RowStreams
 pub mod RowTelling
 pub mod RowLaws

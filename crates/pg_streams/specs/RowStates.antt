@@ -1,8 +1,10 @@
 -- Where a stream of rows stands, and the state that hands it on.
-use Rattle.std.specs.Prelude.{◌≡◌, ℕ, List, [], ◌++◌, Bool, true, false, Option, Some, None, Result, Err}
+use Rattle.std.specs.Prelude.{◌≡◌, ◌⊎◌, ℕ, List, [], ◌++◌, Bool, true, false, Option, Some, None, Result, Ok, Err}
 use Rattle.pg_spec.specs.RawMessages.{RawMessage}
+use Rattle.pg_spec.specs.declared.stamps.Stamp.{Stamp}
+use Rattle.pg_desk.specs.declared.event.Event.{Event}
 use Rattle.pg_faults.specs.declared.error.Error.{Error}
-use Rattle.pg_faults.specs.declared.error.Error.TheVariants.{Closed}
+use Rattle.pg_faults.specs.declared.error.Error.TheVariants.{Closed, OutOfMemory}
 use Rattle.pg_statements.specs.declared.statement.Described.{Described as Statement}
 use Rattle.pg_query.specs.Dialogue.{Answer}
 use Rattle.pg_query.specs.Meaning.{Place}
@@ -10,13 +12,15 @@ use Rattle.pg_execute.specs.Executes.{closed_by}
 use Rattle.pg_statements.specs.declared.column.Column.{Column}
 use Rattle.pg_rows.specs.Rows.{RowOf}
 use Rattle.pg_types.specs.declared.value.Value.{Value}
-use Rattle.pg_streams.specs.Collecting.{family_of, place_of, untold}
-use Rattle.pg_streams.specs.Families.{Family}
+use Rattle.pg_streams.specs.Brought.{brought_if, joined}
+use Rattle.pg_streams.specs.Collecting.{EndFirst, NoItemFirst, family_behind, family_of, given_up, place_of, untold}
+use Rattle.pg_streams.specs.Families.{AnswersFor, Family, GoesFor, PausesFor}
 use Rattle.pg_streams.specs.Handing.{alone}
 use Rattle.pg_streams.specs.Hearing.{First, first_told, told_only}
-use Rattle.pg_streams.specs.RowStreams.{RowsGiven, query_raw, rows_from}
+use Rattle.pg_streams.specs.RowStreams.{RowsGiven, query_raw, rows_from, with_row}
 use Rattle.pg_streams.specs.RowTelling.{opening_heard, rows_heard}
-use Rattle.pg_streams.specs.declared.giving.Told.TheVariants.{Item}
+use Rattle.pg_streams.specs.declared.giving.Told.{Told}
+use Rattle.pg_streams.specs.declared.giving.Told.TheVariants.{Item, Ends, Fails}
 use Rattle.pg_streams.specs.declared.items.Items.{Items}
 use Rattle.pg_streams.specs.declared.query_raw.Handed.{Handed}
 use Rattle.pg_streams.specs.declared.query_raw.Handed.TheVariants.{Borrowed, Owned}
@@ -37,17 +41,34 @@ rows_told g = rows_from g.statement true g.affected
 abbrev pub no_rows : RowGiving → RowsGiven
 no_rows g = record { rows = []; affected = g.affected }
 
+-- the rest of its reply was taken before, and the request was hung up then
+abbrev pub rows_taken : RowStream → Bool
+rows_taken s = s.taken
+
 -- where each stands who has had something before
 abbrev pub rows_behind : RowStream → Family (RowsGiven → RowsGiven) RowsGiven RowGiving (RowOf Column)
-rows_behind s = family_of rows_told rows_heard s.items
+rows_behind s = brought_if s.taken (joined s.later.items) (family_of rows_told rows_heard s.items)
+
+-- the same behind what was told
+abbrev pub rows_stand : Told (RowOf Column) → RowStream → Family (RowsGiven → RowsGiven) RowsGiven RowGiving (RowOf Column)
+rows_stand told s = brought_if s.taken (joined s.later.items) (family_behind rows_told with_row no_rows told s.items)
 
 -- where one stands who has had nothing yet
 abbrev pub rows_place : RowStream → Place RowsGiven
-rows_place s = place_of rows_told s.items
+rows_place s = (rows_behind s).place (λ whole. whole)
 
--- BindComplete was told first, and the messages behind it are read next
+-- the messages that came and aren't read, those that were taken before among them
+abbrev pub unread_if : (taken : Bool) → (batch later : List RawMessage) → List RawMessage
+unread_if true batch later = batch ++ later
+unread_if false batch later = batch
+
+-- the same of a stream
+abbrev pub unread : RowStream → List RawMessage
+unread s = unread_if s.taken s.items.batch (joined s.later.items)
+
+-- what opens the rows was told first, and the messages behind it are read next
 abbrev pub rows_opened : RowStream → List RawMessage → First (Unit {0}) (Unit {0})
-rows_opened s more = record { told = Some (Item tt); giving = tt; left = s.items.batch ++ more }
+rows_opened s more = record { told = Some (Item tt); giving = tt; left = unread s ++ more }
 
 -- the end or an error was given
 abbrev pub rows_over : RowStream → Bool
@@ -60,6 +81,33 @@ statement_of s = s.items.giving.statement
 -- how many rows the last command affected, where one ended
 abbrev pub affected_of : RowStream → Option ℕ
 affected_of s = s.items.giving.affected
+
+-- What a poll gives: a row, where it is told first, which stands in front of what comes from the new place on; the end, where that is, behind
+-- which nothing comes; or an error, where no row is told first.
+abbrev pub GivesRow : {D : Type 0} → (D → List Event → D → Type 0) → Stamp → D → (from : Family (RowsGiven → RowsGiven) RowsGiven RowGiving (RowOf Column)) → D → RowStream → Option (Result (RowOf Column) Error) → Type 0
+GivesRow becomes stamp a from b new (Some (Ok row)) = GoesFor becomes stamp a from b (rows_stand (Item row) new)
+GivesRow becomes stamp a from b new None = AnswersFor becomes stamp a from b (λ before. Ok (before (no_rows new.items.giving))) (EndFirst new.items)
+GivesRow becomes stamp a from b new (Some (Err e)) = AnswersFor becomes stamp a from b (λ before. Err e) (NoItemFirst new.items)
+
+-- The same of what was taken before: nothing is asked of the desk. Want of memory may be the answer at any place.
+abbrev pub GivesTaken : (old new : RowStream) → Option (Result (RowOf Column) Error) → Type 0
+GivesTaken old new (Some (Ok row)) = rows_stand (Item row) new ≡ rows_behind old
+GivesTaken old new None = rows_stand Ends new ≡ rows_behind old
+GivesTaken old new (Some (Err e)) = (rows_stand (Fails e) new ≡ rows_behind old) ⊎ (e ≡ OutOfMemory)
+
+-- the events led to where a message is awaited, and all that came were read
+pub record AwaitsRow {D : Type 0} (becomes : D → List Event → D → Type 0) (stamp : Stamp) (a : D) (from : Family (RowsGiven → RowsGiven) RowsGiven RowGiving (RowOf Column)) (b : D) (new : RowStream) : Type 0 where
+  pub pauses : PausesFor becomes stamp a from b (rows_behind new)
+  pub empty : unread new ≡ []
+
+-- what is left to do where it is given up: nothing, where the request was hung up before
+abbrev pub given_up_if : (taken : Bool) → Items RowGiving → Place (Unit {0})
+given_up_if true items = record { dialogue = Answer (Ok tt); reads = items.id }
+given_up_if false items = given_up items
+
+-- the same of a stream
+abbrev pub rows_given_up : RowStream → Place (Unit {0})
+rows_given_up s = given_up_if s.taken s.items
 
 -- ---- its opening
 

@@ -63,7 +63,7 @@ impl<G: Giving> Items<G> {
     }
 
     /// Reads the messages that came, up to the first that tells something.
-    fn read(&mut self, alloc: Global) -> Result<Option<Told<G::Item>>, Error>
+    pub(crate) fn read(&mut self, alloc: Global) -> Result<Option<Told<G::Item>>, Error>
         ensures reads { spec.Reads G.tells G.hears G.with_item G.at_end self.old self.new result }
         ensures keeps { Keeps G.known self.old self.new }
     {
@@ -81,7 +81,7 @@ impl<G: Giving> Items<G> {
     }
 
     /// These messages are read next.
-    fn refill(&mut self, batch: BackendMessages)
+    pub(crate) fn refill(&mut self, batch: BackendMessages)
         ensures { self.new ≡ record self.old { batch = batch } }
     {
         self.batch = batch;

@@ -39,6 +39,9 @@ pub trait Opens {
     /// Where he stands who finds that out, and the request that is read then. It is read by nobody where it is known.
     ghost finding: { Self → Place Known };
 
+    /// By that the stream is brought whole, before all was found out.
+    ghost is_whole: { Known → Type 0 };
+
     /// What is told first of the reply, where more messages come: the item that opens the stream, or an error.
     ghost first: { Self → Known → List RawMessage → First (Unit {0}) (Unit {0}) };
 
@@ -56,7 +59,8 @@ pub trait Opens {
 
     /// Goes on until it hands on the stream, or an error, or no message is there. Each state says when which error comes. Behind
     /// one that a message tells the request was hung up; at OutOfMemory nobody reads or hangs up what is left of the reply.
-    /// Where it has to find out what it asks for, some of the events do that, and what is told first is said of the others.
+    /// Where it has to find out what it asks for, some of the events do that, and what is told first is said of the others; or all
+    /// that the stream gives was brought before that, and what is told first is said of what brought it.
     fn poll<D: Desk>(
         &mut self,
         alloc: Global,
@@ -69,8 +73,8 @@ pub trait Opens {
             (PausesFor D.becomes stamp desk.old (alone (place self.old) (first self.old k)) desk.new (alone (place self.new) (first self.new k)) × is_live self.new) }
         ensures known { (k : Known) → knows self.old ≡ Some k → MatchPoll result (λ r. IfOk r (λ stream. known stream ≡ k)) (knows self.new ≡ Some k) }
         ensures finds { knows self.old ≡ None → MatchPoll result
-            (λ r. HandsOnLater D.becomes (λ s. alone (stands s) (opened s)) is_open known stamp desk.old (finding self.old) (place self.old) (asking (asks self.old) (first self.old)) desk.new r)
-            (PausesLater D.becomes stamp desk.old (place self.old) (asking (asks self.old) (first self.old)) desk.new (place self.new) (first self.new) (knows self.new) × is_live self.new) };
+            (λ r. HandsOnLater D.becomes (λ s. alone (stands s) (opened s)) is_open known is_whole stamp desk.old (finding self.old) (place self.old) (asking (asks self.old) (first self.old)) desk.new r)
+            (PausesLater D.becomes stamp desk.old (place self.old) (asking (asks self.old) (first self.old)) is_whole desk.new (place self.new) (first self.new) (knows self.new) × is_live self.new) };
 
     /// Ends it without an answer, and does what is left to do.
     fn hang_up<D: Desk>(self, alloc: Global, desk: &mut D, stamp: Stamp) -> Result<(), Error>

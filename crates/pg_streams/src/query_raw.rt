@@ -167,7 +167,7 @@ impl<'a> StatementRawState<'a> {
                 self.stage = Stage::Opens(items);
                 Poll::Pending
             }
-            Poll::Ready(Some(Ok(()))) => Poll::Ready(Ok(RowStream::opened(items))),
+            Poll::Ready(Some(Ok(()))) => Poll::Ready(Ok(RowStream::opened(alloc, items))),
             Poll::Ready(Some(Err(error))) => Poll::Ready(Err(error)),
             // The reply doesn't end before.
             Poll::Ready(None) => Poll::Ready(Err(Error::OutOfMemory)),
@@ -178,7 +178,7 @@ impl<'a> StatementRawState<'a> {
 impl<'a> opens::Opens for StatementRawState<'a> {
     ghost use Rattle.std.specs.Prelude.{◌≡◌, false};
     ghost use Rattle.pg_statements.specs.declared.statement.Described as described;
-    ghost use Rattle.pg_streams.specs.Handing.{nothing_to_find};
+    ghost use Rattle.pg_streams.specs.Handing.{never_whole, nothing_to_find};
     ghost use Rattle.pg_streams.specs.RowStates.{IsLiveAt, rows_opened, rows_over, rows_place, stage_first, stage_place, stage_statement, statement_of};
     ghost use Rattle.pg_streams.specs.RowStreams as streams;
 
@@ -197,6 +197,8 @@ impl<'a> opens::Opens for StatementRawState<'a> {
     ghost asks = { λ s _. (stage_place s.stage).dialogue };
 
     ghost finding = { λ _. nothing_to_find };
+
+    ghost is_whole = { never_whole };
 
     ghost first = { λ s _. stage_first s.stage };
 

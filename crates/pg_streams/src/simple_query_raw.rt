@@ -51,7 +51,7 @@ impl<'a> Opens for SimpleQueryRawState<'a> {
     ghost use Rattle.std.specs.Prelude as prelude;
     ghost use Rattle.std.specs.Prelude.{◌≡◌, None, Some, false, option_map};
     ghost use Rattle.pg_streams.specs.declared.simple_query_message.SimpleQueryMessage as part;
-    ghost use Rattle.pg_streams.specs.Handing.{nothing_to_find};
+    ghost use Rattle.pg_streams.specs.Handing.{never_whole, nothing_to_find};
     ghost use Rattle.pg_streams.specs.SimpleStates.{IsNew, asks_text, parts_opened, parts_over, parts_place};
 
     type Stream = SimpleQueryStream;
@@ -69,6 +69,8 @@ impl<'a> Opens for SimpleQueryRawState<'a> {
     ghost asks = { λ s _. asks_text (option_map (λ t. t.now) s.text) };
 
     ghost finding = { λ _. nothing_to_find };
+
+    ghost is_whole = { never_whole };
 
     ghost first = { λ _ _ more. record { told = None; giving = tt; left = more } };
 

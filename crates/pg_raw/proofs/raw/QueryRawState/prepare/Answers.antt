@@ -3,12 +3,12 @@ use Rattle.pg_faults.specs.declared.error.Error.{Error}
 use Rattle.pg_query.specs.Meaning.{GoesToAnswer}
 use Rattle.pg_statements.specs.declared.statement.Described.{Described}
 use Rattle.pg_streams.specs.Families.{Family}
-use Rattle.pg_streams.specs.Handing.{alone, asking}
+use Rattle.pg_streams.specs.Handing.{NoneCame, alone, asking}
 use Rattle.pg_streams.specs.RowStates.{asked_first, rows_opened, rows_over, rows_place, statement_of}
 use Rattle.pg_streams.specs.RowStreams.{RowsGiven}
 use Rattle.pg_streams.specs.declared.row_stream.RowStream.{RowStream}
 use Rattle.pg_raw.specs.States.{IsLiveAt, place_of_prepare, queried_and_closed, stage_first, stage_place, stage_statement, text_place}
-use Rattle.pg_raw.proofs.Behind.{error-whole, pauses-whole, value-whole}
+use Rattle.pg_streams.proofs.Behind.{error-whole, pauses-whole, value-whole}
 use Rattle.pg_raw.proofs.Later.{handed-later}
 use Rattle.pg_raw.proofs.Texts.{queried-deaf}
 use Rattle.pg_raw.proofs.raw.QueryRawState.prepare.Goals as goal
@@ -21,7 +21,7 @@ returns-in-Pending g c =
     let vs = c.args.values.now in
     record {
       finds = (
-        inl (refl, pauses-whole (queried_and_closed vs) (queried-deaf vs) g.D.Desk.becomes c.args.stamp c.args.desk.now (place_of_prepare c.args.state) c.poll.new.desk (place_of_prepare c.poll.new.self) c.in-Pending.ensures.0),
+        inl (refl, NoneCame (pauses-whole (queried_and_closed vs) (queried-deaf vs) g.D.Desk.becomes c.args.stamp c.args.desk.now (place_of_prepare c.args.state) c.poll.new.desk (place_of_prepare c.poll.new.self) c.in-Pending.ensures.0) (λ k. refl)),
         c.in-Pending.ensures.1,
       );
     }

@@ -2,7 +2,7 @@ use Rattle.std.proofs.Common.{sym, subst}
 use Rattle.pg_query.specs.Meaning.{GivesUp}
 use Rattle.pg_raw.specs.States.{place_of_prepare, queried_and_closed, stage_place}
 use Rattle.pg_raw.specs.declared.raw.Stage.{Stage}
-use Rattle.pg_raw.proofs.Behind.{gives-up-whole}
+use Rattle.pg_streams.proofs.Behind.{gives-up-whole}
 use Rattle.pg_raw.proofs.Texts.{queried-deaf, queried-fresh}
 use Rattle.pg_raw.proofs.raw.QueryRawStateOpens.hang_up.Goals as goal
 

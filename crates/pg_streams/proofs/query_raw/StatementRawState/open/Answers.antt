@@ -42,7 +42,7 @@ pub returns-in-Ready-Some-Ok-clause-opens : goal.returns-in-Ready-Some-Ok-clause
 returns-in-Ready-Some-Ok-clause-opens g c =
     let ok = c.in-Ready-Some-Ok in
     let goes = given-bound g.D.Desk.becomes c.args.stamp c.args.desk.now c.poll_next.new.desk c.args.items c.poll_next.new.self ok.field-0 ok.field-0-0 ok.field-0-is (ok.ensures.gives c.requires.on) ok.field-0-0-0 ok.field-0-0-is in (
-      opened-goes c.args.items c.poll_next.new.self c.opened.result c.opened.ensures.stands c.opened.ensures.is goes,
+      opened-goes c.args.items c.poll_next.new.self c.opened.result c.opened.ensures.stands c.opened.ensures.is c.opened.ensures.taken goes,
       opened-on c.args.items c.poll_next.new.self c.opened.result ok.field-0 ok.field-0-0 c.opened.ensures.is c.requires.on ok.ensures.over ok.field-0-is ok.field-0-0-is,
     )
 
