@@ -17,6 +17,7 @@ ghost use Rattle.pg_raw.specs.States.{statement_in};
 ghost use Rattle.pg_streams.specs.RowStreams.{query_raw};
 ghost use Rattle.pg_streams.specs.SimpleStreams.{simple_query_raw};
 ghost use Rattle.pg_typed_states.specs.Paired.{paired};
+ghost use Rattle.pg_typed_raw.specs.TypedRaw.{query_typed_raw};
 ghost use Rattle.pg_calls.specs.Clearing.{Clears};
 
 use pg_checks::SessionCheckState;
@@ -32,6 +33,7 @@ use pg_query::{Polled, error_of};
 use pg_raw::QueryRawState;
 use pg_statements::Statement;
 use pg_streams::{Opens, SimpleQueryRawState};
+use pg_typed_raw::QueryTypedRawState;
 use pg_typed_states::{ExecuteTypedState, QueryTypedState};
 use pg_types::{Oid, Type, Value};
 
@@ -254,6 +256,21 @@ impl Client {
         ensures asks { (⟦<QueryTypedState<'a> as Polled>⟧.place result).dialogue ≡ paired (length types.now) values.now (query_typed find_all HowMany.Any query.now types.now values.now) }
     {
         QueryTypedState::new(HowMany::Any, query, types, values)
+    }
+
+    /// Like `query_typed`, where its rows are handed on as a stream, once their columns came and the types of these are known. Where one
+    /// is looked up, the rest of the reply is taken before, and once the lookup succeeded the stream gives what was taken: rows in
+    /// front of an error, and then the error.
+    pub fn query_typed_raw<'a>(
+        &self,
+        query: &'a str,
+        values: &'a [Value],
+        types: &'a [Type],
+    ) -> QueryTypedRawState<'a>
+        ensures live { ⟦<QueryTypedRawState<'a> as Opens>⟧.is_live result }
+        ensures asks { (⟦<QueryTypedRawState<'a> as Opens>⟧.place result).dialogue ≡ paired (length types.now) values.now (query_typed_raw find_all query.now types.now values.now) }
+    {
+        QueryTypedRawState::new(query, types, values)
     }
 
     /// Like `query_typed`, where there must be one row: RowCount comes where there is none, or a second one.

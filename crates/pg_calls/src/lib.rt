@@ -15,4 +15,5 @@ pub use pg_raw::QueryRawState;
 pub use pg_streams::{
     Opens, RowStream, SimpleQueryMessage, SimpleQueryRawState, SimpleQueryStream,
 };
+pub use pg_typed_raw::QueryTypedRawState;
 pub use pg_typed_states::{ExecuteTypedState, QueryTypedState};
