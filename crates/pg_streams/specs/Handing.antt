@@ -1,5 +1,5 @@
 -- A stream that is handed on.
-use Rattle.std.specs.Prelude.{◌≡◌, ◌⊎◌, ℕ, List, Option, Some, None, Result, Ok, Err}
+use Rattle.std.specs.Prelude.{◌≡◌, ◌⊎◌, ℕ, List, [], Option, Some, None, Result, Ok, Err}
 use Rattle.pg_spec.specs.RawMessages.{RawMessage}
 use Rattle.pg_spec.specs.declared.stamps.Stamp.{Stamp}
 use Rattle.pg_desk.specs.declared.event.Event.{Event}
@@ -42,7 +42,14 @@ pub record FoundOut {D K W G I : Type 0} (becomes : D → List Event → D → T
   pub finds : Goes becomes stamp a p mid ((asked known reads).place tt)
   pub behind : IsBehind known mid (asked known reads)
 
--- Some events brought what is told first, and this is true of the others, which bring nothing of the reply.
+-- Some events led to where this is found out, and others may have come behind them.
+pub record IsFound {D K : Type 0} (becomes : D → List Event → D → Type 0) (stamp : Stamp) (a : D) (finding : Place K) (b : D) (known : K) : Type 0 where
+  pub mid : D
+  pub found : GoesToAnswer becomes stamp a finding mid (Ok known)
+  pub events : List Event
+  pub became : becomes mid events b
+
+-- Some events brought what is told first, and this is true of the others.
 pub record BroughtBefore {D W G I : Type 0} (becomes : D → List Event → D → Type 0) (stamp : Stamp) (a : D) (old : Family (Unit {0}) W G I) (last : List RawMessage → First G I) (IsBehind : D → Place W → Type 0) : Type 0 where
   pub mid : D
   pub place : Place W
@@ -53,28 +60,43 @@ pub record BroughtBefore {D W G I : Type 0} (becomes : D → List Event → D �
 abbrev pub before_found : {K W G I : Type 0} → Place W → (asked : K → ℕ → Family (Unit {0}) W G I) → K → Family (Unit {0}) W G I
 before_found p asked k = alone p (asked k 0).first
 
--- A stream is handed on that was brought whole before all was found out: the events led to the answer of one who collects it, where the number of
--- the request that was read last counts for nothing.
+-- A stream is handed on that was brought whole before all was found out: the events led to where one stands who has it, where the number of the request
+-- that was read last counts for nothing.
 abbrev pub HandsOnWhole : {D S K W G I : Type 0} → (D → List Event → D → Type 0) → (stands : S → Family (Unit {0}) W G I) → (is_open : S → Type 0) → (known : S → K) → (is_whole : K → Type 0) → Stamp → D → Place W → (asked : K → ℕ → Family (Unit {0}) W G I) → D → S → Type 0
 HandsOnWhole becomes stands is_open known is_whole stamp a p asked b stream =
     BroughtBefore becomes stamp a (before_found p asked (known stream)) (stands stream).first
     (λ mid q. (n : ℕ) × Goes becomes stamp mid q b (record { dialogue = ((stands stream).place tt).dialogue; reads = n }))
     × is_open stream × is_whole (known stream)
 
--- A stream is handed on behind what was found out, or was brought whole before. An error comes before that, where it is what one is answered who finds it out, or behind that.
+-- A stream is handed on behind what was found out, or was brought whole before; what is known of it is what one is answered who finds it out. An error comes before
+-- that, where it is what he is answered, or behind that.
 abbrev pub HandsOnLater : {D S K W G I : Type 0} → (D → List Event → D → Type 0) → (stands : S → Family (Unit {0}) W G I) → (is_open : S → Type 0) → (known : S → K) → (is_whole : K → Type 0) → Stamp → D → (finding : Place K) → Place W → (asked : K → ℕ → Family (Unit {0}) W G I) → D → Result S Error → Type 0
 HandsOnLater becomes stands is_open known is_whole stamp a finding p asked b (Ok stream) =
-    FoundOut becomes stamp a p asked is_whole (λ k mid q. HandsOn becomes stands is_open stamp mid q b (Ok stream) × (known stream ≡ k)) ⊎ HandsOnWhole becomes stands is_open known is_whole stamp a p asked b stream
+    (FoundOut becomes stamp a p asked is_whole (λ k mid q. HandsOn becomes stands is_open stamp mid q b (Ok stream) × (known stream ≡ k)) ⊎ HandsOnWhole becomes stands is_open known is_whole stamp a p asked b stream)
+    × IsFound becomes stamp a finding b (known stream)
 HandsOnLater becomes stands is_open known is_whole stamp a finding p asked b (Err e) =
-    (GoesToAnswer becomes stamp a finding b (Err e) × GoesToAnswer becomes stamp a p b (Err e)) ⊎ FoundOut becomes stamp a p asked is_whole (λ k mid q. HandsOn becomes stands is_open stamp mid q b (Err e))
+    (GoesToAnswer becomes stamp a finding b (Err e) × GoesToAnswer becomes stamp a p b (Err e))
+    ⊎ FoundOut becomes stamp a p asked is_whole (λ k mid q. HandsOn becomes stands is_open stamp mid q b (Err e) × IsFound becomes stamp a finding b k)
 
--- One waits before it was found out, and nothing of the reply came, or, where it is brought whole, some of it or all of it.
-pub data PausesBefore {D K W G I : Type 0} (becomes : D → List Event → D → Type 0) (stamp : Stamp) (a : D) (p : Place W) (asked : K → ℕ → Family (Unit {0}) W G I) (is_whole : K → Type 0) (b : D) (new : Place W) (first : K → List RawMessage → First G I) : Type 0 where
-  NoneCame : Pauses becomes stamp a p b new → ((k : K) → first k ≡ (asked k 0).first) → PausesBefore becomes stamp a p asked is_whole b new first
-  SomeCame : (k : K) → is_whole k → PausesFor becomes stamp a (before_found p asked k) b (alone new (first k)) → PausesBefore becomes stamp a p asked is_whole b new first
-  AllCame : (k : K) → is_whole k → BroughtBefore becomes stamp a (before_found p asked k) (first k) (λ mid q. Pauses becomes stamp mid q b new) → PausesBefore becomes stamp a p asked is_whole b new first
+-- Of a reply that is brought whole some came, and one waits for more; or all of it came, which opens the stream, and one waits for what is found out behind that.
+pub data WholeCame {D W G I : Type 0} (becomes : D → List Event → D → Type 0) (stamp : Stamp) (a : D) (old : Family (Unit {0}) W G I) (b : D) (new : Family (Unit {0}) W G I) : Type 0 where
+  SomeCame : PausesFor becomes stamp a old b new → WholeCame becomes stamp a old b new
+  AllCame : (IsNoItem (new.first []).told → ⊥) → BroughtBefore becomes stamp a old new.first (λ mid q. Pauses becomes stamp mid q b (new.place tt)) → WholeCame becomes stamp a old b new
 
--- One waits before it was found out, or behind that.
-abbrev pub PausesLater : {D K W G I : Type 0} → (D → List Event → D → Type 0) → Stamp → D → Place W → (asked : K → ℕ → Family (Unit {0}) W G I) → (is_whole : K → Type 0) → D → (new : Place W) → (first : K → List RawMessage → First G I) → (knows : Option K) → Type 0
-PausesLater becomes stamp a p asked is_whole b new first knows =
-    ((knows ≡ None) × PausesBefore becomes stamp a p asked is_whole b new first) ⊎ FoundOut becomes stamp a p asked is_whole (λ k mid q. (knows ≡ Some k) × PausesFor becomes stamp mid q b (alone new (first k)))
+-- what one asks by what will be found out
+abbrev pub asks_by : {K W G I : Type 0} → (asked : K → ℕ → Family (Unit {0}) W G I) → K → Dialogue W
+asks_by asked k = ((asked k 0).place tt).dialogue
+
+-- One waits before it was found out. By each of what may be found out: what is asked then stays, or is what one asks oneself; and where the reply is brought whole it came so far,
+-- and else nothing of it came that tells something.
+pub record PausesBefore {D K W G I : Type 0} (becomes : D → List Event → D → Type 0) (stamp : Stamp) (a : D) (p : Place W) (asked : K → ℕ → Family (Unit {0}) W G I) (is_whole : K → Type 0) (b : D) (new : Place W) (asks : K → ℕ → Family (Unit {0}) W G I) : Type 0 where
+  pub pauses : Pauses becomes stamp a p b new
+  pub stays : (k : K) → (asks_by asks k ≡ asks_by asked k) ⊎ ((asks_by asked k ≡ p.dialogue) × (asks_by asks k ≡ new.dialogue))
+  pub came : (k : K) → is_whole k → WholeCame becomes stamp a (before_found p asked k) b (before_found new asks k)
+  pub same : (k : K) → (is_whole k → ⊥) → (asks k 0).first ≡ (asked k 0).first
+
+-- One waits before it was found out, and so does he who finds it out; or behind that.
+abbrev pub PausesLater : {D K W G I : Type 0} → (D → List Event → D → Type 0) → Stamp → D → (finding : Place K) → Place W → (asked : K → ℕ → Family (Unit {0}) W G I) → (is_whole : K → Type 0) → D → (new_finding : Place K) → (new : Place W) → (asks : K → ℕ → Family (Unit {0}) W G I) → (knows : Option K) → Type 0
+PausesLater becomes stamp a finding p asked is_whole b new_finding new asks knows =
+    ((knows ≡ None) × PausesBefore becomes stamp a p asked is_whole b new asks × Pauses becomes stamp a finding b new_finding)
+    ⊎ FoundOut becomes stamp a p asked is_whole (λ k mid q. (knows ≡ Some k) × PausesFor becomes stamp mid q b (before_found new asks k) × IsFound becomes stamp a finding b k)

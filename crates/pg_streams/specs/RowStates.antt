@@ -82,6 +82,10 @@ statement_of s = s.items.giving.statement
 abbrev pub affected_of : RowStream → Option ℕ
 affected_of s = s.items.giving.affected
 
+-- it gives more, and no command ended yet
+abbrev pub IsBegun : RowStream → Type 0
+IsBegun s = (rows_over s ≡ false) × (affected_of s ≡ None)
+
 -- What a poll gives: a row, where it is told first, which stands in front of what comes from the new place on; the end, where that is, behind
 -- which nothing comes; or an error, where no row is told first.
 abbrev pub GivesRow : {D : Type 0} → (D → List Event → D → Type 0) → Stamp → D → (from : Family (RowsGiven → RowsGiven) RowsGiven RowGiving (RowOf Column)) → D → RowStream → Option (Result (RowOf Column) Error) → Type 0

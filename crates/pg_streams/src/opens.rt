@@ -24,16 +24,16 @@ pub trait Opens {
     /// Where he stands, and the request that is read.
     ghost place: { Self → Place Whole };
 
-    /// What is known of the reply once it is asked for, and stays.
+    /// What is known of the reply before its stream is handed on, and stays.
     ghost Known: { Type 0 };
 
-    /// That of a state. None where it has to find that out, before it asks for the reply.
+    /// That of a state. None until it was found out, where it has to be.
     ghost knows: { Self → Option Known };
 
     /// That of a stream.
     ghost known: { Self.Stream → Known };
 
-    /// What he asks and is answered who found that out.
+    /// What he asks and is answered who found that out; or what he asks who stands there, where the reply itself tells that.
     ghost asks: { Self → Known → Dialogue Whole };
 
     /// Where he stands who finds that out, and the request that is read then. It is read by nobody where it is known.
@@ -51,7 +51,7 @@ pub trait Opens {
     /// What was told first then. The messages that are left are those that the stream reads next.
     ghost opened: { Self.Stream → List RawMessage → First (Unit {0}) (Unit {0}) };
 
-    /// The stream gives more.
+    /// The stream gives more, and stands as one that is handed on.
     ghost is_open: { Self.Stream → Type 0 };
 
     /// It hasn't answered.
@@ -60,7 +60,9 @@ pub trait Opens {
     /// Goes on until it hands on the stream, or an error, or no message is there. Each state says when which error comes. Behind
     /// one that a message tells the request was hung up; at OutOfMemory nobody reads or hangs up what is left of the reply.
     /// Where it has to find out what it asks for, some of the events do that, and what is told first is said of the others; or all
-    /// that the stream gives was brought before that, and what is told first is said of what brought it.
+    /// that the stream gives was brought before that, and what is told first is said of what brought it. Where the reply itself tells
+    /// what is found out, both are said of all events. What is known of the
+    /// stream is what one is answered who finds that out.
     fn poll<D: Desk>(
         &mut self,
         alloc: Global,
@@ -74,7 +76,7 @@ pub trait Opens {
         ensures known { (k : Known) → knows self.old ≡ Some k → MatchPoll result (λ r. IfOk r (λ stream. known stream ≡ k)) (knows self.new ≡ Some k) }
         ensures finds { knows self.old ≡ None → MatchPoll result
             (λ r. HandsOnLater D.becomes (λ s. alone (stands s) (opened s)) is_open known is_whole stamp desk.old (finding self.old) (place self.old) (asking (asks self.old) (first self.old)) desk.new r)
-            (PausesLater D.becomes stamp desk.old (place self.old) (asking (asks self.old) (first self.old)) is_whole desk.new (place self.new) (first self.new) (knows self.new) × is_live self.new) };
+            (PausesLater D.becomes stamp desk.old (finding self.old) (place self.old) (asking (asks self.old) (first self.old)) is_whole desk.new (finding self.new) (place self.new) (asking (asks self.new) (first self.new)) (knows self.new) × is_live self.new) };
 
     /// Ends it without an answer, and does what is left to do.
     fn hang_up<D: Desk>(self, alloc: Global, desk: &mut D, stamp: Stamp) -> Result<(), Error>

@@ -1,12 +1,12 @@
 //! A statement that is queried, whose rows are given one by one.
 
-ghost use Rattle.std.specs.Prelude.{◌≡◌, ℕ, false, IfOk, Some};
+ghost use Rattle.std.specs.Prelude.{◌≡◌, ℕ, IfOk, Some};
 ghost use Rattle.pg_query.specs.Meaning.{MatchPoll};
 ghost use Rattle.pg_execute.specs.Executes.{close_part};
 ghost use Rattle.pg_streams.specs.Families.{PausesFor};
 ghost use Rattle.pg_streams.specs.Handing.{HandsOn, alone};
 ghost use Rattle.pg_streams.specs.RowStates as spec;
-ghost use Rattle.pg_streams.specs.RowStates.{IsLiveAt, IsLiveState, IsOpening, asked, opening, rows_opened, rows_over, rows_place, stage_first, stage_place, stage_statement, state_first, state_place, state_statement, statement_of};
+ghost use Rattle.pg_streams.specs.RowStates.{IsBegun, IsLiveAt, IsLiveState, IsOpening, asked, asked_first, opening, rows_opened, rows_place, stage_first, stage_place, stage_statement, state_first, state_place, state_statement, statement_of};
 ghost use Rattle.pg_streams.specs.RowStreams.{query_raw};
 
 use crate::items::Items;
@@ -101,6 +101,7 @@ impl<'a> StatementRawState<'a> {
         ensures live { ⟦<StatementRawState<'a> as opens::Opens>⟧.is_live result }
         ensures asks { (⟦<StatementRawState<'a> as opens::Opens>⟧.place result).dialogue ≡ query_raw statement.now values.now }
         ensures knows { ⟦<StatementRawState<'a> as opens::Opens>⟧.knows result ≡ Some statement.now }
+        ensures first { ⟦<StatementRawState<'a> as opens::Opens>⟧.first result ≡ (λ _. asked_first statement.now) }
     {
         StatementRawState {
             stage: Stage::New(Handed::Borrowed(statement), values),
@@ -112,6 +113,7 @@ impl<'a> StatementRawState<'a> {
         ensures live { ⟦<StatementRawState<'a> as opens::Opens>⟧.is_live result }
         ensures asks { (⟦<StatementRawState<'a> as opens::Opens>⟧.place result).dialogue ≡ query_raw statement values.now }
         ensures knows { ⟦<StatementRawState<'a> as opens::Opens>⟧.knows result ≡ Some statement }
+        ensures first { ⟦<StatementRawState<'a> as opens::Opens>⟧.first result ≡ (λ _. asked_first statement) }
     {
         StatementRawState {
             stage: Stage::New(Handed::Owned(statement), values),
@@ -155,7 +157,7 @@ impl<'a> StatementRawState<'a> {
     ) -> Poll<Result<RowStream, Error>>
         requires { IsOpening items }
         ensures opens { MatchPoll result
-            (λ r. HandsOn D.becomes (λ s. alone (rows_place s) (rows_opened s)) (λ s. rows_over s ≡ false) stamp desk.old (opening items) desk.new r)
+            (λ r. HandsOn D.becomes (λ s. alone (rows_place s) (rows_opened s)) IsBegun stamp desk.old (opening items) desk.new r)
             (PausesFor D.becomes stamp desk.old (opening items) desk.new (alone (stage_place self.new.stage) (stage_first self.new.stage)) × IsLiveAt self.new.stage) }
         ensures known { MatchPoll result
             (λ r. IfOk r (λ stream. statement_of stream ≡ items.giving.statement))
@@ -176,10 +178,9 @@ impl<'a> StatementRawState<'a> {
 }
 
 impl<'a> opens::Opens for StatementRawState<'a> {
-    ghost use Rattle.std.specs.Prelude.{◌≡◌, false};
     ghost use Rattle.pg_statements.specs.declared.statement.Described as described;
     ghost use Rattle.pg_streams.specs.Handing.{never_whole, nothing_to_find};
-    ghost use Rattle.pg_streams.specs.RowStates.{IsLiveAt, rows_opened, rows_over, rows_place, stage_first, stage_place, stage_statement, statement_of};
+    ghost use Rattle.pg_streams.specs.RowStates.{IsBegun, IsLiveAt, rows_opened, rows_place, stage_first, stage_place, stage_statement, statement_of};
     ghost use Rattle.pg_streams.specs.RowStreams as streams;
 
     type Stream = RowStream;
@@ -206,7 +207,7 @@ impl<'a> opens::Opens for StatementRawState<'a> {
 
     ghost opened = { rows_opened };
 
-    ghost is_open = { λ s. rows_over s ≡ false };
+    ghost is_open = { IsBegun };
 
     ghost is_live = { λ s. IsLiveAt s.stage };
 

@@ -186,7 +186,7 @@ impl RowStream {
     /// then on. An error is given once, and None from then on. The errors are those of a query: behind one that a message
     /// tells the request was hung up; Closed comes where the desk gives no more of the reply. Where the reply was taken before, its
     /// request was hung up then, and nothing is asked of the desk. At OutOfMemory nobody reads or hangs up what is left of the
-    /// reply: the connection is to be given up.
+    /// reply: the connection is to be given up, but where the reply was taken before.
     pub fn poll_next<D: Desk>(
         &mut self,
         alloc: Global,

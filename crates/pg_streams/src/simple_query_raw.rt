@@ -1,6 +1,6 @@
 //! A simple query whose reply is given part by part.
 
-ghost use Rattle.std.specs.Prelude.{◌≡◌};
+ghost use Rattle.std.specs.Prelude.{◌≡◌, None};
 ghost use Rattle.pg_streams.specs.SimpleStreams.{IsFrameOf, simple_query_raw};
 
 use crate::opens::Opens;
@@ -42,6 +42,7 @@ impl<'a> SimpleQueryRawState<'a> {
     pub fn new(text: &'a str) -> SimpleQueryRawState<'a>
         ensures live { ⟦<SimpleQueryRawState<'a> as Opens>⟧.is_live result }
         ensures asks { (⟦<SimpleQueryRawState<'a> as Opens>⟧.place result).dialogue ≡ simple_query_raw text.now }
+        ensures first { ⟦<SimpleQueryRawState<'a> as Opens>⟧.first result ≡ (λ _ more. record { told = None; giving = tt; left = more }) }
     {
         SimpleQueryRawState { text: Some(text) }
     }

@@ -4,6 +4,8 @@ use Rattle.pg_streams.specs.Hearing.{IsNoItem}
 use Rattle.pg_streams.specs.RowStates.{opening_told}
 use Rattle.pg_streams.specs.RowStreams.{RowsGiven}
 use Rattle.pg_streams.specs.RowTelling.{opening_heard}
+use Rattle.pg_streams.specs.declared.items.Items.{Items}
+use Rattle.pg_streams.specs.declared.row_giving.RowGiving.{RowGiving}
 use Rattle.pg_streams.specs.declared.row_giving.RowOpening.{RowOpening}
 use Rattle.pg_streams.proofs.Asking.{errs-whole, pauses-whole, poll-lacks}
 use Rattle.pg_streams.proofs.Opening.{given-bound, given-error, still-unbound, now-bound, opened-goes, opened-on}
@@ -43,7 +45,10 @@ returns-in-Ready-Some-Ok-clause-opens g c =
     let ok = c.in-Ready-Some-Ok in
     let goes = given-bound g.D.Desk.becomes c.args.stamp c.args.desk.now c.poll_next.new.desk c.args.items c.poll_next.new.self ok.field-0 ok.field-0-0 ok.field-0-is (ok.ensures.gives c.requires.on) ok.field-0-0-0 ok.field-0-0-is in (
       opened-goes c.args.items c.poll_next.new.self c.opened.result c.opened.ensures.stands c.opened.ensures.is c.opened.ensures.taken goes,
-      opened-on c.args.items c.poll_next.new.self c.opened.result ok.field-0 ok.field-0-0 c.opened.ensures.is c.requires.on ok.ensures.over ok.field-0-is ok.field-0-0-is,
+      (
+        opened-on c.args.items c.poll_next.new.self c.opened.result ok.field-0 ok.field-0-0 c.opened.ensures.is c.requires.on ok.ensures.over ok.field-0-is ok.field-0-0-is,
+        ap (λ (items : Items RowGiving). items.giving.affected) c.opened.ensures.is,
+      ),
     )
 
 pub returns-in-Ready-Some-Err-clause-opens : goal.returns-in-Ready-Some-Err-clause-opens

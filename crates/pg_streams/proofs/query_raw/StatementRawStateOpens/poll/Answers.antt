@@ -6,7 +6,7 @@ use Rattle.pg_execute.specs.Parameters.{execute_request}
 use Rattle.pg_streams.specs.Families.{AnswersFor, Family, PausesFor}
 use Rattle.pg_streams.specs.Handing.{HandsOn, alone}
 use Rattle.pg_streams.specs.Hearing.{IsNoItem}
-use Rattle.pg_streams.specs.RowStates.{IsLiveAt, asked, asked_first, handed, opening, rows_opened, rows_over, rows_place, stage_first, stage_place, stage_statement, statement_of}
+use Rattle.pg_streams.specs.RowStates.{IsBegun, IsLiveAt, asked, asked_first, handed, opening, rows_opened, rows_place, stage_first, stage_place, stage_statement, statement_of}
 use Rattle.pg_streams.specs.RowStreams.{RowsGiven, query_raw, rows_from}
 use Rattle.pg_streams.specs.declared.query_raw.Stage.{Stage}
 use Rattle.pg_streams.specs.declared.row_stream.RowStream.{RowStream}
@@ -37,9 +37,9 @@ returns-in-Ok-ask-clause-opens g c k said =
     ∙ asks-only (handed c.in-New.handed) c.in-New.values.now
     ∙ ap (λ (s : Statement). asked None s c.in-New.values.now 0) (sym c.in-Ok.ensures) in
     subst (λ (q : Family (Unit {0}) RowsGiven (Unit {0}) (Unit {0})). MatchPoll c.open.result
-    (λ r. HandsOn g.D.Desk.becomes rows-stand (λ s. rows_over s ≡ false) c.args.stamp c.args.desk.now q c.open.new.desk r)
+    (λ r. HandsOn g.D.Desk.becomes rows-stand IsBegun c.args.stamp c.args.desk.now q c.open.new.desk r)
     (PausesFor g.D.Desk.becomes c.args.stamp c.args.desk.now q c.open.new.desk (stage-stands c.open.new.self.stage) × IsLiveAt c.open.new.self.stage)) (sym is)
-    (handed-on g.met.D.Desk.joins rows-stand (λ s. rows_over s ≡ false) (c.in-Ok-ask.ensures.goes 0).0 c.open.new.desk (stage-stands c.open.new.self.stage) (IsLiveAt c.open.new.self.stage) c.open.result c.open.ensures.opens)
+    (handed-on g.met.D.Desk.joins rows-stand IsBegun (c.in-Ok-ask.ensures.goes 0).0 c.open.new.desk (stage-stands c.open.new.self.stage) (IsLiveAt c.open.new.self.stage) c.open.result c.open.ensures.opens)
 
 pub returns-in-Err-clause-opens : goal.returns-in-Err-clause-opens
 returns-in-Err-clause-opens g c k said =
@@ -53,7 +53,7 @@ pub returns-in-Opens-clause-opens : goal.returns-in-Opens-clause-opens
 returns-in-Opens-clause-opens g c k said =
     let is : stage-stands c.args.self.now.stage ≡ opening c.in-Opens.items = ap (λ (stage : Stage). stage-stands stage) (sym c.replace.ensures.value ∙ c.in-Opens.is) in
     subst (λ (q : Family (Unit {0}) RowsGiven (Unit {0}) (Unit {0})). MatchPoll c.open-in-Opens.result
-    (λ r. HandsOn g.D.Desk.becomes rows-stand (λ s. rows_over s ≡ false) c.args.stamp c.args.desk.now q c.open-in-Opens.new.desk r)
+    (λ r. HandsOn g.D.Desk.becomes rows-stand IsBegun c.args.stamp c.args.desk.now q c.open-in-Opens.new.desk r)
     (PausesFor g.D.Desk.becomes c.args.stamp c.args.desk.now q c.open-in-Opens.new.desk (stage-stands c.open-in-Opens.new.self.stage) × IsLiveAt c.open-in-Opens.new.self.stage)) (sym is) c.open-in-Opens.ensures.opens
 
 -- ---- its statement
