@@ -1,5 +1,5 @@
 -- Where the state of a query stands whose rows are given one by one.
-use Rattle.std.specs.Prelude.{List, Option, Some, None, Result, Err}
+use Rattle.std.specs.Prelude.{◌≡◌, ℕ, List, Option, Some, None, Result, Err}
 use Rattle.pg_spec.specs.RawMessages.{RawMessage}
 use Rattle.pg_faults.specs.declared.error.Error.{Error}
 use Rattle.pg_faults.specs.declared.error.Error.TheVariants.{Closed}
@@ -10,6 +10,7 @@ use Rattle.pg_query.specs.Meaning.{Place}
 use Rattle.pg_prepared.specs.contracts.prepare.PrepareStatePolled.TheImpl as prepared
 use Rattle.pg_prepared.specs.declared.prepare.PrepareState.{PrepareState}
 use Rattle.pg_execute.specs.Executes.{close_part, closed_by, on_text}
+use Rattle.pg_executed.specs.Texts.{prepare_text}
 use Rattle.pg_execute.specs.declared.target.Target.{Target}
 use Rattle.pg_execute.specs.declared.target.Target.TheVariants.{Query, Statement, Owned}
 use Rattle.pg_streams.specs.Handing.{nothing_to_find}
@@ -42,6 +43,19 @@ queried_and_closed vs s = closed_by (close_part s.name) (query_raw s vs)
 -- where one stands who queries it with these values, and whose prepare stands there
 abbrev pub text_place : Place Described → List Value → Place RowsGiven
 text_place p vs = record { dialogue = on_text p.dialogue (λ s. query_raw s vs); reads = p.reads }
+
+-- What is found out of a text: the statement that its prepare answers. By that one asks to query it and to close it behind that, and what is told first is what
+-- opens the rows of that statement.
+pub record FindsText (text : List ℕ) (vs : List Value) (finding : Place Described) (asks : Described → Dialogue RowsGiven) (first : Described → List RawMessage → First (Unit {0}) (Unit {0})) : Type 0 where
+  pub found : finding.dialogue ≡ prepare_text text
+  pub asked : (k : Described) → asks k ≡ queried_and_closed vs k
+  pub opens : (k : Described) → first k ≡ asked_first k
+
+-- the same of what is handed in: of a statement nothing is to be found out, and what is told first is what opens its rows
+abbrev pub FindsIn : Target → List Value → Place Described → (asks : Described → Dialogue RowsGiven) → (first : Described → List RawMessage → First (Unit {0}) (Unit {0})) → Type 0
+FindsIn (Query text) vs finding asks first = FindsText text.now vs finding asks first
+FindsIn (Statement s) vs finding asks first = first ≡ (λ k. asked_first s.now)
+FindsIn (Owned s) vs finding asks first = first ≡ (λ k. asked_first s)
 
 -- ---- a stage
 

@@ -1,6 +1,6 @@
 //! A statement or a text is queried, and its rows are given one by one.
 
-ghost use Rattle.std.specs.Prelude.{◌≡◌, ℕ, false, Some, IfOk};
+ghost use Rattle.std.specs.Prelude.{◌≡◌, ℕ, Some, IfOk};
 ghost use Rattle.pg_statements.specs.declared.statement.Described.{Described};
 ghost use Rattle.pg_query.specs.Meaning.{MatchPoll};
 ghost use Rattle.pg_execute.specs.Executes.{close_part};
@@ -8,9 +8,9 @@ ghost use Rattle.pg_execute.specs.Targets.{on_target};
 ghost use Rattle.pg_executed.specs.Texts.{prepare_text};
 ghost use Rattle.pg_streams.specs.Families.{PausesFor};
 ghost use Rattle.pg_streams.specs.Handing.{HandsOn, HandsOnLater, PausesLater, alone, asking, never_whole};
-ghost use Rattle.pg_streams.specs.RowStates.{IsLiveState, asked, asked_first, rows_opened, rows_over, rows_place, state_first, state_place, state_statement, statement_of};
+ghost use Rattle.pg_streams.specs.RowStates.{IsBegun, IsLiveState, asked, asked_first, rows_opened, rows_place, state_first, state_place, state_statement, statement_of};
 ghost use Rattle.pg_streams.specs.RowStreams.{query_raw};
-ghost use Rattle.pg_raw.specs.States.{IsLiveAt, IsPreparing, place_of_prepare, queried_and_closed, stage_first, stage_place, stage_statement, statement_in, text_place};
+ghost use Rattle.pg_raw.specs.States.{FindsIn, IsLiveAt, IsPreparing, place_of_prepare, queried_and_closed, stage_asks, stage_finding, stage_first, stage_place, stage_statement, statement_in, text_place};
 
 use futures::task::Poll;
 use pg_desk::{Desk, Stamp};
@@ -50,6 +50,7 @@ impl<'a> QueryRawState<'a> {
         ensures live { ⟦<QueryRawState<'a> as Opens>⟧.is_live result }
         ensures asks { (⟦<QueryRawState<'a> as Opens>⟧.place result).dialogue ≡ on_target prepare_text (λ s. query_raw s values.now) target.entry }
         ensures knows { ⟦<QueryRawState<'a> as Opens>⟧.knows result ≡ statement_in target.entry }
+        ensures finds { FindsIn target.entry values.now (⟦<QueryRawState<'a> as Opens>⟧.finding result) (⟦<QueryRawState<'a> as Opens>⟧.asks result) (⟦<QueryRawState<'a> as Opens>⟧.first result) }
     {
         match target {
             Target::Query(text) => {
@@ -81,8 +82,8 @@ impl<'a> QueryRawState<'a> {
     ) -> Poll<Result<RowStream, Error>>
         requires { IsPreparing state }
         ensures finds { MatchPoll result
-            (λ r. HandsOnLater D.becomes (λ s. alone (rows_place s) (rows_opened s)) (λ s. rows_over s ≡ false) statement_of never_whole stamp desk.old (place_of_prepare state.entry) (text_place (place_of_prepare state.entry) values.now) (asking (queried_and_closed values.now) asked_first) desk.new r)
-            (PausesLater D.becomes stamp desk.old (text_place (place_of_prepare state.entry) values.now) (asking (queried_and_closed values.now) asked_first) never_whole desk.new (stage_place self.new.stage) (stage_first self.new.stage) (stage_statement self.new.stage) × IsLiveAt self.new.stage) }
+            (λ r. HandsOnLater D.becomes (λ s. alone (rows_place s) (rows_opened s)) IsBegun statement_of never_whole stamp desk.old (place_of_prepare state.entry) (text_place (place_of_prepare state.entry) values.now) (asking (queried_and_closed values.now) asked_first) desk.new r)
+            (PausesLater D.becomes stamp desk.old (place_of_prepare state.entry) (text_place (place_of_prepare state.entry) values.now) (asking (queried_and_closed values.now) asked_first) never_whole desk.new (stage_finding self.new.stage) (stage_place self.new.stage) (asking (stage_asks self.new.stage) (stage_first self.new.stage)) (stage_statement self.new.stage) × IsLiveAt self.new.stage) }
     {
         let mut state = state;
         match state.poll(alloc, desk, stamp) {
@@ -105,7 +106,7 @@ impl<'a> QueryRawState<'a> {
         values: &[Value],
     ) -> Poll<Result<RowStream, Error>>
         ensures opens { (n : ℕ) → MatchPoll result
-            (λ r. HandsOn D.becomes (λ s. alone (rows_place s) (rows_opened s)) (λ s. rows_over s ≡ false) stamp desk.old (asked (close_part statement.name) statement values.now n) desk.new r)
+            (λ r. HandsOn D.becomes (λ s. alone (rows_place s) (rows_opened s)) IsBegun stamp desk.old (asked (close_part statement.name) statement values.now n) desk.new r)
             (PausesFor D.becomes stamp desk.old (asked (close_part statement.name) statement values.now n) desk.new (alone (stage_place self.new.stage) (stage_first self.new.stage statement)) × IsLiveAt self.new.stage) }
         ensures known { MatchPoll result (λ r. IfOk r (λ stream. statement_of stream ≡ statement)) (stage_statement self.new.stage ≡ Some statement) }
     {
@@ -125,7 +126,7 @@ impl<'a> QueryRawState<'a> {
     ) -> Poll<Result<RowStream, Error>>
         requires { IsLiveState state }
         ensures opens { (k : Described) → state_statement state.entry ≡ Some k → MatchPoll result
-            (λ r. HandsOn D.becomes (λ s. alone (rows_place s) (rows_opened s)) (λ s. rows_over s ≡ false) stamp desk.old (alone (state_place state.entry) (state_first state.entry)) desk.new r)
+            (λ r. HandsOn D.becomes (λ s. alone (rows_place s) (rows_opened s)) IsBegun stamp desk.old (alone (state_place state.entry) (state_first state.entry)) desk.new r)
             (PausesFor D.becomes stamp desk.old (alone (state_place state.entry) (state_first state.entry)) desk.new (alone (stage_place self.new.stage) (stage_first self.new.stage k)) × IsLiveAt self.new.stage) }
         ensures known { (k : Described) → state_statement state.entry ≡ Some k → MatchPoll result (λ r. IfOk r (λ stream. statement_of stream ≡ k)) (stage_statement self.new.stage ≡ Some k) }
     {
@@ -141,10 +142,9 @@ impl<'a> QueryRawState<'a> {
 }
 
 impl<'a> Opens for QueryRawState<'a> {
-    ghost use Rattle.std.specs.Prelude.{◌≡◌, false};
     ghost use Rattle.pg_statements.specs.declared.statement.Described as described;
     ghost use Rattle.pg_streams.specs.Handing.{never_whole};
-    ghost use Rattle.pg_streams.specs.RowStates.{rows_opened, rows_over, rows_place, statement_of};
+    ghost use Rattle.pg_streams.specs.RowStates.{IsBegun, rows_opened, rows_place, statement_of};
     ghost use Rattle.pg_streams.specs.RowStreams as streams;
     ghost use Rattle.pg_raw.specs.States.{IsLiveAt, stage_asks, stage_finding, stage_first, stage_place, stage_statement};
 
@@ -172,7 +172,7 @@ impl<'a> Opens for QueryRawState<'a> {
 
     ghost opened = { rows_opened };
 
-    ghost is_open = { λ s. rows_over s ≡ false };
+    ghost is_open = { IsBegun };
 
     ghost is_live = { λ s. IsLiveAt s.stage };
 

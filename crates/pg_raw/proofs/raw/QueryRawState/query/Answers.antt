@@ -1,7 +1,6 @@
-use Rattle.std.proofs.Common.{◌≡◌, false}
 use Rattle.pg_streams.specs.Families.{Family}
 use Rattle.pg_streams.specs.Handing.{alone}
-use Rattle.pg_streams.specs.RowStates.{rows_opened, rows_over, rows_place}
+use Rattle.pg_streams.specs.RowStates.{IsBegun, rows_opened, rows_place}
 use Rattle.pg_streams.specs.RowStreams.{RowsGiven}
 use Rattle.pg_streams.specs.declared.row_stream.RowStream.{RowStream}
 use Rattle.pg_streams.proofs.Asking.{handed-on}
@@ -16,7 +15,7 @@ go_on-requires g c = (c.in-Ok.ensures.goes 0).1
 
 pub returns-in-Ok-clause-opens : goal.returns-in-Ok-clause-opens
 returns-in-Ok-clause-opens g c n =
-    handed-on g.met.D.Desk.joins rows-stand (λ s. rows_over s ≡ false) (c.in-Ok.ensures.goes n).0 c.go_on.new.desk (alone (stage_place c.go_on.new.self.stage) (stage_first c.go_on.new.self.stage c.args.statement)) (IsLiveAt c.go_on.new.self.stage)
+    handed-on g.met.D.Desk.joins rows-stand IsBegun (c.in-Ok.ensures.goes n).0 c.go_on.new.desk (alone (stage_place c.go_on.new.self.stage) (stage_first c.go_on.new.self.stage c.args.statement)) (IsLiveAt c.go_on.new.self.stage)
     c.go_on.result (c.go_on.ensures.opens c.args.statement c.in-Ok.ensures.knows)
 
 pub returns-in-Ok-clause-known : goal.returns-in-Ok-clause-known
