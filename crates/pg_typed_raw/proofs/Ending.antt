@@ -35,6 +35,7 @@ use Rattle.pg_streams.specs.declared.giving.Told.TheVariants.{Item}
 use Rattle.pg_streams.proofs.Going.{Joins}
 use Rattle.pg_typed_raw.specs.Rests.{Adds, IsRest, RestComes, RestWaits, came, rest_first, rests, takes_so}
 use Rattle.pg_typed_raw.specs.Taking.{StopsReading}
+use Rattle.pg_typed_raw.specs.TypedRaw.{Asked}
 use Rattle.pg_typed_raw.specs.declared.rests.Rest.{Rest}
 use Rattle.pg_typed_raw.proofs.Takes.{batch-came, fed, no-more, none-came, plan-lacks}
 
@@ -109,12 +110,12 @@ ended-alone d [] h = absurd cc
 ended-alone d (m ∷ ms) h = alone-by d m ms (is_end m) refl h (ended-alone d ms)
 
 -- a message is read there
-pub rest-reads : (s : Rest) → has_ended (came s) ≡ false → (next : List RawMessage → Dialogue RowsGiven) → IsRead (feed (came s) (takes_so next))
-rest-reads s on next = subst (λ (d : Dialogue RowsGiven). IsRead d) (sym (unended (Release ∷ []) (came s) (λ taken. HangUp (next taken)) on)) tt
+pub rest-reads : {T : Type 0} (s : Rest) → has_ended (came s) ≡ false → (next : List RawMessage → Dialogue T) → IsRead (feed (came s) (takes_so next))
+rest-reads {T} s on next = subst (λ (d : Dialogue T). IsRead d) (sym (unended (Release ∷ []) (came s) (λ taken. HangUp (next taken)) on)) tt
 
 -- and the request is left to be hung up
-pub rest-left : (s : Rest) → has_ended (came s) ≡ false → (next : List RawMessage → Dialogue RowsGiven) → cleanup_of (feed (came s) (takes_so next)) ≡ Release ∷ []
-rest-left s on next = ap (λ (d : Dialogue RowsGiven). cleanup_of d) (unended (Release ∷ []) (came s) (λ taken. HangUp (next taken)) on)
+pub rest-left : {T : Type 0} (s : Rest) → has_ended (came s) ≡ false → (next : List RawMessage → Dialogue T) → cleanup_of (feed (came s) (takes_so next)) ≡ Release ∷ []
+rest-left {T} s on next = ap (λ (d : Dialogue T). cleanup_of d) (unended (Release ∷ []) (came s) (λ taken. HangUp (next taken)) on)
 
 -- nothing is told there
 pub rest-silent : (s : Rest) → has_ended (came s) ≡ false → (rest_first (came s ++ [])).told ≡ None
@@ -123,9 +124,9 @@ rest-silent s on =
     ∙ ap (λ (b : Bool). (let f : First (Unit {0}) (Unit {0}) = if b then record { told = Some (Item tt); giving = tt; left = came s } else record { told = None; giving = tt; left = [] } in f).told) on
 
 -- messages that came behind it
-pub rest-fed : (old new : Rest) (ms : List RawMessage) → came new ≡ came old ++ ms → new.id ≡ old.id → rests new ≡ fed ms (rests old)
-rest-fed old new ms is same =
-    let d : (next : List RawMessage → Dialogue RowsGiven) → feed (came new) (takes_so next) ≡ feed ms (feed (came old) (takes_so next)) =
+pub rest-fed : (rows : Bool) (old new : Rest) (ms : List RawMessage) → came new ≡ came old ++ ms → new.id ≡ old.id → rests rows new ≡ fed ms (rests rows old)
+rest-fed rows old new ms is same =
+    let d : (next : List RawMessage → Dialogue (Asked rows)) → feed (came new) (takes_so next) ≡ feed ms (feed (came old) (takes_so next)) =
     λ next. ap (λ (l : List RawMessage). feed l (takes_so next)) is ∙ feed-joined (came old) ms (takes_so next) in
     let f : (more : List RawMessage) → rest_first (came new ++ more) ≡ rest_first (came old ++ (ms ++ more)) =
     λ more. ap (λ (l : List RawMessage). rest_first (l ++ more)) is ∙ ap rest_first (append_assoc (came old) ms more) in
@@ -262,21 +263,21 @@ added old ms new ended items so is same =
 
 -- ---- polls
 
-module _ {D : Type 0} {becomes : D → List Event → D → Type 0} (joins : Joins becomes) {stamp : Stamp} {a b : D} (begin s : Rest) (goes : GoesFor becomes stamp a (rests begin) b (rests s)) (on : has_ended (came s) ≡ false) where
+module _ {D : Type 0} {becomes : D → List Event → D → Type 0} (joins : Joins becomes) {stamp : Stamp} {a b : D} (begin s : Rest) (goes : (rows : Bool) → GoesFor becomes stamp a (rests rows begin) b (rests rows s)) (on : has_ended (came s) ≡ false) where
   -- a batch came, which is kept or not
-  came-more : (c : D) (ms : List RawMessage) → becomes b (call.Take s.id (Ok (taking.Batch ms)) ∷ []) c → GoesFor becomes stamp a (rests begin) c (fed ms (rests s))
-  came-more c ms ev = batch-came joins goes s.id (rest-reads s on) (λ plan. refl) (rest-silent s on) c ms ev
+  came-more : (c : D) (ms : List RawMessage) → becomes b (call.Take s.id (Ok (taking.Batch ms)) ∷ []) c → (rows : Bool) → GoesFor becomes stamp a (rests rows begin) c (fed ms (rests rows s))
+  came-more c ms ev rows = batch-came joins (goes rows) s.id (rest-reads s on) (λ plan. refl) (rest-silent s on) c ms ev
 
-  pub rest-batch : (c : D) (ms : List RawMessage) → becomes b (call.Take s.id (Ok (taking.Batch ms)) ∷ []) c → (next : Rest) → Adds s ms next → GoesFor becomes stamp a (rests begin) c (rests next)
-  rest-batch c ms ev next adds = subst (λ (p : Family _ _ _ _). GoesFor becomes stamp a (rests begin) c p) (sym (rest-fed s next ms adds.messages adds.id)) (came-more c ms ev)
+  pub rest-batch : (c : D) (ms : List RawMessage) → becomes b (call.Take s.id (Ok (taking.Batch ms)) ∷ []) c → (next : Rest) → Adds s ms next → (rows : Bool) → GoesFor becomes stamp a (rests rows begin) c (rests rows next)
+  rest-batch c ms ev next adds rows = subst (λ (p : Family _ _ _ _). GoesFor becomes stamp a (rests rows begin) c p) (sym (rest-fed rows s next ms adds.messages adds.id)) (came-more c ms ev rows)
 
   pub rest-lacks : (c : D) (ms : List RawMessage) → becomes b (call.Take s.id (Ok (taking.Batch ms)) ∷ []) c → (new : Rest) (e : Error) → e ≡ OutOfMemory → RestComes becomes stamp a begin c new (Err e)
-  rest-lacks c ms ev new e is next = plan-lacks (came-more c ms ev) next e is
+  rest-lacks c ms ev new e is rows next = plan-lacks (came-more c ms ev rows) next e is
 
   -- none came yet
   pub rest-none : (c : D) → IsRest s → becomes b (call.Take s.id (Ok taking.Empty) ∷ []) c → RestWaits becomes stamp a begin c s
-  rest-none c is ev = record { pauses = none-came joins goes s.id (rest-reads s on) (λ plan. refl) (rest-silent s on) c ev; is = is; on = on }
+  rest-none c is ev = record { pauses = λ rows. none-came joins (goes rows) s.id (rest-reads s on) (λ plan. refl) (rest-silent s on) c ev; is = is; on = on }
 
   -- no more comes
   pub rest-stops : (c : D) (new : Rest) (e : Error) → StopsReading becomes b s.id c e → RestComes becomes stamp a begin c new (Err e)
-  rest-stops c new e stops next = no-more joins goes s.id (rest-reads s on) (λ plan. refl) c e stops next
+  rest-stops c new e stops rows next = no-more joins (goes rows) s.id (rest-reads s on) (λ plan. refl) c e stops (stops.walked rows) next

@@ -21,24 +21,23 @@ use Rattle.pg_execute.specs.Typed.{all_known, known_or, or_else, type_told}
 use Rattle.pg_streams.specs.Families.{Family, GoesFor}
 use Rattle.pg_streams.specs.Handing.{alone}
 use Rattle.pg_streams.specs.Hearing.{First}
-use Rattle.pg_streams.specs.RowStreams.{RowsGiven}
 use Rattle.pg_streams.proofs.Going.{Joins, goes-joined, goes-nowhere}
 use Rattle.pg_typed_raw.specs.Known.{KnowsAll, KnowsOne, stands_behind}
 use Rattle.pg_typed_raw.proofs.Takes.{plan-answers, plan-lacks}
 
-module _ {D : Type 0} (becomes : D → List Event → D → Type 0) (stays : (a : D) → becomes a [] a) (joins : Joins becomes) (stamp : Stamp) (ms : List RawMessage) (id : ℕ) (first : List RawMessage → First (Unit {0}) (Unit {0})) where
+module _ {D T : Type 0} (becomes : D → List Event → D → Type 0) (stays : (a : D) → becomes a [] a) (joins : Joins becomes) (stamp : Stamp) (ms : List RawMessage) (id : ℕ) (first : List RawMessage → First (Unit {0}) (Unit {0})) where
   -- one stands there, and what is told first stays
-  abbrev pub there-at : Dialogue RowsGiven → Family (Unit {0}) RowsGiven (Unit {0}) (Unit {0})
+  abbrev pub there-at : Dialogue T → Family (Unit {0}) T (Unit {0}) (Unit {0})
   there-at d = alone (stands_behind ms d id) first
 
   -- ---- one type
 
   -- it is built in, so nothing is asked
-  pub built-in : (a : D) (next : Option PgType → Dialogue RowsGiven) (oid : ℕ) (ty : PgType) → built_in_type oid ≡ Some ty → KnowsOne becomes stamp a ms id first next oid a (Ok (Some ty))
+  pub built-in : (a : D) (next : Option PgType → Dialogue T) (oid : ℕ) (ty : PgType) → built_in_type oid ≡ Some ty → KnowsOne becomes stamp a ms id first next oid a (Ok (Some ty))
   built-in a next oid ty is = goes-nowhere becomes stays stamp a (there-at (known_or oid (built_in_type oid) next)) (there-at (next (Some ty))) (ap (λ (o : Option PgType). there-at (known_or oid o next)) (sym is))
 
   -- the desk was asked for it
-  pub kept : (a b : D) (next : Option PgType → Dialogue RowsGiven) (oid : ℕ) (found : Option PgType) → built_in_type oid ≡ None → becomes a (call.Catalog (catalog.TypeOf oid (Ok found)) ∷ []) b → KnowsOne becomes stamp a ms id first next oid b (Ok found)
+  pub kept : (a b : D) (next : Option PgType → Dialogue T) (oid : ℕ) (found : Option PgType) → built_in_type oid ≡ None → becomes a (call.Catalog (catalog.TypeOf oid (Ok found)) ∷ []) b → KnowsOne becomes stamp a ms id first next oid b (Ok found)
   kept a b next oid found is ev =
       subst (λ (o : Option PgType). GoesFor becomes stamp a (there-at (known_or oid o next)) b (there-at (next found))) (sym is) (record {
         events = call.Catalog (catalog.TypeOf oid (Ok found)) ∷ [];
@@ -48,41 +47,41 @@ module _ {D : Type 0} (becomes : D → List Event → D → Type 0) (stays : (a 
       })
 
   -- it refused, and the request was hung up
-  pub refused : (a b c : D) (next : Option PgType → Dialogue RowsGiven) (oid : ℕ) (fault : DeskFault) (e given : Error) → built_in_type oid ≡ None → becomes a (call.Catalog (catalog.TypeOf oid (Err fault)) ∷ []) b → e ≡ of_fault fault →
-      GoesToAnswer {T = RowsGiven} becomes stamp b (record { dialogue = HangUp (Answer (Err e)); reads = id }) c (Err given) → KnowsOne becomes stamp a ms id first next oid c (Err given)
+  pub refused : (a b c : D) (next : Option PgType → Dialogue T) (oid : ℕ) (fault : DeskFault) (e given : Error) → built_in_type oid ≡ None → becomes a (call.Catalog (catalog.TypeOf oid (Err fault)) ∷ []) b → e ≡ of_fault fault →
+      GoesToAnswer {T = T} becomes stamp b (record { dialogue = HangUp (Answer (Err e)); reads = id }) c (Err given) → KnowsOne becomes stamp a ms id first next oid c (Err given)
   refused a b c next oid fault e given is ev same hung =
-      let mid : Place RowsGiven = record { dialogue = HangUp (Answer (Err e)); reads = id } in
-      let there : feed ms (let d : Dialogue RowsGiven = HangUp (Answer (Err (of_fault fault))) in d) ≡ HangUp (Answer (Err e)) =
-      feed-hang-up ms (Answer (Err (of_fault fault))) ∙ ap (λ (x : Error). let d : Dialogue RowsGiven = HangUp (Answer (Err x)) in d) (sym same) in
-      let start : Place RowsGiven = stands_behind ms (known_or oid None next) id in
+      let mid : Place T = record { dialogue = HangUp (Answer (Err e)); reads = id } in
+      let there : feed ms (let d : Dialogue T = HangUp (Answer (Err (of_fault fault))) in d) ≡ HangUp (Answer (Err e)) =
+      feed-hang-up ms (Answer (Err (of_fault fault))) ∙ ap (λ (x : Error). let d : Dialogue T = HangUp (Answer (Err x)) in d) (sym same) in
+      let start : Place T = stands_behind ms (known_or oid None next) id in
       let walked : Walks stamp start.dialogue id (call.Catalog (catalog.TypeOf oid (Err fault)) ∷ []) (feed ms (HangUp (Answer (Err (of_fault fault))))) id =
       called stamp ms id (desk_call.TypeOf oid) (λ x. HangUp (Answer (Err x))) (type_told next) (call.Catalog (catalog.TypeOf oid (Err fault))) (Err fault) (refl, refl) in
       subst (λ (o : Option PgType). GoesToAnswer becomes stamp a (stands_behind ms (known_or oid o next) id) c (Err given)) (sym is)
       (answer-joined becomes joins stamp a start b mid c (Err given) (record {
         events = call.Catalog (catalog.TypeOf oid (Err fault)) ∷ [];
         became = ev;
-        walked = subst (λ (d : Dialogue RowsGiven). Walks stamp start.dialogue id (call.Catalog (catalog.TypeOf oid (Err fault)) ∷ []) d id) there walked;
+        walked = subst (λ (d : Dialogue T). Walks stamp start.dialogue id (call.Catalog (catalog.TypeOf oid (Err fault)) ∷ []) d id) there walked;
       }) hung)
 
   -- want of memory
-  pub one-lacks : (a : D) (next : Option PgType → Dialogue RowsGiven) (oid : ℕ) → KnowsOne becomes stamp a ms id first next oid a (Err OutOfMemory)
+  pub one-lacks : (a : D) (next : Option PgType → Dialogue T) (oid : ℕ) → KnowsOne becomes stamp a ms id first next oid a (Err OutOfMemory)
   one-lacks a next oid =
       let here = there-at (known_or oid (built_in_type oid) next) in
       plan-lacks (goes-nowhere becomes stays stamp a here here refl) tt OutOfMemory refl
 
   -- ---- several
 
-  module _ (later : Dialogue RowsGiven) (next : List PgType → Dialogue RowsGiven) where
+  module _ (later : Dialogue T) (next : List PgType → Dialogue T) where
     -- what is asked for these oids behind those types
-    abbrev pub left : (oids : List ℕ) → (found : List PgType) → Family (Unit {0}) RowsGiven (Unit {0}) (Unit {0})
+    abbrev pub left : (oids : List ℕ) → (found : List PgType) → Family (Unit {0}) T (Unit {0}) (Unit {0})
     left oids found = there-at (all_known later next oids found)
 
     -- what comes behind the type of the first of them
-    abbrev pub behind-one : (oids : List ℕ) → (found : List PgType) → Option PgType → Dialogue RowsGiven
+    abbrev pub behind-one : (oids : List ℕ) → (found : List PgType) → Option PgType → Dialogue T
     behind-one oids found = or_else later (λ ty. all_known later next oids (found ++ ty ∷ []))
 
     module _ (a b c : D) (all oids rest : List ℕ) (found : List PgType) (oid : ℕ) (front : oids ≡ oid ∷ rest) (so : GoesFor becomes stamp a (left all []) b (left oids found)) where
-      abbrev here : Family (Unit {0}) RowsGiven (Unit {0}) (Unit {0})
+      abbrev here : Family (Unit {0}) T (Unit {0}) (Unit {0})
       here = there-at (known_or oid (built_in_type oid) (behind-one rest found))
 
       there : GoesFor becomes stamp a (left all []) b here

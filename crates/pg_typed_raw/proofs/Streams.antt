@@ -25,6 +25,7 @@ use Rattle.pg_execute.specs.declared.how_many.HowMany.TheVariants.{Any}
 use Rattle.pg_streams.specs.RowStreams.{RowsGiven, rows_from, rows_given}
 use Rattle.pg_typed_states.specs.Paired.{paired}
 use Rattle.pg_typed_raw.specs.States.{Books, IsRequest, asks_typed, behind_columns, paired_request, rows_of}
+use Rattle.pg_typed_raw.specs.TypedRaw.{Asked}
 use Rattle.pg_typed_raw.specs.declared.heads.Heads.{Heads}
 use Rattle.pg_typed_raw.proofs.Fresh.{finds-fresh, fresh-clean}
 
@@ -43,7 +44,7 @@ rows-same fields types e = ap (λ (n : ℕ). rows_read Any n (rows_given (unname
 
 -- ---- the request
 
-asks-paired : (text : List ℕ) (types : List PgType) (vs : List Value) (d : Dialogue RowsGiven) → paired (length types) vs (asks_for (typed_request text types vs) d) ≡ asks_for (paired_request text types vs) d
+asks-paired : {T : Type 0} (text : List ℕ) (types : List PgType) (vs : List Value) (d : Dialogue T) → paired (length types) vs (asks_for (typed_request text types vs) d) ≡ asks_for (paired_request text types vs) d
 asks-paired text types vs d = by (length vs == length types)
   where
     refused : Result (List ℕ) Error
@@ -54,7 +55,7 @@ asks-paired text types vs d = by (length vs == length types)
     by false = refl
 
 -- what is read of its reply
-abbrev replied : (rows : Bool) → Dialogue RowsGiven
+abbrev replied : (rows : Bool) → Dialogue (Asked rows)
 replied rows = then_do (reads false head) (behind_columns rows)
 
 pub asks-so : (rows : Bool) (text : List ℕ) (types : List PgType) (vs : List Value) → asks_typed rows text types vs ≡ asks_for (paired_request text types vs) (replied rows)
@@ -94,7 +95,7 @@ same-number text types vs h r is =
 
 module _ {D : Type 0} (becomes : D → List Event → D → Type 0) (stamp : Stamp) (a : D) (text : List ℕ) (types : List PgType) (vs : List Value) where
   -- where it is asked
-  abbrev pub at-begin : (rows : Bool) → Place RowsGiven
+  abbrev pub at-begin : (rows : Bool) → Place (Asked rows)
   at-begin rows = record { dialogue = asks_typed rows text types vs; reads = 0 }
 
   -- it is the request
@@ -108,7 +109,7 @@ module _ {D : Type 0} (becomes : D → List Event → D → Type 0) (stamp : Sta
         λ rows rest. record {
           events = call.Book stamp part false (Ok id) ∷ [];
           became = ev;
-          walked = λ u. subst (λ (d : Dialogue RowsGiven). Walks stamp d 0 (call.Book stamp part false (Ok id) ∷ []) (replied rows) id) (sym (asked rows (Ok part) is)) (replied rows, id, (refl, refl, refl, refl, refl), (refl, refl));
+          walked = λ u. subst (λ (d : Dialogue (Asked rows)). Walks stamp d 0 (call.Book stamp part false (Ok id) ∷ []) (replied rows) id) (sym (asked rows (Ok part) is)) (replied rows, id, (refl, refl, refl, refl, refl), (refl, refl));
           brought = refl;
         },
         refl,
@@ -122,9 +123,9 @@ module _ {D : Type 0} (becomes : D → List Event → D → Type 0) (stamp : Sta
         goes = record {
           events = call.Book stamp part false (Err fault) ∷ [];
           became = ev;
-          walked = subst (λ (d : Dialogue RowsGiven). Walks stamp d 0 (call.Book stamp part false (Err fault) ∷ []) (Answer (Err (of_fault fault))) 0) (sym (asked rows (Ok part) is)) (Answer (Err (of_fault fault)), 0, (refl, refl, refl, refl, refl), (refl, refl));
+          walked = subst (λ (d : Dialogue (Asked rows)). Walks stamp d 0 (call.Book stamp part false (Err fault) ∷ []) (Answer (Err (of_fault fault))) 0) (sym (asked rows (Ok part) is)) (Answer (Err (of_fault fault)), 0, (refl, refl, refl, refl, refl), (refl, refl));
         };
-        answers = inl (ap (λ (x : Error). let d : Dialogue RowsGiven = Answer (Err x) in d) (sym same));
+        answers = inl (ap (λ (x : Error). let d : Dialogue (Asked rows) = Answer (Err x) in d) (sym same));
       }
 
   -- it can't be sent
@@ -137,7 +138,7 @@ module _ {D : Type 0} (becomes : D → List Event → D → Type 0) (stamp : Sta
   not-written stays e (inr lack) rows = record {
     last = at-begin rows;
     goes = record { events = []; became = stays a; walked = (refl, refl) };
-    answers = inr (ap (λ (x : Error). let r : Result RowsGiven Error = Err x in r) lack);
+    answers = inr (ap (λ (x : Error). let r : Result (Asked rows) Error = Err x in r) lack);
   }
 
 -- ---- types that are found

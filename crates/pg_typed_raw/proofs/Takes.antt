@@ -17,12 +17,11 @@ use Rattle.pg_query.proofs.Walking.{answer-joined, walk-joined}
 use Rattle.pg_streams.specs.Families.{Family, GoesFor, PausesFor}
 use Rattle.pg_streams.specs.Handing.{alone}
 use Rattle.pg_streams.specs.Hearing.{Brings, First, Takes, taken}
-use Rattle.pg_streams.specs.RowStreams.{RowsGiven}
 use Rattle.pg_streams.proofs.Going.{Joins, goes-joined, pauses-joined}
-use Rattle.pg_typed_raw.specs.Taking.{StopsReading}
+use Rattle.pg_typed_raw.specs.Taking.{IsAnswered, StopsReading}
 
 -- where one stands once these messages came too
-abbrev pub fed : {P : Type 0} → List RawMessage → Family P RowsGiven (Unit {0}) (Unit {0}) → Family P RowsGiven (Unit {0}) (Unit {0})
+abbrev pub fed : {P T : Type 0} → List RawMessage → Family P T (Unit {0}) (Unit {0}) → Family P T (Unit {0}) (Unit {0})
 fed ms p = record {
   place = λ plan. record { dialogue = feed ms (p.place plan).dialogue; reads = (p.place plan).reads };
   first = λ more. p.first (ms ++ more);
@@ -36,28 +35,28 @@ took-none : {T : Type 0} (stamp : Stamp) (d : Dialogue T) (reads id : ℕ) → I
 took-none stamp (Read cleanup decides next) reads id s same = (_, reads, (sym same, refl, refl), (refl, refl))
 took-none stamp _ reads id s same = absurd s
 
-stopped : {D : Type 0} {becomes : D → List Event → D → Type 0} {b c : D} (stamp : Stamp) (d : Dialogue RowsGiven) (reads id : ℕ) (e : Error) → IsRead d → reads ≡ id → (s : StopsReading becomes b id c e) → Walks stamp d reads s.events (Answer (Err e)) id
-stopped stamp (Read cleanup decides next) reads id e r same s = subst (λ (n : ℕ). Walks stamp (Read cleanup decides next) n s.events (Answer (Err e)) id) (sym same) (s.walked stamp cleanup decides next)
-stopped stamp _ reads id e r same s = absurd r
+stopped : {T : Type 0} (stamp : Stamp) (d : Dialogue T) (reads id : ℕ) (events : List Event) (e : Error) → IsRead d → reads ≡ id → IsAnswered T id events e → Walks stamp d reads events (Answer (Err e)) id
+stopped stamp (Read cleanup decides next) reads id events e r same all = subst (λ (n : ℕ). Walks stamp (Read cleanup decides next) n events (Answer (Err e)) id) (sym same) (all stamp cleanup decides next)
+stopped stamp _ reads id events e r same all = absurd r
 
 -- ---- by one plan
 
-module _ {D P : Type 0} {becomes : D → List Event → D → Type 0} {stamp : Stamp} {a b : D} {from p : Family P RowsGiven (Unit {0}) (Unit {0})} (goes : GoesFor becomes stamp a from b p) (plan : P) where
+module _ {D P T : Type 0} {becomes : D → List Event → D → Type 0} {stamp : Stamp} {a b : D} {from p : Family P T (Unit {0}) (Unit {0})} (goes : GoesFor becomes stamp a from b p) (plan : P) where
   -- the events led there
   pub one-plan : Goes becomes stamp a (from.place plan) b (p.place plan)
   one-plan = record { events = goes.events; became = goes.became; walked = goes.walked plan }
 
   -- want of memory may be the answer there
   pub plan-lacks : (e : Error) → e ≡ OutOfMemory → GoesToAnswer becomes stamp a (from.place plan) b (Err e)
-  plan-lacks e is = record { last = p.place plan; goes = record { events = goes.events; became = goes.became; walked = goes.walked plan }; answers = inr (ap (λ (x : Error). let r : Result RowsGiven Error = Err x in r) is) }
+  plan-lacks e is = record { last = p.place plan; goes = record { events = goes.events; became = goes.became; walked = goes.walked plan }; answers = inr (ap (λ (x : Error). let r : Result T Error = Err x in r) is) }
 
   -- or what comes of it from there
-  pub plan-answers : Joins becomes → (c : D) (r : Result RowsGiven Error) → GoesToAnswer becomes stamp b (p.place plan) c r → GoesToAnswer becomes stamp a (from.place plan) c r
+  pub plan-answers : Joins becomes → (c : D) (r : Result T Error) → GoesToAnswer becomes stamp b (p.place plan) c r → GoesToAnswer becomes stamp a (from.place plan) c r
   plan-answers joins c r h = answer-joined becomes joins stamp a (from.place plan) b (p.place plan) c r (record { events = goes.events; became = goes.became; walked = goes.walked plan }) h
 
 -- ---- a take
 
-module _ {D P : Type 0} {becomes : D → List Event → D → Type 0} (joins : Joins becomes) {stamp : Stamp} {a b : D} {from p : Family P RowsGiven (Unit {0}) (Unit {0})} (goes : GoesFor becomes stamp a from b p) (id : ℕ)
+module _ {D P T : Type 0} {becomes : D → List Event → D → Type 0} (joins : Joins becomes) {stamp : Stamp} {a b : D} {from p : Family P T (Unit {0}) (Unit {0})} (goes : GoesFor becomes stamp a from b p) (id : ℕ)
     (read : (plan : P) → IsRead (p.place plan).dialogue) (reads-it : (plan : P) → (p.place plan).reads ≡ id) where
   -- a batch came
   pub batch-came : ((p.first []).told ≡ None) → (c : D) (ms : List RawMessage) → becomes b (call.Take id (Ok (taking.Batch ms)) ∷ []) c → GoesFor becomes stamp a from c (fed ms p)
@@ -81,14 +80,14 @@ module _ {D P : Type 0} {becomes : D → List Event → D → Type 0} (joins : J
   })
 
   -- no more comes
-  pub no-more : (c : D) (e : Error) → StopsReading becomes b id c e → (plan : P) → GoesToAnswer becomes stamp a (from.place plan) c (Err e)
-  no-more c e s plan = record {
+  pub no-more : (c : D) (e : Error) (s : StopsReading becomes b id c e) → IsAnswered T id s.events e → (plan : P) → GoesToAnswer becomes stamp a (from.place plan) c (Err e)
+  no-more c e s all plan = record {
     last = record { dialogue = Answer (Err e); reads = id };
     goes = record {
       events = goes.events ++ s.events;
       became = joins a b c goes.events s.events goes.became s.became;
       walked = walk-joined stamp (from.place plan).dialogue (from.place plan).reads goes.events s.events (p.place plan).dialogue (Answer (Err e)) (p.place plan).reads id (goes.walked plan)
-          (stopped stamp (p.place plan).dialogue (p.place plan).reads id e (read plan) (reads-it plan) s);
+          (stopped stamp (p.place plan).dialogue (p.place plan).reads id s.events e (read plan) (reads-it plan) all);
     };
     answers = inl refl;
   }
@@ -107,7 +106,7 @@ module _ (W : First (Unit {0}) (Unit {0}) → First (Unit {0}) (Unit {0})) (sile
       mapped-on (taken e) first (λ later. Brings later es last) (λ later. Brings later es (λ more. W (last more))) (λ later l. brings-mapped later last es l) h
 
   -- by one plan
-  pub goes-mapped : {D P : Type 0} {becomes : D → List Event → D → Type 0} {stamp : Stamp} {a b : D} {from p : Family P RowsGiven (Unit {0}) (Unit {0})} → GoesFor becomes stamp a from b p → (plan : P) →
+  pub goes-mapped : {D P T : Type 0} {becomes : D → List Event → D → Type 0} {stamp : Stamp} {a b : D} {from p : Family P T (Unit {0}) (Unit {0})} → GoesFor becomes stamp a from b p → (plan : P) →
       GoesFor becomes stamp a (alone (from.place plan) (λ more. W (from.first more))) b (alone (p.place plan) (λ more. W (p.first more)))
   goes-mapped {from = from} {p = p} goes plan = record {
     events = goes.events;
@@ -116,14 +115,19 @@ module _ (W : First (Unit {0}) (Unit {0}) → First (Unit {0}) (Unit {0})) (sile
     brought = brings-mapped from.first p.first goes.events goes.brought;
   }
 
+  pub pauses-mapped : {D P T : Type 0} {becomes : D → List Event → D → Type 0} {stamp : Stamp} {a b : D} {from p : Family P T (Unit {0}) (Unit {0})} → PausesFor becomes stamp a from b p → (plan : P) →
+      PausesFor becomes stamp a (alone (from.place plan) (λ more. W (from.first more))) b (alone (p.place plan) (λ more. W (p.first more)))
+  unfolding goes-mapped
+  pauses-mapped h plan = record { goes = goes-mapped h.goes plan; waits = λ u. h.waits plan }
+
 -- ---- what the desk answers
 
 -- none will come any more
 pub over-stops : {D : Type 0} {becomes : D → List Event → D → Type 0} {b c : D} (id : ℕ) → becomes b (call.Take id (Ok taking.Over) ∷ []) c → StopsReading becomes b id c Closed
-over-stops id ev = record { events = call.Take id (Ok taking.Over) ∷ []; became = ev; walked = λ stamp cleanup decides next. (Answer (Err Closed), id, (refl, refl, refl), (refl, refl)) }
+over-stops id ev = record { events = call.Take id (Ok taking.Over) ∷ []; became = ev; walked = λ rows stamp cleanup decides next. (Answer (Err Closed), id, (refl, refl, refl), (refl, refl)) }
 
 -- the request is gone, and was hung up
-gone : (answer : Result (Unit {0}) DeskFault) (stamp : Stamp) (id : ℕ) (cleanup : List Cleanup) (decides : List RawMessage → Bool) (next : List RawMessage → Dialogue RowsGiven) →
+gone : {T : Type 0} (answer : Result (Unit {0}) DeskFault) (stamp : Stamp) (id : ℕ) (cleanup : List Cleanup) (decides : List RawMessage → Bool) (next : List RawMessage → Dialogue T) →
     Walks stamp (Read cleanup decides next) id (call.Take id (Ok taking.Gone) ∷ call.HangUp id answer ∷ []) (Answer (Err (left_by answer))) id
 gone (Ok x) stamp id cleanup decides next = (HangUp (Answer (Err Closed)), id, (refl, refl, refl), (Answer (Err Closed), id, (refl, refl, refl), (refl, refl)))
 gone (Err e) stamp id cleanup decides next = (HangUp (Answer (Err Closed)), id, (refl, refl, refl), (Answer (Err (of_fault e)), id, (refl, refl, refl), (refl, refl)))
@@ -133,13 +137,13 @@ gone-stops {becomes = becomes} joins {b} {c} {d} id e ev left =
     subst (λ (x : Error). StopsReading becomes b id d x) (sym left.says) (record {
       events = call.Take id (Ok taking.Gone) ∷ call.HangUp id left.answer ∷ [];
       became = joins b c d (call.Take id (Ok taking.Gone) ∷ []) (call.HangUp id left.answer ∷ []) ev left.became;
-      walked = λ stamp cleanup decides next. gone left.answer stamp id cleanup decides next;
+      walked = λ rows stamp cleanup decides next. gone left.answer stamp id cleanup decides next;
     })
 
 -- the desk refused the take
 pub refused-stops : {D : Type 0} {becomes : D → List Event → D → Type 0} {b c : D} (id : ℕ) (fault : DeskFault) (e : Error) → becomes b (call.Take id (Err fault) ∷ []) c → e ≡ of_fault fault → StopsReading becomes b id c e
 refused-stops {becomes = becomes} {b} {c} id fault e ev is =
-    subst (λ (x : Error). StopsReading becomes b id c x) (sym is) (record { events = call.Take id (Err fault) ∷ []; became = ev; walked = λ stamp cleanup decides next. (Answer (Err (of_fault fault)), id, (refl, refl, refl), (refl, refl)) })
+    subst (λ (x : Error). StopsReading becomes b id c x) (sym is) (record { events = call.Take id (Err fault) ∷ []; became = ev; walked = λ rows stamp cleanup decides next. (Answer (Err (of_fault fault)), id, (refl, refl, refl), (refl, refl)) })
 
 -- ---- a request that is hung up
 

@@ -1,5 +1,5 @@
 -- Where the rest of a reply stands that is taken, before the types of its columns are looked up.
-use Rattle.std.specs.Prelude.{◌≡◌, ◌++◌, List, [], ◌∷◌, true, false, if◌then◌else◌, Option, Some, None, Result, Ok, Err}
+use Rattle.std.specs.Prelude.{◌≡◌, ◌++◌, List, [], ◌∷◌, Bool, true, false, if◌then◌else◌, Option, Some, None, Result, Ok, Err}
 use Rattle.pg_spec.specs.RawMessages.{RawMessage}
 use Rattle.pg_spec.specs.declared.stamps.Stamp.{Stamp}
 use Rattle.pg_desk.specs.declared.event.Event.{Event}
@@ -11,9 +11,9 @@ use Rattle.pg_execute.specs.Typed.{has_ended}
 use Rattle.pg_streams.specs.Brought.{joined}
 use Rattle.pg_streams.specs.Families.{Family, GoesFor, PausesFor}
 use Rattle.pg_streams.specs.Hearing.{First}
-use Rattle.pg_streams.specs.RowStreams.{RowsGiven}
 use Rattle.pg_streams.specs.declared.giving.Told.{Told}
 use Rattle.pg_streams.specs.declared.giving.Told.TheVariants.{Item}
+use Rattle.pg_typed_raw.specs.TypedRaw.{Asked}
 use Rattle.pg_typed_raw.specs.declared.rests.Rest.{Rest}
 
 -- ---- what is told first
@@ -34,12 +34,12 @@ abbrev pub came : Rest → List RawMessage
 came s = joined s.batches.items
 
 -- messages are taken up to the end of the reply, and the request is hung up
-abbrev pub takes_so : (List RawMessage → Dialogue RowsGiven) → Dialogue RowsGiven
+abbrev pub takes_so : {T : Type 0} → (List RawMessage → Dialogue T) → Dialogue T
 takes_so next = Read (Release ∷ []) has_ended (λ taken. HangUp (next taken))
 
 -- where these came
-abbrev pub rests : Rest → Family (List RawMessage → Dialogue RowsGiven) RowsGiven (Unit {0}) (Unit {0})
-rests s = record {
+abbrev pub rests : (rows : Bool) → Rest → Family (List RawMessage → Dialogue (Asked rows)) (Asked rows) (Unit {0}) (Unit {0})
+rests rows s = record {
   place = λ next. record { dialogue = feed (came s) (takes_so next); reads = s.id };
   first = λ more. rest_first (came s ++ more);
 }
@@ -58,11 +58,11 @@ pub record Adds (old : Rest) (ms : List RawMessage) (new : Rest) : Type 0 where
 
 -- The events led to where the rest has ended, or to an error.
 abbrev pub RestComes : {D : Type 0} → (D → List Event → D → Type 0) → Stamp → D → Rest → D → Rest → Result (Unit {0}) Error → Type 0
-RestComes becomes stamp a old b new (Ok u) = GoesFor becomes stamp a (rests old) b (rests new) × (has_ended (came new) ≡ true)
-RestComes becomes stamp a old b new (Err e) = (next : List RawMessage → Dialogue RowsGiven) → GoesToAnswer becomes stamp a ((rests old).place next) b (Err e)
+RestComes becomes stamp a old b new (Ok u) = ((rows : Bool) → GoesFor becomes stamp a (rests rows old) b (rests rows new)) × (has_ended (came new) ≡ true)
+RestComes becomes stamp a old b new (Err e) = (rows : Bool) (next : List RawMessage → Dialogue (Asked rows)) → GoesToAnswer becomes stamp a ((rests rows old).place next) b (Err e)
 
 -- They led to where a message is awaited.
 pub record RestWaits {D : Type 0} (becomes : D → List Event → D → Type 0) (stamp : Stamp) (a : D) (old : Rest) (b : D) (new : Rest) : Type 0 where
-  pub pauses : PausesFor becomes stamp a (rests old) b (rests new)
+  pub pauses : (rows : Bool) → PausesFor becomes stamp a (rests rows old) b (rests rows new)
   pub is : IsRest new
   pub on : has_ended (came new) ≡ false

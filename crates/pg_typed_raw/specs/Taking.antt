@@ -8,15 +8,19 @@ use Rattle.pg_desk.specs.declared.event.Take.TheVariants as taking
 use Rattle.pg_faults.specs.declared.error.Error.{Error}
 use Rattle.pg_query.specs.declared.desk_call.Cleanup.{Cleanup}
 use Rattle.pg_query.specs.Dialogue.{Dialogue, Answer, Read, Walks}
-use Rattle.pg_streams.specs.RowStreams.{RowsGiven}
+use Rattle.pg_typed_raw.specs.TypedRaw.{Asked}
 use Rattle.pg_typed_raw.specs.declared.taking.Came.{Came}
 use Rattle.pg_typed_raw.specs.declared.taking.Came.TheVariants.{Batch, Fails, Nothing}
+
+-- whoever reads the request is answered this error by these events
+abbrev pub IsAnswered : (T : Type 0) → (id : ℕ) → List Event → Error → Type 0
+IsAnswered T id events e = (stamp : Stamp) (cleanup : List Cleanup) (decides : List RawMessage → Bool) (next : List RawMessage → Dialogue T) → Walks stamp (Read cleanup decides next) id events (Answer (Err e)) id
 
 -- No more comes: by these events whoever reads the request is answered this error.
 pub record StopsReading {D : Type 0} (becomes : D → List Event → D → Type 0) (a : D) (id : ℕ) (b : D) (e : Error) : Type 0 where
   pub events : List Event
   pub became : becomes a events b
-  pub walked : (stamp : Stamp) (cleanup : List Cleanup) (decides : List RawMessage → Bool) (next : List RawMessage → Dialogue RowsGiven) → Walks stamp (Read cleanup decides next) id events (Answer (Err e)) id
+  pub walked : (rows : Bool) → IsAnswered (Asked rows) id events e
 
 -- A batch came, or none is there, or no more comes.
 abbrev pub Comes : {D : Type 0} → (D → List Event → D → Type 0) → D → ℕ → D → Came → Type 0

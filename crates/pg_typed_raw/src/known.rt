@@ -1,13 +1,13 @@
 //! The types of columns, where all of them are known, while the request of their rows is read.
 
-ghost use Rattle.std.specs.Prelude.{List, Option};
+ghost use Rattle.std.specs.Prelude.{Bool, List, Option};
 ghost use Rattle.pg_spec.specs.RawMessages.{RawMessage};
+ghost use Rattle.pg_spec.specs.declared.stamps.Stamp.{Stamp};
 ghost use Rattle.pg_types.specs.declared.pg_type.PgType.{PgType};
 ghost use Rattle.pg_query.specs.Dialogue.{Dialogue};
 ghost use Rattle.pg_streams.specs.Hearing.{First};
-ghost use Rattle.pg_streams.specs.RowStreams.{RowsGiven};
-ghost use Rattle.pg_spec.specs.declared.Stamp.{Stamp};
 ghost use Rattle.pg_typed_raw.specs.Known.{KnowsAll, KnowsOne};
+ghost use Rattle.pg_typed_raw.specs.TypedRaw.{Asked};
 
 use crate::taking::fail;
 use pg_desk::Desk;
@@ -20,7 +20,7 @@ use std::collections::VecDeque;
 /// The type of an oid, where it is built in or kept by the desk. Where the desk refuses to tell, the request of this number is hung
 /// up.
 fn known<D: Desk>(alloc: Global, desk: &mut D, id: u64, oid: Oid) -> Result<Option<Type>, Error>
-    ensures { (stamp : Stamp) (ms : List RawMessage) (first : List RawMessage → First (Unit {0}) (Unit {0})) (next : Option PgType → Dialogue RowsGiven) → KnowsOne D.becomes stamp desk.old ms id first next oid desk.new result }
+    ensures { (rows : Bool) (stamp : Stamp) (ms : List RawMessage) (first : List RawMessage → First (Unit {0}) (Unit {0})) (next : Option PgType → Dialogue (Asked rows)) → KnowsOne D.becomes stamp desk.old ms id first next oid desk.new result }
 {
     match Type::from_oid(alloc, oid) {
         Ok(Some(ty)) => return Ok(Some(ty)),
@@ -40,7 +40,7 @@ pub(crate) fn all_known<D: Desk>(
     id: u64,
     oids: VecDeque<Oid>,
 ) -> Result<Option<List<Type>>, Error>
-    ensures { (stamp : Stamp) (ms : List RawMessage) (first : List RawMessage → First (Unit {0}) (Unit {0})) (later : Dialogue RowsGiven) (next : List PgType → Dialogue RowsGiven) → KnowsAll D.becomes stamp desk.old ms id first later next oids.items desk.new result }
+    ensures { (rows : Bool) (stamp : Stamp) (ms : List RawMessage) (first : List RawMessage → First (Unit {0}) (Unit {0})) (later : Dialogue (Asked rows)) (next : List PgType → Dialogue (Asked rows)) → KnowsAll D.becomes stamp desk.old ms id first later next oids.items desk.new result }
 {
     let mut oids = oids;
     let mut found = List::empty(alloc);

@@ -1,6 +1,6 @@
 //! A text is queried with values of given types, and its rows are given one by one.
 
-ghost use Rattle.std.specs.Prelude.{◌≡◌, [], length, Bool, true, MatchResult};
+ghost use Rattle.std.specs.Prelude.{◌≡◌, [], length, true, MatchResult};
 ghost use Rattle.pg_lookup.specs.Lookups.{find_all};
 ghost use Rattle.pg_query.specs.Meaning.{MatchPoll};
 ghost use Rattle.pg_execute.specs.Typed.{has_ended};
@@ -9,8 +9,8 @@ ghost use Rattle.pg_typed_raw.specs.Heads as spec;
 ghost use Rattle.pg_typed_raw.specs.Known.{stands_behind};
 ghost use Rattle.pg_typed_raw.specs.Rests.{IsRest, came, takes_so};
 ghost use Rattle.pg_typed_raw.specs.Rests as resting;
-ghost use Rattle.pg_typed_raw.specs.States.{Books, ComesBehind, Finishes, FindsOn, GivesOn, IsFinding, IsRequest, Polls, ReadsOn, TakesOn, asks_typed, behind_columns, behind_rest, columns_first, found_place, opens_first, paired_request, place_of_finding, rests_first};
-ghost use Rattle.pg_typed_raw.specs.TypedRaw.{oids_of, query_typed_raw};
+ghost use Rattle.pg_typed_raw.specs.States.{Books, Finishes, FindsOn, GivesOn, IsFinding, IsRequest, Polls, ReadsOn, TakesOn, asks_typed, behind_columns, behind_rest, columns_first, found_place, opens_first, paired_request, place_of_finding, rests_first};
+ghost use Rattle.pg_typed_raw.specs.TypedRaw.{FoundRows, finds_rows, oids_of, query_typed_raw};
 ghost use Rattle.pg_typed_states.specs.Paired.{paired};
 
 use crate::columns::{type_oids, unnamed};
@@ -132,7 +132,7 @@ pub struct QueryTypedRawState<'a> {
 
 impl<'a> QueryTypedRawState<'a> {
     /// Makes the state that queries this text with these values, each of the type at its place. It takes no memory, and books nothing
-    /// before its first poll. Parameters comes where the values aren't as many as the types, Parse where the text can't be sent, then
+    /// before its first poll. Parameters comes where the values aren't as many as the types, Parse where the text can't be sent or there are more than 65,535 types, then
     /// ToSql at the first value that can't stand under its type, then Encode where the other frames can't be written; nothing is
     /// booked then. Behind that Db comes at an error of the server, Parse at a message that can't be read, UnexpectedMessage at one
     /// out of place, Closed where the desk takes no requests any more, or gives no more of the reply. Types of columns that aren't
@@ -141,7 +141,9 @@ impl<'a> QueryTypedRawState<'a> {
     pub fn new(text: &'a str, types: &'a [Type], values: &'a [Value]) -> QueryTypedRawState<'a>
         ensures live { ⟦<QueryTypedRawState<'a> as Opens>⟧.is_live result }
         ensures asks { (⟦<QueryTypedRawState<'a> as Opens>⟧.place result).dialogue ≡ paired (length types.now) values.now (query_typed_raw find_all text.now types.now values.now) }
-        ensures first { (rest : Bool) → ⟦<QueryTypedRawState<'a> as Opens>⟧.first result rest ≡ opens_first rest }
+        ensures finds { (⟦<QueryTypedRawState<'a> as Opens>⟧.finding result).dialogue ≡ paired (length types.now) values.now (finds_rows find_all text.now types.now values.now) }
+        ensures stands { ⟦<QueryTypedRawState<'a> as Opens>⟧.asks result ≡ (λ _. (⟦<QueryTypedRawState<'a> as Opens>⟧.place result).dialogue) }
+        ensures first { ⟦<QueryTypedRawState<'a> as Opens>⟧.first result ≡ (λ (k : FoundRows). opens_first k.taken) }
     {
         QueryTypedRawState {
             stage: Stage::New(text, types, values),
@@ -157,7 +159,7 @@ impl<'a> QueryTypedRawState<'a> {
         request: Heads,
     ) -> Poll<Result<RowStream, Error>>
         requires { request.batch ≡ [] }
-        ensures { Polls D.becomes stamp desk.old (λ rows. (spec.heads request).place (behind_columns rows)) opens_first desk.new self.new.stage result }
+        ensures { Polls D.becomes stamp desk.old (λ rows. (spec.heads rows request).place (behind_columns rows)) opens_first desk.new self.new.stage result }
     {
         let mut request = request;
         match request.go_on(alloc, desk, stamp) {
@@ -179,7 +181,7 @@ impl<'a> QueryTypedRawState<'a> {
         columns: List<NewColumn>,
         request: Heads,
     ) -> Poll<Result<RowStream, Error>>
-        ensures { ComesBehind D.becomes stamp desk.old (λ rows. (spec.with_columns columns request).place (behind_columns rows)) (columns_first request.batch) desk.new self.new.stage result }
+        ensures { Polls D.becomes stamp desk.old (λ rows. (spec.with_columns rows columns request).place (behind_columns rows)) (columns_first request.batch) desk.new self.new.stage result }
     {
         let Ok(oids) = type_oids(alloc, columns.as_slice()) else {
             return Poll::Ready(Err(Error::OutOfMemory));
@@ -220,7 +222,7 @@ impl<'a> QueryTypedRawState<'a> {
         rest: Rest,
     ) -> Poll<Result<RowStream, Error>>
         requires { IsRest rest }
-        ensures { TakesOn D.becomes stamp desk.old (λ rows. (resting.rests rest).place (behind_rest rows columns)) (rests_first (came rest)) desk.new self.new.stage result }
+        ensures { TakesOn D.becomes stamp desk.old (λ rows. (resting.rests rows rest).place (behind_rest rows columns)) (rests_first (came rest)) desk.new self.new.stage result }
     {
         let mut rest = rest;
         match rest.go_on(desk, stamp) {
@@ -243,7 +245,7 @@ impl<'a> QueryTypedRawState<'a> {
         rest: Rest,
     ) -> Poll<Result<RowStream, Error>>
         requires { has_ended (came rest) ≡ true }
-        ensures { TakesOn D.becomes stamp desk.old (λ rows. (resting.rests rest).place (behind_rest rows columns)) (rests_first (came rest)) desk.new self.new.stage result }
+        ensures { TakesOn D.becomes stamp desk.old (λ rows. (resting.rests rows rest).place (behind_rest rows columns)) (rests_first (came rest)) desk.new self.new.stage result }
     {
         let Rest { id, batches, .. } = rest;
         match desk.hang_up(id) {
@@ -269,7 +271,7 @@ impl<'a> QueryTypedRawState<'a> {
         requires { IsFinding state }
         ensures { MatchPoll result
             (λ r. Finishes D.becomes stamp desk.old (λ rows. found_place rows columns (joined batches.items) (place_of_finding state)) (joined batches.items) desk.new r)
-            (FindsOn D.becomes stamp desk.old (found_place true columns (joined batches.items) (place_of_finding state)) (joined batches.items) desk.new self.new.stage) }
+            (FindsOn D.becomes stamp desk.old (λ rows. found_place rows columns (joined batches.items) (place_of_finding state)) (joined batches.items) desk.new self.new.stage) }
     {
         let mut state = state;
         match state.poll(alloc, desk, stamp) {
@@ -284,10 +286,11 @@ impl<'a> QueryTypedRawState<'a> {
 }
 
 impl<'a> Opens for QueryTypedRawState<'a> {
-    ghost use Rattle.std.specs.Prelude.{◌≡◌, Bool, None, false, true};
-    ghost use Rattle.pg_streams.specs.RowStates.{rows_opened, rows_over, rows_place, rows_taken};
+    ghost use Rattle.std.specs.Prelude.{◌≡◌, None, false, true};
+    ghost use Rattle.pg_streams.specs.RowStates.{IsBegun, rows_opened, rows_place};
     ghost use Rattle.pg_streams.specs.RowStreams as streams;
-    ghost use Rattle.pg_typed_raw.specs.States.{IsLiveAt, stage_finding, stage_first, stage_place};
+    ghost use Rattle.pg_typed_raw.specs.States.{IsLiveAt, known_of, stage_first, stage_place};
+    ghost use Rattle.pg_typed_raw.specs.TypedRaw as typed;
 
     type Stream = RowStream;
 
@@ -295,25 +298,25 @@ impl<'a> Opens for QueryTypedRawState<'a> {
 
     ghost place = { λ s. stage_place true s.stage };
 
-    ghost Known = { Bool };
+    ghost Known = { typed.FoundRows };
 
     ghost knows = { λ _. None };
 
-    ghost known = { rows_taken };
+    ghost known = { known_of };
 
     ghost asks = { λ s _. (stage_place true s.stage).dialogue };
 
-    ghost finding = { λ s. stage_finding s.stage };
+    ghost finding = { λ s. stage_place false s.stage };
 
-    ghost is_whole = { λ k. k ≡ true };
+    ghost is_whole = { λ k. k.taken ≡ true };
 
-    ghost first = { λ s. stage_first s.stage };
+    ghost first = { λ s k. stage_first s.stage k.taken };
 
     ghost stands = { rows_place };
 
     ghost opened = { rows_opened };
 
-    ghost is_open = { λ s. rows_over s ≡ false };
+    ghost is_open = { IsBegun };
 
     ghost is_live = { λ s. IsLiveAt s.stage };
 

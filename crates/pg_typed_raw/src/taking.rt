@@ -1,11 +1,11 @@
 //! A take from the request that is read, and what ends it.
 
-ghost use Rattle.std.specs.Prelude.{◌≡◌, ◌≤◌, ◌<◌, Ok, Err};
+ghost use Rattle.std.specs.Prelude.{◌≡◌, ◌≤◌, ◌<◌, Bool, Ok, Err};
 ghost use Rattle.pg_spec.specs.declared.stamps.Stamp.{Stamp};
 ghost use Rattle.pg_query.specs.Dialogue.{Answer, HangUp};
 ghost use Rattle.pg_query.specs.Meaning.{GoesToAnswer, Leaves};
-ghost use Rattle.pg_streams.specs.RowStreams.{RowsGiven};
 ghost use Rattle.pg_typed_raw.specs.Taking.{Comes, IsBatch};
+ghost use Rattle.pg_typed_raw.specs.TypedRaw.{Asked};
 
 use pg_desk::{Desk, Take};
 use pg_errors::Error;
@@ -49,7 +49,7 @@ pub(crate) fn take_batch<D: Desk>(desk: &mut D, id: u64) -> Came
 
 /// Hangs up the request of this number behind an error, and gives that, or why the desk refused.
 pub(crate) fn fail<D: Desk>(desk: &mut D, id: u64, error: Error) -> Error
-    ensures { (stamp : Stamp) → GoesToAnswer {T = RowsGiven} D.becomes stamp desk.old (record { dialogue = HangUp (Answer (Err error)); reads = id }) desk.new (Err result) }
+    ensures { (rows : Bool) (stamp : Stamp) → GoesToAnswer {T = Asked rows} D.becomes stamp desk.old (record { dialogue = HangUp (Answer (Err error)); reads = id }) desk.new (Err result) }
 {
     match desk.hang_up(id) {
         Ok(()) => error,

@@ -1,4 +1,4 @@
-use Rattle.std.proofs.Common.{List, [], length}
+use Rattle.std.proofs.Common.{Bool, List, [], length}
 use Rattle.pg_spec.specs.RawMessages.{RawMessage}
 use Rattle.pg_spec.specs.declared.stamps.Stamp.{Stamp}
 use Rattle.pg_types.specs.declared.pg_type.PgType.{PgType}
@@ -7,13 +7,13 @@ use Rattle.pg_execute.specs.Typed.{all_known}
 use Rattle.pg_streams.specs.Families.{GoesFor}
 use Rattle.pg_streams.specs.Handing.{alone}
 use Rattle.pg_streams.specs.Hearing.{First}
-use Rattle.pg_streams.specs.RowStreams.{RowsGiven}
 use Rattle.pg_typed_raw.specs.Known.{stands_behind}
+use Rattle.pg_typed_raw.specs.TypedRaw.{Asked}
 use Rattle.pg_typed_raw.proofs.known.all_known.Given as goal
 
 -- the types so far were found, and the other oids are left
 abbrev pub invariant-loop-oid : goal.invariant-loop-oid
-invariant-loop-oid g l = (stamp : Stamp) (ms : List RawMessage) (first : List RawMessage → First (Unit {0}) (Unit {0})) (later : Dialogue RowsGiven) (next : List PgType → Dialogue RowsGiven) →
+invariant-loop-oid g l = (rows : Bool) (stamp : Stamp) (ms : List RawMessage) (first : List RawMessage → First (Unit {0}) (Unit {0})) (later : Dialogue (Asked rows)) (next : List PgType → Dialogue (Asked rows)) →
     GoesFor g.D.Desk.becomes stamp l.initial.desk (alone (stands_behind ms (all_known later next l.fn.oids.items []) l.fn.id) first) l.desk (alone (stands_behind ms (all_known later next l.oids.items l.found) l.fn.id) first)
 
 abbrev pub decreases-loop-oid : goal.decreases-loop-oid

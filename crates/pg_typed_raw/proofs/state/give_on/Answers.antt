@@ -15,7 +15,8 @@ returns c = record {
       c.of_taken.ensures.stands
       ∙ ap (λ (R : List RawMessage → Option (Result RowsGiven Error)). let d : Dialogue RowsGiven = Answer (collected (feed (joined c.args.batches.items) (reads false R))) in d)
       (ap (λ (s : Described). rows_from s true None) c.in_ok-statement.ensures.is ∙ rows-same c.args.columns c.args.types c.in_ok-statement.ensures.as_many);
+  statement = c.of_taken.ensures.statement ∙ c.in_ok-statement.ensures.is;
   left = c.of_taken.ensures.unread;
   taken = c.of_taken.ensures.taken;
-  open_ = c.of_taken.ensures.on;
+  begun = (c.of_taken.ensures.on, c.of_taken.ensures.affected);
 }

@@ -15,7 +15,8 @@ returns c = record {
       c.behind_columns.ensures.stands
       ∙ ap (λ (R : List RawMessage → Option (Result RowsGiven Error)). let p : Place RowsGiven = record { dialogue = feed c.args.request.batch (reads false R); reads = c.args.request.id } in p)
       (ap (λ (s : Described). rows_from s true None) c.in_ok-statement.ensures.is ∙ rows-same c.args.columns c.args.types c.in_ok-statement.ensures.as_many);
+  statement = c.behind_columns.ensures.statement ∙ c.in_ok-statement.ensures.is;
   left = c.behind_columns.ensures.unread;
   live = c.behind_columns.ensures.taken;
-  open_ = c.behind_columns.ensures.on;
+  begun = (c.behind_columns.ensures.on, c.behind_columns.ensures.affected);
 }

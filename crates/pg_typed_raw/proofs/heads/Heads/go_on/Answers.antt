@@ -1,4 +1,4 @@
-use Rattle.std.proofs.Common.{◌≡◌, [], refl, ap, ◌∙◌}
+use Rattle.std.proofs.Common.{◌≡◌, [], Bool, refl, ap, ◌∙◌}
 use Rattle.pg_streams.specs.Families.{GoesFor}
 use Rattle.pg_streams.proofs.Going.{goes-nowhere}
 use Rattle.pg_typed_raw.specs.Heads.{heads}
@@ -10,7 +10,7 @@ use Rattle.pg_typed_raw.proofs.heads.Heads.go_on.Goals as goal
 
 pub loop-columns-init : goal.loop-columns-init
 loop-columns-init g c = record {
-  goes = goes-nowhere g.D.Desk.becomes g.met.D.Desk.stays c.args.stamp c.args.desk.now (heads c.args.self.now) (heads c.args.self.now) refl;
+  goes = λ rows. goes-nowhere g.D.Desk.becomes g.met.D.Desk.stays c.args.stamp c.args.desk.now (heads rows c.args.self.now) (heads rows c.args.self.now) refl;
   id = refl;
 }
 
@@ -22,13 +22,13 @@ returns-in-Ok-Some-Ok-clause-comes g c =
 pub returns-in-Ok-Some-Err-clause-comes : goal.returns-in-Ok-Some-Err-clause-comes
 returns-in-Ok-Some-Err-clause-comes g c =
     let err = c.in-Ok-Some-Err in
-    to-error c.args.self.now c.loop-columns.self c.read.new.self c.loop-columns.invariant.goes g.met.D.Desk.joins err.field-0 err.field-0-0 err.error err.field-0-is err.field-0-0-is err.ensures.reads c.fail.new.desk c.fail.result (rw err.field-0-0-is at c.fail.ensures c.args.stamp)
+    to-error c.args.self.now c.loop-columns.self c.read.new.self c.loop-columns.invariant.goes g.met.D.Desk.joins err.field-0 err.field-0-0 err.error err.field-0-is err.field-0-0-is err.ensures.reads c.fail.new.desk c.fail.result (λ rows. rw err.field-0-0-is at c.fail.ensures rows c.args.stamp)
 
 pub returns-in-Err-clause-comes : goal.returns-in-Err-clause-comes
 returns-in-Err-clause-comes g c = to-lack c.args.self.now c.loop-columns.self c.read.new.self c.loop-columns.invariant.goes c.in-Err.error c.in-Err.ensures.reads
 
 -- all that came was read
-read-out : (g : Over) (c : After-take_batch g) → GoesFor g.D.Desk.becomes c.args.stamp c.args.desk.now (heads c.args.self.now) c.loop-columns.desk (heads c.read.new.self) × (c.read.new.self.batch ≡ [])
+read-out : (g : Over) (c : After-take_batch g) → ((rows : Bool) → GoesFor g.D.Desk.becomes c.args.stamp c.args.desk.now (heads rows c.args.self.now) c.loop-columns.desk (heads rows c.read.new.self)) × (c.read.new.self.batch ≡ [])
 read-out g c = to-read c.args.self.now c.loop-columns.self c.read.new.self c.loop-columns.invariant.goes c.in-Ok-None.field-0 c.in-Ok-None.field-0-is c.in-Ok-None.ensures.reads
 
 pub loop-columns-preserved : goal.loop-columns-preserved

@@ -1,4 +1,4 @@
-use Rattle.std.proofs.Common.{◌≡◌}
+use Rattle.std.proofs.Common.{◌≡◌, Bool}
 use Rattle.pg_streams.specs.Families.{GoesFor}
 use Rattle.pg_typed_raw.specs.Heads.{heads}
 use Rattle.pg_typed_raw.proofs.heads.Heads.go_on.Given as goal
@@ -6,7 +6,7 @@ use Rattle.pg_typed_raw.proofs.heads.Heads.go_on.Given as goal
 -- what was done so far leads here
 abbrev pub invariant-loop-columns : goal.invariant-loop-columns
 invariant-loop-columns g l = record {
-  goes : GoesFor g.D.Desk.becomes l.fn.stamp l.initial.desk (heads l.initial.self) l.desk (heads l.self);
+  goes : (rows : Bool) → GoesFor g.D.Desk.becomes l.fn.stamp l.initial.desk (heads rows l.initial.self) l.desk (heads rows l.self);
   id : l.self.id ≡ l.initial.self.id;
 }
 

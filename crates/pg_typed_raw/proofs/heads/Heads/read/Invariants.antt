@@ -1,11 +1,11 @@
-use Rattle.std.proofs.Common.{◌≡◌, length}
+use Rattle.std.proofs.Common.{◌≡◌, Bool, length}
 use Rattle.pg_typed_raw.specs.Heads.{heads}
 use Rattle.pg_typed_raw.proofs.heads.Heads.read.Given as goal
 
 -- what was read told nothing
 abbrev pub invariant-loop-message : goal.invariant-loop-message
 invariant-loop-message l = record {
-  reads : heads l.self ≡ heads l.initial.self;
+  reads : (rows : Bool) → heads rows l.self ≡ heads rows l.initial.self;
   id : l.self.id ≡ l.initial.self.id;
 }
 

@@ -6,7 +6,7 @@ use Rattle.pg_typed_raw.proofs.rests.Rest.go_on.Goals as goal
 
 pub loop-self-init : goal.loop-self-init
 loop-self-init g c = record {
-  goes = goes-nowhere g.D.Desk.becomes g.met.D.Desk.stays c.args.stamp c.args.desk.now (rests c.args.self.now) (rests c.args.self.now) refl;
+  goes = λ rows. goes-nowhere g.D.Desk.becomes g.met.D.Desk.stays c.args.stamp c.args.desk.now (rests rows c.args.self.now) (rests rows c.args.self.now) refl;
   is = c.requires;
   id = refl;
 }

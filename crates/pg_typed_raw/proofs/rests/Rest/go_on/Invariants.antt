@@ -1,4 +1,4 @@
-use Rattle.std.proofs.Common.{◌≡◌}
+use Rattle.std.proofs.Common.{◌≡◌, Bool}
 use Rattle.pg_streams.specs.Families.{GoesFor}
 use Rattle.pg_typed_raw.specs.Rests.{IsRest, rests}
 use Rattle.pg_typed_raw.proofs.rests.Rest.go_on.Given as goal
@@ -6,7 +6,7 @@ use Rattle.pg_typed_raw.proofs.rests.Rest.go_on.Given as goal
 -- what was taken so far leads here
 abbrev pub invariant-loop-self : goal.invariant-loop-self
 invariant-loop-self g l = record {
-  goes : GoesFor g.D.Desk.becomes l.fn.stamp l.initial.desk (rests l.initial.self) l.desk (rests l.self);
+  goes : (rows : Bool) → GoesFor g.D.Desk.becomes l.fn.stamp l.initial.desk (rests rows l.initial.self) l.desk (rests rows l.self);
   is : IsRest l.self;
   id : l.self.id ≡ l.initial.self.id;
 }

@@ -1,4 +1,4 @@
-use Rattle.std.proofs.Common.{refl, true}
+use Rattle.std.proofs.Common.{refl}
 use Rattle.pg_streams.proofs.Behind.{error-whole, pauses-whole, value-whole}
 use Rattle.pg_streams.specs.Brought.{joined}
 use Rattle.pg_typed_raw.specs.States.{found_place, had_of, place_of_finding}
@@ -7,8 +7,8 @@ use Rattle.pg_typed_raw.proofs.state.QueryTypedRawState.find.Goals as goal
 
 pub returns-in-Pending : goal.returns-in-Pending
 returns-in-Pending g c = record {
-  pauses = pauses-whole (had_of true c.args.columns (joined c.args.batches.items)) (had-deaf true c.args.columns (joined c.args.batches.items)) g.D.Desk.becomes c.args.stamp c.args.desk.now (place_of_finding c.args.state) c.poll.new.desk (place_of_finding c.poll.new.self) c.in-Pending.ensures.0;
-  first = λ rest. refl;
+  pauses = λ rows. pauses-whole (had_of rows c.args.columns (joined c.args.batches.items)) (had-deaf rows c.args.columns (joined c.args.batches.items)) g.D.Desk.becomes c.args.stamp c.args.desk.now (place_of_finding c.args.state) c.poll.new.desk (place_of_finding c.poll.new.self) c.in-Pending.ensures.0;
+  first = refl;
   live = c.in-Pending.ensures.1;
 }
 

@@ -18,7 +18,7 @@ returns-in-Reads g c =
     let request = c.in-Reads.request in
     let empty : request.batch ≡ [] = subst (λ (stage : Stage). IsLiveAt stage) c.in-Reads.is c.requires in
     subst (λ (stage : Stage). GivesUp g.D.Desk.becomes c.args.stamp c.args.desk.now (stage_place true stage) c.give_up.new.desk c.give_up.result) (sym c.in-Reads.is)
-    (gives-up ((heads request).place (behind_columns true)) (head-left request empty (behind_columns true)) c.give_up.result (c.give_up.ensures c.args.stamp))
+    (gives-up ((heads true request).place (behind_columns true)) (head-left request empty (behind_columns true)) c.give_up.result (c.give_up.ensures c.args.stamp))
 
 pub returns-in-Takes : goal.returns-in-Takes
 returns-in-Takes g c =
@@ -26,7 +26,7 @@ returns-in-Takes g c =
     let columns = c.in-Takes.field-0 in
     let taking = subst (λ (stage : Stage). IsLiveAt stage) c.in-Takes.is c.requires in
     subst (λ (stage : Stage). GivesUp g.D.Desk.becomes c.args.stamp c.args.desk.now (stage_place true stage) c.give_up-in-Takes.new.desk c.give_up-in-Takes.result) (sym c.in-Takes.is)
-    (gives-up ((rests rest).place (behind_rest true columns)) (rest-left rest taking.on (behind_rest true columns)) c.give_up-in-Takes.result (c.give_up-in-Takes.ensures c.args.stamp))
+    (gives-up ((rests true rest).place (behind_rest true columns)) (rest-left rest taking.on (behind_rest true columns)) c.give_up-in-Takes.result (c.give_up-in-Takes.ensures c.args.stamp))
 
 pub returns-in-Finds : goal.returns-in-Finds
 returns-in-Finds g c =
