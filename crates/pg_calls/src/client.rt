@@ -13,11 +13,12 @@ ghost use Rattle.pg_execute.specs.Typed.{execute_typed, query_typed};
 ghost use Rattle.pg_executed.specs.States.{place_of_close, IsLiveClose};
 ghost use Rattle.pg_executed.specs.Texts.{prepare_text};
 ghost use Rattle.pg_lookup.specs.Lookups.{find_all, prepare};
-ghost use Rattle.pg_raw.specs.States.{statement_in};
+ghost use Rattle.pg_raw.specs.States.{FindsIn, statement_in};
 ghost use Rattle.pg_streams.specs.RowStreams.{query_raw};
 ghost use Rattle.pg_streams.specs.SimpleStreams.{simple_query_raw};
 ghost use Rattle.pg_typed_states.specs.Paired.{paired};
-ghost use Rattle.pg_typed_raw.specs.TypedRaw.{query_typed_raw};
+ghost use Rattle.pg_typed_raw.specs.States.{opens_first};
+ghost use Rattle.pg_typed_raw.specs.TypedRaw.{FoundRows, finds_rows, query_typed_raw};
 ghost use Rattle.pg_calls.specs.Clearing.{Clears};
 
 use pg_checks::SessionCheckState;
@@ -101,6 +102,7 @@ impl Client {
     pub fn simple_query_raw<'a>(&self, query: &'a str) -> SimpleQueryRawState<'a>
         ensures live { ⟦<SimpleQueryRawState<'a> as Opens>⟧.is_live result }
         ensures asks { (⟦<SimpleQueryRawState<'a> as Opens>⟧.place result).dialogue ≡ simple_query_raw query.now }
+        ensures first { ⟦<SimpleQueryRawState<'a> as Opens>⟧.first result ≡ (λ _ more. record { told = None; giving = tt; left = more }) }
     {
         SimpleQueryRawState::new(query)
     }
@@ -168,6 +170,7 @@ impl Client {
         ensures live { ⟦<QueryRawState<'a> as Opens>⟧.is_live result }
         ensures asks { (⟦<QueryRawState<'a> as Opens>⟧.place result).dialogue ≡ on_target prepare_text (λ s. query_raw s values.now) target.entry }
         ensures knows { ⟦<QueryRawState<'a> as Opens>⟧.knows result ≡ statement_in target.entry }
+        ensures finds { FindsIn target.entry values.now (⟦<QueryRawState<'a> as Opens>⟧.finding result) (⟦<QueryRawState<'a> as Opens>⟧.asks result) (⟦<QueryRawState<'a> as Opens>⟧.first result) }
     {
         QueryRawState::new(target, values)
     }
@@ -269,6 +272,9 @@ impl Client {
     ) -> QueryTypedRawState<'a>
         ensures live { ⟦<QueryTypedRawState<'a> as Opens>⟧.is_live result }
         ensures asks { (⟦<QueryTypedRawState<'a> as Opens>⟧.place result).dialogue ≡ paired (length types.now) values.now (query_typed_raw find_all query.now types.now values.now) }
+        ensures finds { (⟦<QueryTypedRawState<'a> as Opens>⟧.finding result).dialogue ≡ paired (length types.now) values.now (finds_rows find_all query.now types.now values.now) }
+        ensures stands { ⟦<QueryTypedRawState<'a> as Opens>⟧.asks result ≡ (λ _. (⟦<QueryTypedRawState<'a> as Opens>⟧.place result).dialogue) }
+        ensures first { ⟦<QueryTypedRawState<'a> as Opens>⟧.first result ≡ (λ (k : FoundRows). opens_first k.taken) }
     {
         QueryTypedRawState::new(query, types, values)
     }
