@@ -41,8 +41,10 @@ pub fn settled<T>(given: Result<T, Error>) -> Result<Result<T, Error>, AllocErro
 {
     match given {
         Ok(value) => Ok(Ok(value)),
-        Err(Error::OutOfMemory) => Err(AllocError),
-        Err(error) => Ok(Err(error)),
+        Err(error) => match &error {
+            Error::OutOfMemory => Err(AllocError),
+            _ => Ok(Err(error)),
+        },
     }
 }
 

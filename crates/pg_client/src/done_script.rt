@@ -24,8 +24,10 @@ fn ask_batch(alloc: Global, text: &str) -> Result<SingleRequest<DoneReading, ()>
     let reading = DoneReading::of_batch();
     match query_frame(alloc, text) {
         Ok(frame) => Ok(SingleRequest::new(reading, frame, false)),
-        Err(Error::OutOfMemory) => Err(AllocError),
-        Err(error) => Ok(SingleRequest::refused(reading, error)),
+        Err(error) => match &error {
+            Error::OutOfMemory => Err(AllocError),
+            _ => Ok(SingleRequest::refused(reading, error)),
+        },
     }
 }
 

@@ -43,8 +43,10 @@ fn ask(
     let reading = SimpleReading::new(alloc, take);
     let frame = match query_frame(alloc, text) {
         Ok(frame) => frame,
-        Err(Error::OutOfMemory) => return Err(AllocError),
-        Err(error) => return Ok(SingleRequest::refused(reading, error)),
+        Err(error) => match &error {
+            Error::OutOfMemory => return Err(AllocError),
+            _ => return Ok(SingleRequest::refused(reading, error)),
+        },
     };
     if reading.has_enough() {
         let nothing = Ok(List::empty(alloc));

@@ -11,6 +11,7 @@ use pg_errors::{AsyncMessage, Cause, DbError, Error, ParseFields};
 use pg_types::Held;
 use pg_wire::{BackendMessages, ErrorResponseBody, Message, ParameterStatusBody, WireFault};
 use std::alloc::Global;
+use std::mem;
 
 impl Streams {
     /// Keeps a parameter report in place of an earlier one for its name.
@@ -45,8 +46,7 @@ impl Streams {
         }
         match AsyncMessage::read(alloc, message) {
             Ok(handed) => Ok(handed),
-            Err(Error::Parse(cause)) => Err(ConnectionFault::Unreadable(cause)),
-            Err(_) => Err(ConnectionFault::OutOfMemory),
+            Err(e) => Err(unreadable(e)),
         }
     }
 
@@ -89,8 +89,9 @@ impl Streams {
 fn unreadable(e: Error) -> ConnectionFault
     ensures { result ≡ unreadable_as e }
 {
-    match e {
-        Error::Parse(cause) => ConnectionFault::Unreadable(cause),
+    let mut e = e;
+    match &mut e {
+        Error::Parse(cause) => ConnectionFault::Unreadable(mem::replace(cause, Cause::NotUtf8)),
         _ => ConnectionFault::OutOfMemory,
     }
 }
@@ -161,8 +162,8 @@ fn meaning(alloc: Global, message: &Message) -> ConnectionFault
                 Ok(error) => ConnectionFault::Unasked(error),
                 Err(_) => ConnectionFault::OutOfMemory,
             },
-            Err(e) => match e {
-                Error::Parse(cause) => ConnectionFault::Unasked(Error::Parse(cause)),
+            Err(e) => match &e {
+                Error::Parse(_) => ConnectionFault::Unasked(e),
                 _ => ConnectionFault::OutOfMemory,
             },
         };

@@ -48,7 +48,7 @@ impl From<AllocError> for ScramFault {
 }
 
 /// What an error comes from.
-#[derive(Debug, Drop)]
+#[derive(Debug)]
 pub enum Cause {
     /// A call of the link failed.
     Link,
@@ -108,6 +108,42 @@ pub enum Cause {
     ReadOnly(Text),
     /// The session can write, and was to be read only. With what the server answered.
     NotReadOnly(Text),
+}
+
+impl Drop for Cause {
+    fn drop(self) {
+        match self {
+            Cause::Wire(_it) => {}
+            Cause::Frame(_it) => {}
+            Cause::Value(_it) => {}
+            Cause::Scram(_it) => {}
+            Cause::UnknownOption(_it) => {}
+            Cause::InvalidValue(_it) => {}
+            Cause::ReadOnly(_it) => {}
+            Cause::NotReadOnly(_it) => {}
+            Cause::Link
+            | Cause::Ended
+            | Cause::Fields
+            | Cause::FieldCount
+            | Cause::BinaryCopy
+            | Cause::NotUtf8
+            | Cause::Counter
+            | Cause::NoUser
+            | Cause::Nonce
+            | Cause::NoPassword
+            | Cause::Hosts
+            | Cause::Scripts
+            | Cause::PreferDirect
+            | Cause::Refused
+            | Cause::NoHostname
+            | Cause::Handshake
+            | Cause::Method
+            | Cause::Mechanism
+            | Cause::BindingRequired
+            | Cause::NotAscii
+            | Cause::Syntax => {}
+        }
+    }
 }
 
 impl Cause {

@@ -212,25 +212,95 @@ impl DbError {
     pub fn copy(&self, alloc: Global) -> Result<DbError, OutOfMemory>
         ensures { IfOk result (λ e. e ≡ self.now) }
     {
+        let words = self.words(alloc)?;
+        let places = self.places(alloc)?;
+        let origin = self.origin(alloc)?;
         Ok(DbError {
-            severity: self.severity.copy(alloc)?,
+            severity: words.severity,
             parsed_severity: self.parsed_severity,
+            code: words.code,
+            message: words.message,
+            detail: words.detail,
+            hint: words.hint,
+            position: places.position,
+            where_: places.where_,
+            schema: places.schema,
+            table: places.table,
+            column: places.column,
+            datatype: origin.datatype,
+            constraint: origin.constraint,
+            file: origin.file,
+            line: self.line,
+            routine: origin.routine,
+        })
+    }
+
+    /// A copy of what it says.
+    fn words(&self, alloc: Global) -> Result<Words, OutOfMemory>
+        ensures { IfOk result (λ w. (w.severity ≡ self.now.severity) × (w.code ≡ self.now.code) × (w.message ≡ self.now.message) × (w.detail ≡ self.now.detail) × (w.hint ≡ self.now.hint)) }
+    {
+        Ok(Words {
+            severity: self.severity.copy(alloc)?,
             code: self.code.copy(alloc)?,
             message: self.message.copy(alloc)?,
             detail: copy_optional(alloc, &self.detail)?,
             hint: copy_optional(alloc, &self.hint)?,
+        })
+    }
+
+    /// A copy of where the error lies, and of what it is about.
+    fn places(&self, alloc: Global) -> Result<Places, OutOfMemory>
+        ensures { IfOk result (λ p. (p.position ≡ self.now.position) × (p.where_ ≡ self.now.where_) × (p.schema ≡ self.now.schema) × (p.table ≡ self.now.table) × (p.column ≡ self.now.column)) }
+    {
+        Ok(Places {
             position: copy_position(alloc, &self.position)?,
             where_: copy_optional(alloc, &self.where_)?,
             schema: copy_optional(alloc, &self.schema)?,
             table: copy_optional(alloc, &self.table)?,
             column: copy_optional(alloc, &self.column)?,
+        })
+    }
+
+    /// A copy of the rest.
+    fn origin(&self, alloc: Global) -> Result<Origin, OutOfMemory>
+        ensures { IfOk result (λ o. (o.datatype ≡ self.now.datatype) × (o.constraint ≡ self.now.constraint) × (o.file ≡ self.now.file) × (o.routine ≡ self.now.routine)) }
+    {
+        Ok(Origin {
             datatype: copy_optional(alloc, &self.datatype)?,
             constraint: copy_optional(alloc, &self.constraint)?,
             file: copy_optional(alloc, &self.file)?,
-            line: self.line,
             routine: copy_optional(alloc, &self.routine)?,
         })
     }
+}
+
+/// What an error says, copied.
+#[derive(Drop)]
+struct Words {
+    severity: Text,
+    code: SqlState,
+    message: Text,
+    detail: Option<Text>,
+    hint: Option<Text>,
+}
+
+/// Where it lies and what it is about, copied.
+#[derive(Drop)]
+struct Places {
+    position: Option<ErrorPosition>,
+    where_: Option<Text>,
+    schema: Option<Text>,
+    table: Option<Text>,
+    column: Option<Text>,
+}
+
+/// The rest, copied.
+#[derive(Drop)]
+struct Origin {
+    datatype: Option<Text>,
+    constraint: Option<Text>,
+    file: Option<Text>,
+    routine: Option<Text>,
 }
 
 fn copy_position(

@@ -15,7 +15,7 @@ use std::alloc::{AllocError, AllocFailed, Global};
 use std::fmt;
 
 /// Why a call gives no value. Want of memory is never a cause of another.
-#[derive(Debug, Drop)]
+#[derive(Debug)]
 pub enum Error {
     /// A call of the link failed, the bytes are malformed where no request can be blamed, or they end
     /// inside a message.
@@ -60,6 +60,34 @@ pub enum Error {
     /// Nothing is open there.
     Missing,
     OutOfMemory,
+}
+
+impl Drop for Error {
+    fn drop(self) {
+        match self {
+            Error::Io(_it) => {}
+            Error::UnexpectedMessage => {}
+            Error::Tls(_it) => {}
+            Error::ToSql(_, _it) => {}
+            Error::FromSql(_, _it) => {}
+            Error::Column(_it) => {}
+            Error::ColumnCount => {}
+            Error::Parameters(_, _) => {}
+            Error::Closed => {}
+            Error::Db(_it) => {}
+            Error::Parse(_it) => {}
+            Error::Encode(_it) => {}
+            Error::Authentication(_it) => {}
+            Error::ConfigParse(_it) => {}
+            Error::Config(_it) => {}
+            Error::RowCount => {}
+            Error::Connect(_it) => {}
+            Error::Stalled { before: _, after: _ } => {}
+            Error::LimitReached { given: _, limit: _ } => {}
+            Error::Missing => {}
+            Error::OutOfMemory => {}
+        }
+    }
 }
 
 /// What an error holds.
@@ -122,7 +150,16 @@ impl Error {
             Error::ConfigParse(cause) => Some(Source::Cause(cause)),
             Error::Config(cause) => Some(Source::Cause(cause)),
             Error::Connect(cause) => Some(Source::Cause(cause)),
-            _ => None,
+            Error::UnexpectedMessage => None,
+            Error::Column(_it) => None,
+            Error::ColumnCount => None,
+            Error::Parameters(_, _) => None,
+            Error::Closed => None,
+            Error::RowCount => None,
+            Error::Stalled { before: _, after: _ } => None,
+            Error::LimitReached { given: _, limit: _ } => None,
+            Error::Missing => None,
+            Error::OutOfMemory => None,
         }
     }
 

@@ -59,7 +59,7 @@ fn reads_error(alloc: Global, body: &ErrorResponseBody) -> ErrorRead
 fn unread(error: Error) -> ErrorRead
     ensures { IsUnread error result }
 {
-    match error {
+    match &error {
         Error::OutOfMemory => ErrorRead::OutOfMemory,
         _ => ErrorRead::Unreadable,
     }

@@ -1,6 +1,7 @@
 //! The one loop that runs every script.
 
-ghost use Rattle.std.specs.Prelude.{◌≡◌, ◌≤◌, ◌<◌, [], length, MatchResult, MatchOption, IfOk, IfNone};
+ghost use Rattle.std.specs.Prelude.{◌≡◌, ◌≤◌, ◌<◌, [], length, MatchResult, MatchOption, IfOk, IfNone, Ok, Err};
+ghost use Rattle.pg_query.specs.declared.stop.Stop.TheVariants.{Answers};
 ghost use Rattle.pg_query.specs.Faults.{of_fault};
 ghost use Rattle.pg_query.specs.Meaning.{meaning, meaning_at, Goes, GoesToAnswer, Reads, Waits, Stops, MatchPoll, Pulls, Leaves};
 ghost use Rattle.pg_query.specs.Scripts.{ReadsAt, HearsAt, IsWanted, heard, GoesOn, Falls};
@@ -43,6 +44,16 @@ fn let_go(told: Result<Message, WireFault>) {
 #[inline(never)]
 fn let_go_other(message: Message) {
     let _message = message;
+}
+
+/// An error is where it stops.
+fn stopped<T: Drop>(went: Result<Want<T>, Error>) -> Result<Want<T>, Stop<T>>
+    ensures { MatchResult went (λ want. result ≡ Ok want) (λ e. result ≡ Err (Answers (Err e))) }
+{
+    match went {
+        Ok(want) => Ok(want),
+        Err(e) => Err(Stop::Answers(Err(e))),
+    }
 }
 
 impl<S: Script> Running<S> {
@@ -95,7 +106,10 @@ impl<S: Script> Running<S> {
                 }
                 // Nothing behind a malformed message is read.
                 self.batch = BackendMessages::empty();
-                Ok(Some(self.script.message(alloc, &Err(fault))?))
+                let told = Err(fault);
+                let want = self.script.message(alloc, &told);
+                let_go(told);
+                Ok(Some(want?))
             }
         }
     }
@@ -309,13 +323,13 @@ impl<S: Script> Running<S> {
         ensures batch { length self.new.batch ≤ length self.old.batch }
     {
         match action {
-            Action::Ask(copying, part) => Ok(self.ask(alloc, desk, stamp, copying, part)?),
-            Action::Send(part) => Ok(self.send(alloc, desk, stamp, part)?),
+            Action::Ask(copying, part) => stopped(self.ask(alloc, desk, stamp, copying, part)),
+            Action::Send(part) => stopped(self.send(alloc, desk, stamp, part)),
             Action::Put(offer) => self.put(alloc, desk, stamp, offer),
-            Action::Finish(part) => Ok(self.finish(alloc, desk, stamp, part)?),
-            Action::Close(part) => Ok(self.close(alloc, desk, stamp, part)?),
-            Action::HangUp => Ok(self.hang_up_own(alloc, desk, stamp)?),
-            Action::Call(desk_call) => Ok(self.call(alloc, desk, stamp, desk_call)?),
+            Action::Finish(part) => stopped(self.finish(alloc, desk, stamp, part)),
+            Action::Close(part) => stopped(self.close(alloc, desk, stamp, part)),
+            Action::HangUp => stopped(self.hang_up_own(alloc, desk, stamp)),
+            Action::Call(desk_call) => stopped(self.call(alloc, desk, stamp, desk_call)),
         }
     }
 

@@ -119,7 +119,7 @@ impl<'a> Handle<'a> {
         ensures memory { OnOk result (answer ≢ Err Error.OutOfMemory) }
     {
         match answer {
-            Err(Error::OutOfMemory) => Err(OutOfMemory),
+            Err(Error::OutOfMemory { .. }) => Err(OutOfMemory),
             answer => match keep(&mut self.slots, command, answer) {
                 Ok(told) => pushed(&mut self.answers, told),
                 Err(_) => Err(OutOfMemory),
