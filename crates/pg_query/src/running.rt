@@ -292,10 +292,7 @@ impl<S: Script> Running<S> {
     {
         let Offer { part, cleanup } = offer;
         match desk.put(alloc, self.id, part) {
-            Put::Took => match self.next(alloc) {
-                Ok(want) => Ok(want),
-                Err(error) => Err(Stop::Answers(Err(error))),
-            },
+            Put::Took => stopped(self.next(alloc)),
             Put::Full(back) => Err(Stop::Offers(Offer {
                 part: back,
                 cleanup,

@@ -1,20 +1,11 @@
-use Rattle.std.proofs.Common.{[], ◌∷◌, List, Ok, Err}
+use Rattle.std.proofs.Common.{[], ◌∷◌, List}
 use Rattle.pg_desk.specs.declared.event.Event.{Event}
 use Rattle.pg_desk.specs.declared.event.Event.TheVariants as call
 use Rattle.pg_desk.specs.declared.event.Put.TheVariants as putting
 use Rattle.pg_query.specs.Meaning.{offering}
 use Rattle.pg_query.proofs.Walking.{put-took, put-gone, put-refused, held-back, copy-gone, lacking, resumed}
+use Rattle.pg_query.proofs.Stopping.{stopped-did}
 use Rattle.pg_query.proofs.running.Running.put.Goals as goal
-
-pub returns-in-Ok-clause-goes : goal.returns-in-Ok-clause-goes
-returns-in-Ok-clause-goes g c =
-    let old = c.args.self.now in
-    let o = c.args.offer in
-    let d = g.S.Script.dialogue old.script in
-    let es : List Event = call.Put old.id o.part putting.Took ∷ [] in
-    resumed g.D.Desk.becomes c.args.stamp c.args.desk.now (offering g.S.Script.dialogue old o) c.put.new.self g.S.Script.dialogue g.S.Script.refuses g.S.Script.waits d c.next.new.self
-    es c.in-Took.ensures.event old.batch old.id c.in-Ok.ensures.batch c.in-Ok.ensures.id
-    (put-took c.args.stamp old.batch old.id o.cleanup.items o.part d) (Ok c.in-Ok.want) c.in-Ok.ensures.step
 
 pub returns-in-Took-clause-goes : goal.returns-in-Took-clause-goes
 returns-in-Took-clause-goes g c =
@@ -22,9 +13,10 @@ returns-in-Took-clause-goes g c =
     let o = c.args.offer in
     let d = g.S.Script.dialogue old.script in
     let es : List Event = call.Put old.id o.part putting.Took ∷ [] in
-    resumed g.D.Desk.becomes c.args.stamp c.args.desk.now (offering g.S.Script.dialogue old o) c.put.new.self g.S.Script.dialogue g.S.Script.refuses g.S.Script.waits d c.next.new.self
-    es c.in-Took.ensures.event old.batch old.id c.in-Err.ensures.batch c.in-Err.ensures.id
-    (put-took c.args.stamp old.batch old.id o.cleanup.items o.part d) (Err c.in-Err.error) c.in-Err.ensures.step
+    stopped-did g.D.Desk.becomes g.S.Script.dialogue g.S.Script.refuses c.args.stamp c.args.desk.now (offering g.S.Script.dialogue old o) c.put.new.self c.next.new.self c.next.result c.stopped.result c.stopped.ensures
+    (resumed g.D.Desk.becomes c.args.stamp c.args.desk.now (offering g.S.Script.dialogue old o) c.put.new.self g.S.Script.dialogue g.S.Script.refuses g.S.Script.waits d c.next.new.self
+    es c.in-Took.ensures.event old.batch old.id c.next.ensures.batch c.next.ensures.id
+    (put-took c.args.stamp old.batch old.id o.cleanup.items o.part d) c.next.result c.next.ensures.step)
 
 pub returns-in-Full-clause-goes : goal.returns-in-Full-clause-goes
 returns-in-Full-clause-goes g c =
@@ -38,8 +30,8 @@ returns-in-Gone-clause-goes g c =
     copy-gone g.D.Desk.becomes g.met.D.Desk.joins c.args.stamp c.args.desk.now (offering g.S.Script.dialogue old o) c.put.new.self c.leave.new.desk old.id gone
     (put-gone c.args.stamp old.batch old.id o.cleanup.items o.part c.in-Gone.field-0 (g.S.Script.dialogue old.script)) c.in-Gone.ensures.event c.leave.result c.leave.ensures.leaves
 
-pub returns-clause-goes : goal.returns-clause-goes
-returns-clause-goes g c =
+pub returns-in-OutOfMemory-clause-goes : goal.returns-in-OutOfMemory-clause-goes
+returns-in-OutOfMemory-clause-goes g c =
     let old = c.args.self.now in
     let o = c.args.offer in
     lacking g.D.Desk.becomes c.args.stamp c.args.desk.now (offering g.S.Script.dialogue old o) c.put.new.self
