@@ -1,5 +1,8 @@
 -- What a message of the crate stands for.
+use Rattle.std.specs.Prelude.{Option, Some, None}
 use Rattle.pg_spec.specs.Messages as spec
+use Rattle.pg_wire.specs.declared.body.DataRowBody.{DataRowBody}
+use Rattle.pg_wire.specs.declared.body.ErrorResponseBody.{ErrorResponseBody}
 use Rattle.pg_wire.specs.declared.message.Message.{Message}
 use Rattle.pg_wire.specs.declared.message.Message.TheVariants as wire
 
@@ -36,3 +39,18 @@ message_view wire.ParseComplete = spec.ParseComplete
 message_view wire.PortalSuspended = spec.PortalSuspended
 message_view (wire.ReadyForQuery b) = spec.ReadyForQuery b.status
 message_view (wire.RowDescription b) = spec.RowDescription b.count b.fields
+
+-- the body of a row
+abbrev pub row_body_of : Message → Option DataRowBody
+row_body_of (wire.DataRow body) = Some body
+row_body_of _ = None
+
+-- the body of an error
+abbrev pub error_body_of : Message → Option ErrorResponseBody
+error_body_of (wire.ErrorResponse body) = Some body
+error_body_of _ = None
+
+-- the body of a notice
+abbrev pub notice_body_of : Message → Option ErrorResponseBody
+notice_body_of (wire.NoticeResponse body) = Some body
+notice_body_of _ = None
