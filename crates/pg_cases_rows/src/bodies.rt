@@ -5,16 +5,9 @@ use pg_rows::RowIndex;
 use pg_wire::{DataRowBody, Message, WireFault};
 use std::alloc::{AllocError, Global};
 
-fn of_message(message: Message) -> Option<DataRowBody> {
-    match message {
-        Message::DataRow(body) => Some(body),
-        _ => None,
-    }
-}
-
 fn of_read(read: Result<Option<Message>, WireFault>) -> Option<DataRowBody> {
     match read {
-        Ok(Some(message)) => of_message(message),
+        Ok(Some(message)) => message.row_body(),
         _ => None,
     }
 }

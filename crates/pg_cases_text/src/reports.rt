@@ -181,16 +181,9 @@ const THREE_CELLS: &[u8] =
 /// A row without cells.
 const NO_CELLS: &[u8] = b"\x00\x00";
 
-fn of_message(message: Message) -> Option<DataRowBody> {
-    match message {
-        Message::DataRow(body) => Some(body),
-        _ => None,
-    }
-}
-
 fn of_read(read: Result<Option<Message>, WireFault>) -> Option<DataRowBody> {
     match read {
-        Ok(Some(message)) => of_message(message),
+        Ok(Some(message)) => message.row_body(),
         _ => None,
     }
 }

@@ -32,7 +32,7 @@ fn body_of(alloc: Global, refusal: &[u8]) -> Option<ErrorResponseBody>
         return None;
     };
     match Message::parse(&mut bytes) {
-        Ok(Some(Message::ErrorResponse(body))) => Some(body),
+        Ok(Some(message)) => message.error_body(),
         _ => None,
     }
 }

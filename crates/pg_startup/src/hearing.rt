@@ -14,6 +14,7 @@ use pg_login::{Dialogue, Told};
 use pg_types::OutOfMemory;
 use pg_wire::{BackendMessage, BackendMessages, Message, PostgresCodec, WireFault};
 use std::alloc::Global;
+use std::mem;
 
 impl<'a> Startup<'a> {
     /// ReadyForQuery was heard.
@@ -27,7 +28,7 @@ impl<'a> Startup<'a> {
     fn go_on(&mut self, next: Dialogue<'a>)
         ensures { self.new ≡ record self.old { dialogue = Some next.entry } }
     {
-        self.dialogue = Some(next);
+        drop(mem::replace(&mut self.dialogue, Some(next)));
     }
 
     /// Adds a frame to those that are to be sent. Where memory lacks, all is as before.

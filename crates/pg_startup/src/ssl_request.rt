@@ -79,7 +79,7 @@ fn inside(error: Error) -> Error
     ensures { result ≡ inside_of error }
 {
     match error {
-        Error::Closed => Error::Io(Cause::Ended),
+        Error::Closed { .. } => Error::Io(Cause::Ended),
         other => other,
     }
 }

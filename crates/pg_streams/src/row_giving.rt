@@ -30,12 +30,12 @@ impl RowOpening {
         ensures shows { IfOk result (λ told. ShowsOpening (query_said false (length self.old.statement.columns) (message_view message)) self.old (Some told) self.new) }
         ensures same { self.new.statement ≡ self.old.statement }
     {
-        match message {
+        match &message {
             Message::BindComplete => {
                 self.bound = true;
                 Ok(Told::Item(()))
             }
-            Message::ErrorResponse(body) => Ok(Told::Fails(server_error(alloc, &body)?)),
+            Message::ErrorResponse(body) => Ok(Told::Fails(server_error(alloc, body)?)),
             _ => Ok(Told::Fails(Error::UnexpectedMessage)),
         }
     }
@@ -119,12 +119,15 @@ impl RowGiving {
         ensures shows { IfOk result (λ told. Shows (query_said true (length self.old.statement.columns) (message_view message)) self.old told self.new) }
         ensures same { self.new.statement ≡ self.old.statement }
     {
-        match message {
-            Message::DataRow(body) => Ok(Some(self.row(body)?)),
-            Message::CommandComplete(body) => Ok(self.complete(&body)),
+        match &message {
+            Message::DataRow(_) => match message.row_body() {
+                Some(body) => Ok(Some(self.row(body)?)),
+                None => unreachable!(),
+            },
+            Message::CommandComplete(body) => Ok(self.complete(body)),
             Message::EmptyQueryResponse | Message::PortalSuspended => Ok(None),
             Message::ReadyForQuery(_) => Ok(Some(Told::Ends)),
-            Message::ErrorResponse(body) => Ok(Some(Told::Fails(server_error(alloc, &body)?))),
+            Message::ErrorResponse(body) => Ok(Some(Told::Fails(server_error(alloc, body)?))),
             _ => Ok(Some(Told::Fails(Error::UnexpectedMessage))),
         }
     }

@@ -128,15 +128,18 @@ impl SimpleGiving {
     ) -> Result<Told<SimpleQueryMessage>, AllocError>
         ensures { IfOk result (λ told. Shows (simple_said self.old.columns (message_view message)) self.old (Some told) self.new) }
     {
-        match message {
-            Message::CommandComplete(body) => Ok(self.complete(&body)),
+        match &message {
+            Message::CommandComplete(body) => Ok(self.complete(body)),
             Message::EmptyQueryResponse => {
                 Ok(Told::Item(SimpleQueryMessage::CommandComplete(0)))
             }
-            Message::RowDescription(body) => self.describe(alloc, &body),
-            Message::DataRow(body) => self.row(body),
+            Message::RowDescription(body) => self.describe(alloc, body),
+            Message::DataRow(_) => match message.row_body() {
+                Some(body) => self.row(body),
+                None => unreachable!(),
+            },
             Message::ReadyForQuery(_) => Ok(Told::Ends),
-            Message::ErrorResponse(body) => Ok(Told::Fails(server_error(alloc, &body)?)),
+            Message::ErrorResponse(body) => Ok(Told::Fails(server_error(alloc, body)?)),
             _ => Ok(Told::Fails(Error::UnexpectedMessage)),
         }
     }
