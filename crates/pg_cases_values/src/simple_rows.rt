@@ -1,7 +1,7 @@
 //! Rows of simple queries.
 
 use crate::bodies::{behind, body_of, index_of};
-use crate::refusals;
+use crate::row_refusals;
 use pg_cases::words::{at, text, text_at};
 use pg_cases::written;
 use pg_errors::Error;
@@ -35,7 +35,7 @@ fn tell_bytes(bytes: Option<&[u8]>, out: &mut String) -> Result<(), AllocError> 
 fn tell_read(read: &Result<Option<&str>, Error>, out: &mut String) -> Result<(), AllocError> {
     match read {
         Ok(text) => write!(out, " {text:?}"),
-        Err(error) => refusals::tell(error, out),
+        Err(error) => row_refusals::tell(error, out),
     }
 }
 
@@ -88,7 +88,7 @@ fn tell_made(
 ) -> Result<(), AllocError> {
     match made {
         Ok(row) => tell_row(alloc, row, behind(words), out),
-        Err(error) => refusals::tell(error, out),
+        Err(error) => row_refusals::tell(error, out),
     }
 }
 

@@ -1,6 +1,6 @@
 //! Values that are read, printed, and written again.
 
-use crate::types::type_of;
+use crate::datum_types::type_of;
 use bytes::BytesMut;
 use pg_cases::written;
 use pg_types::{IsNull, OutOfMemory, Type, ValueFault};

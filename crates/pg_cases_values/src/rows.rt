@@ -1,7 +1,7 @@
 //! Rows of statements.
 
 use crate::bodies::{behind, body_of};
-use crate::{refusals, values};
+use crate::{row_refusals, row_values};
 use pg_cases::words::{at, text_at};
 use pg_errors::Error;
 use pg_rows::Row;
@@ -57,7 +57,7 @@ fn tell_row(
     write!(out, " {} of {} bytes", row.len(), row.raw_size_bytes())?;
     for pair in words.chunks_exact(2) {
         out.push_str(";")?;
-        values::tell(alloc, row, text_at(pair, 0), text_at(pair, 1), out)?;
+        row_values::tell(alloc, row, text_at(pair, 0), text_at(pair, 1), out)?;
     }
     Ok(())
 }
@@ -76,7 +76,7 @@ fn tell_made(
 ) -> Result<(), AllocError> {
     match made {
         Ok(row) => tell_row(alloc, row, behind(words), out),
-        Err(error) => refusals::tell(error, out),
+        Err(error) => row_refusals::tell(error, out),
     }
 }
 

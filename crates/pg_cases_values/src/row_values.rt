@@ -1,7 +1,7 @@
 //! Values that are read from a row.
 
 use crate::bodies::index_of;
-use crate::refusals;
+use crate::row_refusals;
 use pg_cases::written;
 use pg_errors::Error;
 use pg_rows::Row;
@@ -13,7 +13,7 @@ use std::fmt::{Debug, Display};
 fn tell_answer<T: Debug>(answer: &Result<T, Error>, out: &mut String) -> Result<(), AllocError> {
     match answer {
         Ok(value) => write!(out, " {value:?}"),
-        Err(error) => refusals::tell(error, out),
+        Err(error) => row_refusals::tell(error, out),
     }
 }
 
@@ -38,7 +38,7 @@ fn tell_shown<T: Display>(
             let text = format!(in alloc; "{value}")?;
             written::tell(text.as_str().as_bytes(), out)
         }
-        Err(error) => refusals::tell(error, out),
+        Err(error) => row_refusals::tell(error, out),
     }
 }
 
