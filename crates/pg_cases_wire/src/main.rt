@@ -1,11 +1,24 @@
-//! Cases of the link over a reader and a writer: reads a case a line from standard input, and prints beside each what
-//! it gives.
+//! Cases of what goes over the wire: frames, messages and errors, the server half, and a link over a reader and a writer.
+//! Reads a case a line from standard input, and prints beside each what it gives.
 #![tactic(auto)]
 
+mod asides;
+mod batches;
 mod calls;
+mod case;
+mod db_errors;
+mod errors;
+mod feeds;
+mod frames;
 mod input;
+mod links;
+mod messages;
+mod named;
 mod output;
+mod read_frames;
+mod server_cases;
 mod steps;
+mod told;
 
 use std::alloc::{AllocError, Global};
 use std::io;
@@ -13,7 +26,7 @@ use std::io;
 /// The line, and what its case gives.
 fn row(alloc: Global, line: &str, out: &mut String) -> Result<(), AllocError> {
     match pg_cases::words_of(alloc, line, out)? {
-        Some(words) => calls::tell(alloc, words.as_slice(), out),
+        Some(words) => case::tell(alloc, words.as_slice(), out),
         None => Ok(()),
     }
 }

@@ -1,6 +1,6 @@
 //! What each case calls.
 
-use crate::{asides, batches, db_errors, errors, frames, messages, named};
+use crate::{asides, batches, db_errors, errors, frames, messages, named, server_cases};
 use bytes::Bytes;
 use pg_cases::shared;
 use pg_cases::words::{at, text_at};
@@ -57,14 +57,14 @@ fn tell_bytes(alloc: Global, words: &[Vec<u8>], out: &mut String) -> Result<(), 
     messages::tell_left(&bytes, out).and(told)
 }
 
-/// Cases of frames and batches.
+/// Cases of frames and batches, and those of the server and of streams.
 fn tell_of_wire(alloc: Global, words: &[Vec<u8>], out: &mut String) -> Result<(), AllocError> {
     match text_at(words, 0) {
         "header" => batches::tell_header(at(words, 1), out),
         "decode" => batches::tell(alloc, at(words, 1), out),
         "message" => tell_bytes(alloc, words, out),
         "frame" => frames::tell(alloc, words, out),
-        _ => out.push_str(" no such case"),
+        _ => server_cases::tell(alloc, words, out),
     }
 }
 

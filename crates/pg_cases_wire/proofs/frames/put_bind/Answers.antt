@@ -1,5 +1,5 @@
 use Rattle.std.proofs.Common.{[], ◌∷◌, Some, None, refl}
-use Rattle.pg_cases_errors.proofs.frames.put_bind.Goals as goal
+use Rattle.pg_cases_wire.proofs.frames.put_bind.Goals as goal
 
 -- the text `hi`, and null
 pub bind-requires : goal.bind-requires

@@ -1,7 +1,7 @@
 //! A handler that answers every frame by the same effect, also by one that a server may not give.
 
 ghost use Rattle.pg_server.specs.declared.handler.Effect.{Effect};
-ghost use Rattle.pg_cases_server.specs.Told.{told_step};
+ghost use Rattle.pg_cases_wire.specs.Told.{told_step};
 
 use pg_cases::words::{at, text_at};
 use pg_server::{Effect, Frame, Handler};
