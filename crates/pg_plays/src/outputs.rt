@@ -2,9 +2,9 @@
 
 ghost use Rattle.std.specs.Prelude.{◌<◌};
 
+use crate::played;
 use pg_rehearse::Pieces;
 use std::alloc::{AllocError, Global};
-use std::str;
 
 /// The number that a word says, 1 where it says none.
 fn number(word: Option<&str>) -> usize
@@ -29,10 +29,7 @@ pub(crate) fn pieces_of(head: &str) -> Pieces
 
 /// The status and what was written, as a text.
 pub(crate) fn output(alloc: Global, status: u8, written: &[u8]) -> Result<String, AllocError> {
-    let mut out = format!(in alloc; "-- status {status}\n")?;
-    match str::from_utf8(written) {
-        Ok(text) => out.push_str(text)?,
-        Err(_) => out.push_str("not UTF-8\n")?,
-    }
+    let mut out = String::new(alloc);
+    played::tell_output(status, written, &mut out)?;
     Ok(out)
 }

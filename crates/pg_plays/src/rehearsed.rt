@@ -10,8 +10,8 @@ use pg_wire::{MemorySink, MemorySource};
 use std::alloc::{AllocError, Global};
 
 /// What a session is played against.
-#[derive(Clone, Copy, Debug, Drop)]
-pub(crate) enum Against<'a> {
+#[derive(Clone, Copy, Drop)]
+enum Against<'a> {
     Echo,
     /// The machine of this text.
     Machine(&'a str),
@@ -70,7 +70,7 @@ fn played(
 
 /// Appends what the program gives where so many bytes go over the link at a time as the head says, and whether it gives
 /// the like byte by byte and in large pieces.
-pub(crate) fn tell(
+fn tell_against(
     alloc: Global,
     head: &str,
     against: Against<'_>,
@@ -89,4 +89,19 @@ pub(crate) fn tell(
     let alike = are_alike(told.as_str(), small.as_str())
         && are_alike(told.as_str(), large.as_str());
     write!(out, "alike {alike}\n")
+}
+
+/// Appends what the texts behind a head give: a session, or a machine and a session.
+pub(crate) fn tell(
+    alloc: Global,
+    head: &str,
+    texts: &str,
+    out: &mut String,
+) -> Result<(), AllocError> {
+    match texts.split_once("--\n") {
+        Some((machine, session)) => {
+            tell_against(alloc, head, Against::Machine(machine), session, out)
+        }
+        None => tell_against(alloc, head, Against::Echo, texts, out),
+    }
 }
