@@ -1,6 +1,6 @@
 //! What each case calls.
 
-use crate::{named, replies, reports, sessions};
+use crate::{machines, named, replies, reports, sessions};
 use pg_cases::words::{at, text_at};
 use std::alloc::{AllocError, Global};
 
@@ -24,6 +24,7 @@ pub(crate) fn tell(alloc: Global, words: &[Vec<u8>], out: &mut String) -> Result
         "report" => reports::tell(alloc, text_at(words, 1), out),
         "line" => named::tell(alloc, words, out),
         "column-line" => named::tell_column(alloc, text_at(words, 1), out),
+        "machine" => machines::tell(alloc, words, out),
         _ => out.push_str(" no such case"),
     }
 }

@@ -1,9 +1,10 @@
-//! Cases of replies, session texts and reports: reads a case a line from standard input, and prints beside each
-//! what it gives.
+//! Cases of replies, session texts, reports and machines as texts: reads a case a line from standard input, and prints
+//! beside each what it gives.
 #![tactic(auto)]
 
 mod case;
 mod list;
+mod machines;
 mod named;
 mod replies;
 mod reports;

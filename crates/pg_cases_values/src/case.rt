@@ -1,23 +1,25 @@
 //! What each case calls.
 
-use crate::{many, parameters, values};
-use pg_cases::words::{at, text_at};
+use crate::{datum_cases, parameters, reading, standing, types, writing};
+use pg_cases::words::text_at;
 use std::alloc::{AllocError, Global};
+
+/// The number that a word is, 0 where it is none.
+fn number_at(words: &[Vec<u8>], place: usize) -> u32 {
+    text_at(words, place).parse::<u32>().unwrap_or(0)
+}
 
 /// What a case gives, by its first word.
 pub(crate) fn tell(alloc: Global, words: &[Vec<u8>], out: &mut String) -> Result<(), AllocError> {
     match text_at(words, 0) {
-        "read" => values::tell(alloc, text_at(words, 1), text_at(words, 2), out),
-        "write" => values::tell_write(
-            alloc,
-            text_at(words, 1),
-            text_at(words, 2),
-            at(words, 3),
-            out,
-        ),
-        "parameter" => parameters::tell(alloc, words, out),
-        "many" => many::tell(alloc, words, out),
-        "size" => values::tell_size(out),
-        _ => out.push_str(" no such case"),
+        "type" => types::tell(alloc, number_at(words, 1), out),
+        "made" => types::tell_made(alloc, text_at(words, 1), out),
+        "fields" => types::tell_fields(alloc, out),
+        "range-is-domain" => types::tell_unequal(alloc, out),
+        "write-rust" => writing::tell(alloc, words, out),
+        "read-rust" => reading::tell(alloc, words, out),
+        "stands" => standing::tell(alloc, number_at(words, 1), out),
+        "parameters" => parameters::tell(alloc, text_at(words, 1), out),
+        _ => datum_cases::tell(alloc, words, out),
     }
 }

@@ -1,11 +1,24 @@
-//! Cases of composed values: reads a case a line from standard input, and prints beside each what it gives.
+//! Cases of types, values and rows: reads a case a line from standard input, and prints beside each what it gives.
 #![tactic(auto)]
 
+mod bodies;
 mod case;
+mod datum_cases;
+mod datum_parameters;
+mod datum_types;
+mod datums;
 mod many;
 mod parameters;
+mod reading;
+mod refusal;
+mod row_cases;
+mod row_refusals;
+mod row_values;
+mod rows;
+mod simple_rows;
+mod standing;
 mod types;
-mod values;
+mod writing;
 
 use std::alloc::{AllocError, Global};
 use std::io;

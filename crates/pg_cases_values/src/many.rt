@@ -1,6 +1,6 @@
 //! Arrays of many items.
 
-use crate::values::{bytes_of, typed};
+use crate::datums::{bytes_of, typed};
 use pg_cases::words::{at, text_at};
 use pg_types::Type;
 use pg_values::{Datum, read_datum};

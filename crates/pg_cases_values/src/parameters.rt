@@ -1,63 +1,73 @@
-//! Values that are read from a row, and written as parameters.
+//! The values of a statement's parameters.
 
-use crate::values::{bytes_of, tell_written, typed};
+use crate::refusal;
 use bytes::BytesMut;
-use pg_cases::words::{at, text_at};
 use pg_cases::written;
-use pg_types::{FromSql, FromSqlOwned, ToSql, Type, ValueFault};
-use pg_values::Datum;
+use pg_types::{IsNull, OutOfMemory, Params, ToSql, Type, Value, ValueFault};
 use std::alloc::{AllocError, Global};
 
-/// The value of a row, where its column has this type.
-fn value_of(alloc: Global, column: &Type, raw: Option<&[u8]>) -> Result<Datum, ValueFault> {
-    match raw {
-        Some(raw) => Datum::from_sql(alloc, column, raw),
-        None => Datum::from_sql_null(column),
-    }
-}
+/// The type int2.
+const INT2: u32 = 21;
 
-/// The text of the value that keeps nothing of the row, or the fault.
-fn tell_owned(
-    alloc: Global,
-    column: &Type,
-    raw: Option<&[u8]>,
-    out: &mut String,
-) -> Result<(), AllocError> {
-    match Datum::from_sql_owned(alloc, column, raw) {
-        Ok(value) => {
-            let text = format!(in alloc; "{value}")?;
-            written::tell(text.as_str().as_bytes(), out)
+/// Appends all values, and `-` for null.
+fn write_all<P: Params>(params: &P, ty: &Type, buffer: &mut BytesMut) -> Result<(), ValueFault> {
+    for i in 0..params.len() {
+        if params.to_sql_checked(i, ty, buffer)? == IsNull::Yes {
+            buffer.extend_from_slice(b"-")?;
         }
-        Err(fault) => write!(out, " {fault:?}"),
+    }
+    Ok(())
+}
+
+fn tell_answer(answer: Result<(), ValueFault>, out: &mut String) -> Result<(), AllocError> {
+    match answer {
+        Ok(()) => Ok(()),
+        Err(fault) => refusal::tell(fault, out),
     }
 }
 
-/// What the value of a row is read as, and what it is written as as a parameter.
-fn tell_parameter(
+fn tell_params<P: Params>(
     alloc: Global,
+    params: &P,
     ty: &Type,
-    column: &Type,
-    raw: Option<&[u8]>,
     out: &mut String,
 ) -> Result<(), AllocError> {
-    tell_owned(alloc, column, raw, out)?;
-    match value_of(alloc, column, raw) {
-        Ok(value) => {
-            let mut bytes = BytesMut::new(alloc);
-            let answer = value.to_sql_checked(ty, &mut bytes);
-            tell_written(answer, bytes.as_slice(), raw, out)
-        }
-        Err(fault) => write!(out, " {fault:?}"),
+    let mut buffer = BytesMut::new(alloc);
+    let told = tell_answer(write_all(params, ty, &mut buffer), out);
+    written::tell(buffer.as_slice(), out).and(told)
+}
+
+/// Values of one type.
+fn tell_values(alloc: Global, ty: &Type, out: &mut String) -> Result<(), AllocError> {
+    let values = [Value::Int(1), Value::Null, Value::Int(2)];
+    tell_params(alloc, &values.as_slice(), ty, out)
+}
+
+/// Values of any types.
+fn tell_any(alloc: Global, ty: &Type, out: &mut String) -> Result<(), AllocError> {
+    let values: [&dyn ToSql; 3] = [&1i16, &None::<i16>, &Value::Int(2)];
+    tell_params(alloc, &values.as_slice(), ty, out)
+}
+
+/// Values of which the last is a text.
+fn tell_wrong(alloc: Global, ty: &Type, out: &mut String) -> Result<(), AllocError> {
+    let values: [&dyn ToSql; 3] = [&1i16, &None::<i16>, &"x"];
+    tell_params(alloc, &values.as_slice(), ty, out)
+}
+
+fn tell_under(alloc: Global, name: &str, ty: &Type, out: &mut String) -> Result<(), AllocError> {
+    match name {
+        "values" => tell_values(alloc, ty, out),
+        "any" => tell_any(alloc, ty, out),
+        _ => tell_wrong(alloc, ty, out),
     }
 }
 
-/// The words are the type of the parameter, that of the column, and bytes in hexadecimal or `null`.
-pub(crate) fn tell(alloc: Global, words: &[Vec<u8>], out: &mut String) -> Result<(), AllocError> {
-    let ty = typed(alloc, text_at(words, 1))?;
-    let column = typed(alloc, text_at(words, 2))?;
-    if text_at(words, 3) == "null" {
-        return tell_parameter(alloc, &ty, &column, None, out);
+/// What the parameters of this name give under int2.
+pub(crate) fn tell(alloc: Global, name: &str, out: &mut String) -> Result<(), AllocError> {
+    match Type::from_oid(alloc, INT2) {
+        Ok(Some(ty)) => tell_under(alloc, name, &ty, out),
+        Ok(None) => out.push_str(" no type"),
+        Err(OutOfMemory) => Err(AllocError),
     }
-    let bytes = bytes_of(alloc, at(words, 3))?;
-    tell_parameter(alloc, &ty, &column, Some(bytes.as_slice()), out)
 }

@@ -41,7 +41,8 @@ fn link_of(alloc: Global, text: &str) -> MemoryLink {
     }
 }
 
-fn tell_output(status: u8, written: &[u8], out: &mut String) -> Result<(), AllocError> {
+/// The status and what was written.
+pub(crate) fn tell_output(status: u8, written: &[u8], out: &mut String) -> Result<(), AllocError> {
     write!(out, "-- status {status}\n")?;
     match str::from_utf8(written) {
         Ok(text) => out.push_str(text),

@@ -38,15 +38,25 @@ impl Texts {
         self.text.push_str("\n")
     }
 
-    /// The word of the program.
-    pub(crate) fn word(&self) -> &str {
+    /// The word of the program, and what stands behind it.
+    fn parts(&self) -> (&str, &str) {
         let Some(head) = self.head.as_str().strip_prefix(HEAD) else {
-            return "";
+            return ("", "");
         };
         match head.split_once(' ') {
-            Some((word, _)) => word,
-            None => head,
+            Some(parts) => parts,
+            None => (head, ""),
         }
+    }
+
+    /// The word of the program.
+    pub(crate) fn word(&self) -> &str {
+        self.parts().0
+    }
+
+    /// What stands behind the word.
+    pub(crate) fn name(&self) -> &str {
+        self.parts().1
     }
 
     /// The lines of the session.
