@@ -54,7 +54,7 @@ impl Streams {
     fn refuse(&mut self, message: Message)
         ensures { self.new ≡ record self.old { unread = Some message } }
     {
-        self.unread = Some(message);
+        drop(mem::replace(&mut self.unread, Some(message)));
     }
 
     /// Hands a message out.

@@ -10,7 +10,7 @@ use pg_wire::WireFault;
 use std::alloc::AllocError;
 
 /// Why a connection ends before its time.
-#[derive(Debug, Drop)]
+#[derive(Debug)]
 pub enum ConnectionFault {
     /// A call of the link failed.
     Link,
@@ -29,6 +29,22 @@ pub enum ConnectionFault {
     /// More bytes were given than the limit allows. Both in bytes.
     LimitReached { given: u64, limit: u64 },
     OutOfMemory,
+}
+
+impl Drop for ConnectionFault {
+    fn drop(self) {
+        match self {
+            ConnectionFault::Unreadable(_it) => {}
+            ConnectionFault::Unasked(_it) => {}
+            ConnectionFault::LimitReached { given: _, limit: _ } => {}
+            ConnectionFault::Link
+            | ConnectionFault::Closed
+            | ConnectionFault::Ended
+            | ConnectionFault::BadLength
+            | ConnectionFault::Layout
+            | ConnectionFault::OutOfMemory => {}
+        }
+    }
 }
 
 impl ConnectionFault {

@@ -2,10 +2,7 @@
 
 ghost use Rattle.pg_errors.specs.Parsing.{ParsesError};
 
-use crate::error_fields::{
-    Names, Origin, are_in_form, are_laid_out, parsed_severity, position, read_names, read_origin,
-    text,
-};
+use crate::error_fields::{are_in_form, are_laid_out, read_rest, text};
 use pg_faults::{Cause, DbError, Error, SqlState};
 use pg_wire::ErrorResponseBody;
 use std::alloc::Global;
@@ -34,40 +31,24 @@ impl ParseFields for DbError {
         let Some(message) = text(alloc, body, b'M')? else {
             return Err(Error::Parse(Cause::Fields));
         };
-        let parsed_severity = parsed_severity(alloc, body)?;
-        let detail = text(alloc, body, b'D')?;
-        let hint = text(alloc, body, b'H')?;
-        let position = position(alloc, body)?;
-        let where_ = text(alloc, body, b'W')?;
-        let Names {
-            schema,
-            table,
-            column,
-            datatype,
-            constraint,
-        } = read_names(alloc, body)?;
-        let Origin {
-            file,
-            line,
-            routine,
-        } = read_origin(alloc, body)?;
+        let rest = read_rest(alloc, body)?;
         Ok(DbError {
             severity,
-            parsed_severity,
+            parsed_severity: rest.words.parsed_severity,
             code: SqlState::new(code),
             message,
-            detail,
-            hint,
-            position,
-            where_,
-            schema,
-            table,
-            column,
-            datatype,
-            constraint,
-            file,
-            line,
-            routine,
+            detail: rest.words.detail,
+            hint: rest.words.hint,
+            position: rest.words.position,
+            where_: rest.words.where_,
+            schema: rest.names.schema,
+            table: rest.names.table,
+            column: rest.names.column,
+            datatype: rest.names.datatype,
+            constraint: rest.names.constraint,
+            file: rest.origin.file,
+            line: rest.origin.line,
+            routine: rest.origin.routine,
         })
     }
 }

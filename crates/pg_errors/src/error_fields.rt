@@ -8,7 +8,7 @@ ghost use Rattle.std.specs.Str.Lossy.{utf8_lossy};
 ghost use Rattle.pg_spec.specs.DbErrors as spec;
 ghost use Rattle.pg_spec.specs.Numerals as numerals;
 ghost use Rattle.pg_errors.specs.Fields.{fields_in, value_of};
-ghost use Rattle.pg_errors.specs.Parts.{AreNames, IsOrigin};
+ghost use Rattle.pg_errors.specs.Parts.{AreNames, AreWords, IsOrigin, IsRest};
 ghost use Rattle.pg_faults.specs.declared.error.Error.TheVariants.{OutOfMemory};
 
 use crate::severity::named_severity;
@@ -167,6 +167,28 @@ pub(crate) fn parsed_severity(
     }
 }
 
+/// What an error may say beside its message.
+#[derive(Drop)]
+pub(crate) struct Words {
+    pub(crate) parsed_severity: Option<Severity>,
+    pub(crate) detail: Option<Text>,
+    pub(crate) hint: Option<Text>,
+    pub(crate) position: Option<ErrorPosition>,
+    pub(crate) where_: Option<Text>,
+}
+
+fn read_words(alloc: Global, body: &ErrorResponseBody) -> Result<Words, Error>
+    ensures { MatchResult result (AreWords (fields_in body.now.fields)) (λ e. e ≡ OutOfMemory) }
+{
+    Ok(Words {
+        parsed_severity: parsed_severity(alloc, body)?,
+        detail: text(alloc, body, b'D')?,
+        hint: text(alloc, body, b'H')?,
+        position: position(alloc, body)?,
+        where_: text(alloc, body, b'W')?,
+    })
+}
+
 /// What an error is about, by name.
 #[derive(Drop)]
 pub(crate) struct Names {
@@ -177,7 +199,7 @@ pub(crate) struct Names {
     pub(crate) constraint: Option<Text>,
 }
 
-pub(crate) fn read_names(alloc: Global, body: &ErrorResponseBody) -> Result<Names, Error>
+fn read_names(alloc: Global, body: &ErrorResponseBody) -> Result<Names, Error>
     ensures { MatchResult result (AreNames (fields_in body.now.fields)) (λ e. e ≡ OutOfMemory) }
 {
     Ok(Names {
@@ -197,13 +219,31 @@ pub(crate) struct Origin {
     pub(crate) routine: Option<Text>,
 }
 
-pub(crate) fn read_origin(alloc: Global, body: &ErrorResponseBody) -> Result<Origin, Error>
+fn read_origin(alloc: Global, body: &ErrorResponseBody) -> Result<Origin, Error>
     ensures { MatchResult result (IsOrigin (fields_in body.now.fields)) (λ e. e ≡ OutOfMemory) }
 {
     Ok(Origin {
         file: text(alloc, body, b'F')?,
         line: number(alloc, body, b'L')?,
         routine: text(alloc, body, b'R')?,
+    })
+}
+
+/// What an error may say beside its severity, its code and its message.
+#[derive(Drop)]
+pub(crate) struct Rest {
+    pub(crate) words: Words,
+    pub(crate) names: Names,
+    pub(crate) origin: Origin,
+}
+
+pub(crate) fn read_rest(alloc: Global, body: &ErrorResponseBody) -> Result<Rest, Error>
+    ensures { MatchResult result (IsRest (fields_in body.now.fields)) (λ e. e ≡ OutOfMemory) }
+{
+    Ok(Rest {
+        words: read_words(alloc, body)?,
+        names: read_names(alloc, body)?,
+        origin: read_origin(alloc, body)?,
     })
 }
 
