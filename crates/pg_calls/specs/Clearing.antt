@@ -4,7 +4,7 @@ use Rattle.pg_desk.specs.declared.event.CatalogCall.TheVariants as catalog
 use Rattle.pg_desk.specs.declared.event.DeskFault.{DeskFault}
 use Rattle.pg_desk.specs.declared.event.Event.{Event}
 use Rattle.pg_desk.specs.declared.event.Event.TheVariants as call
-use Rattle.pg_faults.specs.declared.error.Error.{Error}
+use Rattle.pg_types.specs.declared.error.Error.{Error}
 use Rattle.pg_query.specs.Faults.{of_fault}
 
 -- what a client answers where the desk answers this

@@ -1,8 +1,8 @@
 //! The client, and what it can be asked.
 
 ghost use Rattle.std.specs.Prelude.{◌≡◌, [], length, None};
-ghost use Rattle.pg_checks.specs.Showing.{session_check};
-ghost use Rattle.pg_checks.specs.States.{place_of_check as place_of_session_check, IsLiveCheck as IsLiveSessionCheck};
+ghost use Rattle.pg_client.specs.Showing.{session_check};
+ghost use Rattle.pg_client.specs.States.{place_of_check as place_of_session_check, IsLiveCheck as IsLiveSessionCheck};
 ghost use Rattle.pg_client.specs.Done.{batch_execute, check_connection};
 ghost use Rattle.pg_client.specs.DoneStates.{place_of_batch, IsLiveBatch, place_of_check, IsLiveCheck};
 ghost use Rattle.pg_client.specs.Queries.{place_of_query, IsLiveQuery};
@@ -10,32 +10,29 @@ ghost use Rattle.pg_client.specs.Simple.{simple_query};
 ghost use Rattle.pg_execute.specs.Executes.{close, execute, query, query_scalar};
 ghost use Rattle.pg_execute.specs.Targets.{on_target};
 ghost use Rattle.pg_execute.specs.Typed.{execute_typed, query_typed};
-ghost use Rattle.pg_executed.specs.States.{place_of_close, IsLiveClose};
-ghost use Rattle.pg_executed.specs.Texts.{prepare_text};
-ghost use Rattle.pg_lookup.specs.Lookups.{find_all, prepare};
-ghost use Rattle.pg_raw.specs.States.{FindsIn, statement_in};
+ghost use Rattle.pg_states.specs.ExecutedStates.{place_of_close, IsLiveClose};
+ghost use Rattle.pg_states.specs.Texts.{prepare_text};
+ghost use Rattle.pg_core.specs.Lookups.{find_all, prepare};
+ghost use Rattle.pg_streams.specs.States.{FindsIn, statement_in};
 ghost use Rattle.pg_streams.specs.RowStreams.{query_raw};
 ghost use Rattle.pg_streams.specs.SimpleStreams.{simple_query_raw};
-ghost use Rattle.pg_typed_states.specs.Paired.{paired};
-ghost use Rattle.pg_typed_raw.specs.States.{opens_first};
-ghost use Rattle.pg_typed_raw.specs.TypedRaw.{FoundRows, finds_rows, query_typed_raw};
+ghost use Rattle.pg_states.specs.Paired.{paired};
+ghost use Rattle.pg_streams.specs.TypedRawStates.{opens_first};
+ghost use Rattle.pg_streams.specs.TypedRaw.{FoundRows, finds_rows, query_typed_raw};
 ghost use Rattle.pg_calls.specs.Clearing.{Clears};
 
-use pg_checks::SessionCheckState;
-use pg_client::{BatchExecuteState, CheckConnectionState, SimpleQueryState};
+use pg_client::{BatchExecuteState, CheckConnectionState, SessionCheckState, SimpleQueryState};
 use pg_config::TargetSessionAttrs;
-use pg_desk::Desk;
+use pg_desk::{Desk, Statement};
 use pg_errors::Error;
 use pg_execute::{HowMany, Target};
-use pg_executed::{CloseState, ExecuteState, QueryScalarState, QueryState};
 use pg_open::{CancelToken, SessionInfo};
-use pg_prepared::PrepareState;
 use pg_query::{Polled, error_of};
-use pg_raw::QueryRawState;
-use pg_statements::Statement;
-use pg_streams::{Opens, SimpleQueryRawState};
-use pg_typed_raw::QueryTypedRawState;
-use pg_typed_states::{ExecuteTypedState, QueryTypedState};
+use pg_states::{
+    CloseState, ExecuteState, ExecuteTypedState, PrepareState, QueryScalarState, QueryState,
+    QueryTypedState,
+};
+use pg_streams::{Opens, QueryRawState, QueryTypedRawState, SimpleQueryRawState};
 use pg_types::{Oid, Type, Value};
 
 /// A client of a connection. It holds no connection: a call makes a state, which is polled over the desk of the

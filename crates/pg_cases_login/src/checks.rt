@@ -1,12 +1,12 @@
 //! A check of a session, over a hub to which a reply is delivered.
 
-ghost use Rattle.pg_checks.specs.States.{IsLiveCheck};
+ghost use Rattle.pg_client.specs.States.{IsLiveCheck};
 
 use bytes::BytesMut;
 use futures::task::Poll;
 use pg_cases::words::text_at;
 use pg_cases::written;
-use pg_checks::SessionCheckState;
+use pg_client::SessionCheckState;
 use pg_config::TargetSessionAttrs;
 use pg_errors::Error;
 use pg_hub::{Deliver, Desk, Engine, Hub, Out, Stamp, Take};

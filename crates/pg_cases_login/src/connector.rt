@@ -1,7 +1,7 @@
 //! A connector in memory: what it gives is a link in memory of its own, beside the one that it was handed.
 
 use futures::task::Poll;
-use pg_tls::tls::{ChannelBinding, ForcePrivateApi, TlsConnect, TlsHandshake, TlsStream};
+use pg_open::tls::{ChannelBinding, ForcePrivateApi, TlsConnect, TlsHandshake, TlsStream};
 use pg_types::{Blob, OutOfMemory};
 use pg_wire::{Link, LinkRead, LinkStep, LinkWait, LinkWrite, MemoryLink};
 use std::alloc::Global;

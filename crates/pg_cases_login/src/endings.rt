@@ -3,8 +3,7 @@
 use crate::connector::{Connector, Stream};
 use pg_cases::written;
 use pg_errors::Error;
-use pg_open::{ConnectTls, Stage};
-use pg_tls::MaybeTls;
+use pg_open::{ConnectTls, MaybeTls, Stage};
 use pg_wire::MemoryLink;
 use std::alloc::AllocError;
 

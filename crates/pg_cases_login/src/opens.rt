@@ -11,8 +11,7 @@ use pg_cases::words::{at, text_at};
 use pg_cases::written;
 use pg_config::Config;
 use pg_connect::Connection;
-use pg_open::{ConnectRaw, OpenStage, Opened, connect_raw};
-use pg_tls::MaybeTls;
+use pg_open::{ConnectRaw, MaybeTls, OpenStage, Opened, connect_raw};
 use pg_wire::{LinkWait, MemoryLink};
 use std::alloc::{AllocError, Global};
 

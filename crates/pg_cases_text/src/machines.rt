@@ -1,6 +1,6 @@
 //! Machines as texts.
 
-use pg_machine_file::machine_of;
+use pg_machine::machine_of;
 use std::alloc::{AllocError, Global};
 
 /// The words as the lines of a text, the last without a line feed.

@@ -3,9 +3,8 @@
 
 use crate::list::push;
 use pg_cases::shared;
-use pg_desk::{Booking, Stamp};
+use pg_desk::{Booking, Column, Stamp};
 use pg_errors::Error;
-use pg_statements::Column;
 use pg_text::{
     Answer, Cells, Pair, Report, RowCells, SimpleMessage, Statement, TurnMark, report_text,
 };

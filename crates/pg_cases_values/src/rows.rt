@@ -3,9 +3,9 @@
 use crate::bodies::{behind, body_of};
 use crate::{row_refusals, row_values};
 use pg_cases::words::{at, text_at};
+use pg_desk::{Column, Statement};
 use pg_errors::Error;
 use pg_rows::Row;
-use pg_statements::{Column, Statement};
 use pg_types::{Kind, List, OutOfMemory, Text, Type};
 use pg_wire::DataRowBody;
 use std::alloc::{AllocError, Global};

@@ -3,13 +3,10 @@
 use bytes::{Bytes, BytesMut};
 use pg_cases::words::{at, text_at};
 use pg_cases::{shared, written};
-use pg_frames::{
-    bind, cancel_request, close, copy_done, copy_fail, describe, execute, flush, parse,
-    password_message, sasl_initial_response, sasl_response, ssl_request, sync,
-};
 use pg_wire::{
-    FrameFault, FrontendMessage, PostgresCodec, StartupParams, copy_data, query, startup_message,
-    terminate,
+    FrameFault, FrontendMessage, PostgresCodec, StartupParams, bind, cancel_request, close,
+    copy_data, copy_done, copy_fail, describe, execute, flush, parse, password_message, query,
+    sasl_initial_response, sasl_response, ssl_request, startup_message, sync, terminate,
 };
 use std::alloc::{AllocError, Global};
 

@@ -16,9 +16,9 @@ use Rattle.pg_wire.specs.declared.body.RowDescriptionBody.{RowDescriptionBody}
 use Rattle.pg_wire.specs.declared.message.Message as wire
 use Rattle.pg_wire.specs.declared.message.Message.TheVariants as received
 use Rattle.pg_desk.proofs.ReadyTags.{is_ready_message}
-use Rattle.pg_faults.specs.declared.fault.WireFault.{WireFault}
-use Rattle.pg_faults.specs.declared.error.Error.{Error}
-use Rattle.pg_faults.specs.declared.error.Error.TheVariants.{OutOfMemory, UnexpectedMessage}
+use Rattle.pg_types.specs.declared.faults.WireFault.{WireFault}
+use Rattle.pg_types.specs.declared.error.Error.{Error}
+use Rattle.pg_types.specs.declared.error.Error.TheVariants.{OutOfMemory, UnexpectedMessage}
 use Rattle.pg_query.specs.Dialogue.{Dialogue, Answer}
 use Rattle.pg_query.specs.Leaving.{Nothing, IsLetGo, request_behind, LetsGo, AllOwed, AllLetGo}
 use Rattle.pg_query.specs.Lives.{Turn, Lives, deeds}

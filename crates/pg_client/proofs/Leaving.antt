@@ -11,8 +11,8 @@ use Rattle.pg_spec.specs.RawMessages.{RawMessage, is_ready}
 use Rattle.pg_spec.specs.Readings.{GoesOn, Answers, Decision, decision, decided_by, one_later}
 use Rattle.pg_spec.specs.SimpleQuery.{Item, Complete, Row, SimpleAnswer, SimpleNext, SimpleState, adds, affected, reads_columns, reads_row, has_enough, simple_message, simple_next, simple_reading}
 use Rattle.pg_desk.proofs.ReadyTags.{is_ready_message}
-use Rattle.pg_faults.specs.declared.error.Error.{Error}
-use Rattle.pg_faults.specs.declared.error.Error.TheVariants.{OutOfMemory}
+use Rattle.pg_types.specs.declared.error.Error.{Error}
+use Rattle.pg_types.specs.declared.error.Error.TheVariants.{OutOfMemory}
 use Rattle.pg_query.specs.Dialogue.{Dialogue, Answer}
 use Rattle.pg_query.specs.Leaving.{Nothing, Request, IsLetGo, request_behind, LetsGo, AllOwed, AllLetGo}
 use Rattle.pg_query.specs.Lives.{Turn, Lives, deeds}

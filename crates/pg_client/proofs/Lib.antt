@@ -3,3 +3,7 @@ pub mod Life
 pub mod Leaving
 pub mod Done
 pub mod Stepping
+pub mod ChecksTelling
+pub mod Texts
+pub mod ChecksLife
+pub mod ChecksStepping

@@ -5,7 +5,7 @@ use Rattle.pg_spec.specs.Frames.{query_frame}
 use Rattle.pg_spec.specs.RawMessages.{RawMessage}
 use Rattle.pg_spec.specs.Readings.{Decision, decision}
 use Rattle.pg_spec.specs.SimpleQuery.{Item, Columns, Row, Complete, SimpleAnswer, has_enough, simple_next, simple_reading}
-use Rattle.pg_faults.specs.declared.error.Error.{Error}
+use Rattle.pg_types.specs.declared.error.Error.{Error}
 use Rattle.pg_query.specs.Dialogue.{Answer}
 use Rattle.pg_query.specs.Scripts.{IsRead}
 use Rattle.pg_query.specs.Meaning.{Place}

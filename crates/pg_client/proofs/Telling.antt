@@ -12,11 +12,11 @@ use Rattle.pg_wire.specs.declared.body.DataRowBody.{DataRowBody}
 use Rattle.pg_wire.specs.declared.body.ErrorResponseBody.{ErrorResponseBody}
 use Rattle.pg_wire.specs.declared.body.ReadyForQueryBody.{ReadyForQueryBody}
 use Rattle.pg_wire.specs.declared.body.RowDescriptionBody.{RowDescriptionBody}
-use Rattle.pg_faults.specs.declared.fault.WireFault.{WireFault}
+use Rattle.pg_types.specs.declared.faults.WireFault.{WireFault}
 use Rattle.pg_wire.specs.declared.message.Message.{Message}
 use Rattle.pg_wire.specs.declared.message.Message.TheVariants as wire
-use Rattle.pg_faults.specs.declared.error.Error.{Error}
-use Rattle.pg_faults.specs.declared.error.Error.TheVariants.{UnexpectedMessage}
+use Rattle.pg_types.specs.declared.error.Error.{Error}
+use Rattle.pg_types.specs.declared.error.Error.TheVariants.{UnexpectedMessage}
 use Rattle.pg_query.specs.Messages.{IsMalformed}
 use Rattle.pg_query.specs.Replies.{malformed_error}
 use Rattle.pg_query.specs.declared.simple_message.SimpleMessage.{SimpleMessage}

@@ -1,6 +1,6 @@
 -- Commands of one request that write their frame in their first poll: where each stands.
 use Rattle.std.specs.Prelude.{ℕ, List, Err}
-use Rattle.pg_faults.specs.declared.error.Error.{Error}
+use Rattle.pg_types.specs.declared.error.Error.{Error}
 use Rattle.pg_query.specs.Dialogue.{Dialogue, Answer}
 use Rattle.pg_query.specs.Scripts.{Waiting, Nothing, waiting_at}
 use Rattle.pg_query.specs.SingleRequests as one_request

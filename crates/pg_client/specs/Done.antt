@@ -5,8 +5,8 @@ use Rattle.pg_spec.specs.Frames.{query_frame, sync_frame}
 use Rattle.pg_spec.specs.Messages.{Message, CommandComplete, DataRow, EmptyQueryResponse, ErrorResponse, ReadyForQuery, RowDescription, message_of}
 use Rattle.pg_spec.specs.RawMessages.{RawMessage}
 use Rattle.pg_spec.specs.SimpleQuery.{server_error}
-use Rattle.pg_faults.specs.declared.error.Error.{Error}
-use Rattle.pg_faults.specs.declared.error.Error.TheVariants.{UnexpectedMessage}
+use Rattle.pg_types.specs.declared.error.Error.{Error}
+use Rattle.pg_types.specs.declared.error.Error.TheVariants.{UnexpectedMessage}
 use Rattle.pg_query.specs.Dialogue.{Dialogue, Answer}
 use Rattle.pg_query.specs.Lives.{Deed}
 use Rattle.pg_query.specs.Requests.{Answers, Awaits, asks}

@@ -4,3 +4,6 @@ pub mod SimpleLife
 pub mod Done
 pub mod Asking
 pub mod DoneStates
+pub mod Showing
+pub mod ChecksAsking
+pub mod States

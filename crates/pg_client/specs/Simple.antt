@@ -6,8 +6,8 @@ use Rattle.pg_spec.specs.RawMessages.{RawMessage}
 use Rattle.pg_spec.specs.Readings.{GoesOn, Answers, decision}
 use Rattle.pg_spec.specs.SimpleQuery.{Item, Columns, Row, Complete, SimpleAnswer, SimpleState, SimpleNext, has_enough, simple_next, simple_message, simple_reading}
 use Rattle.pg_spec.specs.Messages.{CommandComplete, DataRow}
-use Rattle.pg_faults.specs.declared.error.Error.{Error}
-use Rattle.pg_faults.specs.declared.error.Error.TheVariants.{OutOfMemory}
+use Rattle.pg_types.specs.declared.error.Error.{Error}
+use Rattle.pg_types.specs.declared.error.Error.TheVariants.{OutOfMemory}
 use Rattle.pg_query.specs.Dialogue.{Dialogue, Answer}
 use Rattle.pg_query.specs.Requests.{asks}
 use Rattle.pg_query.specs.declared.simple_message.SimpleMessage.{SimpleMessage}

@@ -4,7 +4,7 @@ use Rattle.pg_spec.specs.Faults as spec
 use Rattle.pg_spec.specs.RawMessages.{RawMessage}
 use Rattle.pg_spec.specs.SimpleQuery.{simple_reading}
 use Rattle.pg_desk.specs.History.{IsFrontOf}
-use Rattle.pg_faults.specs.declared.error.Error.{Error}
+use Rattle.pg_types.specs.declared.error.Error.{Error}
 use Rattle.pg_query.specs.Lives.{Deed, messages_taken}
 use Rattle.pg_query.specs.Requests.{BooksOne, BooksNone, IsRefused}
 use Rattle.pg_query.specs.declared.simple_message.SimpleMessage.{SimpleMessage}

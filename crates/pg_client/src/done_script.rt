@@ -11,9 +11,8 @@ use crate::done_reading::DoneReading;
 use crate::simple_script::query_frame;
 use bytes::{Bytes, BytesMut};
 use pg_errors::Error;
-use pg_frames::sync;
 use pg_query::{Cleanup, Reply, Script, SingleRequest, Want};
-use pg_wire::{Message, WireFault};
+use pg_wire::{Message, WireFault, sync};
 use std::alloc::{AllocError, Global};
 use std::collections::VecDeque;
 

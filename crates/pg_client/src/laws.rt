@@ -2,7 +2,7 @@
 
 ghost use Rattle.std.specs.Prelude.{◌≡◌, ℕ, List, Option, Result, Err};
 ghost use Rattle.pg_spec.specs.Frames.{query_frame, sync_frame};
-ghost use Rattle.pg_faults.specs.declared.error.Error.{Error};
+ghost use Rattle.pg_types.specs.declared.error.Error.{Error};
 ghost use Rattle.pg_query.specs.Dialogue.{Answer};
 ghost use Rattle.pg_query.specs.Leaving.{AllOwed, AllLetGo};
 ghost use Rattle.pg_query.specs.Scripts.{IsRead};

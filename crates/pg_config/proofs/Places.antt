@@ -1,7 +1,7 @@
 -- Hosts are read one after another.
 use Rattle.std.proofs.Common.{◌≡◌, ℕ, List, Option, Some, Result, Ok, sym, ap, subst, ◌∙◌}
 use Rattle.pg_spec.specs.Faults.{◌>>=◌, Cause}
-use Rattle.pg_faults.specs.declared.error.Error.{Error}
+use Rattle.pg_types.specs.declared.error.Error.{Error}
 use Rattle.pg_config.specs.declared.config.Config.{Config}
 use Rattle.pg_config.specs.Outcomes.{HasFault}
 use Rattle.pg_config.specs.Pieces.{IsCut}

@@ -1,7 +1,7 @@
 -- A text says one thing: parameters are read one after another.
 use Rattle.std.proofs.Common.{◌≡◌, inl, inr, ℕ, List, [], ◌∷◌, Result, Ok, Err, sym, ap, subst, ◌∙◌}
 use Rattle.pg_spec.specs.Faults.{Cause, Syntax}
-use Rattle.pg_faults.specs.declared.error.Error.{Error}
+use Rattle.pg_types.specs.declared.error.Error.{Error}
 use Rattle.pg_config.specs.declared.config.Config.{Config}
 use Rattle.pg_config.specs.Outcomes.{HasFault}
 use Rattle.pg_config.specs.ParameterReading.{Broken, Done, Front, Parameter, ReadsAs, Says}

@@ -1,8 +1,8 @@
 -- What a call answers stands for what is said.
 use Rattle.std.specs.Prelude.{◌≡◌, Bool, true, false, Option, Some, None, Result, Ok, Err}
 use Rattle.pg_spec.specs.Faults.{Cause}
-use Rattle.pg_faults.specs.declared.error.Error.{Error}
-use Rattle.pg_faults.specs.declared.error.Error.TheVariants.{ConfigParse, OutOfMemory}
+use Rattle.pg_types.specs.declared.error.Error.{Error}
+use Rattle.pg_types.specs.declared.error.Error.TheVariants.{ConfigParse, OutOfMemory}
 use Rattle.pg_config.specs.declared.config.Config.{Config}
 
 -- ConfigParse holds the fault that is said; want of memory may come at any time

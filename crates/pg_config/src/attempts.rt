@@ -10,8 +10,7 @@ ghost use Rattle.pg_config.specs.Attempts.{attempts_of, do_fit, host_address, ho
 use crate::config::Config;
 use crate::host::{DEFAULT_PORT, Host, IpAddr};
 use crate::modes::LoadBalanceHosts;
-use pg_faults::{Cause, Error};
-use pg_types::{List, OutOfMemory, Text};
+use pg_types::{Cause, Error, List, OutOfMemory, Text};
 use std::alloc::Global;
 
 /// Where to connect.

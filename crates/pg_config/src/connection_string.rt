@@ -10,8 +10,7 @@ ghost use Rattle.pg_config.specs.Outcomes.{IsAnswered};
 use crate::config::Config;
 use crate::key_value::read_key_values;
 use crate::url_parameter::read_url;
-use pg_faults::{Cause, Error};
-use pg_types::OutOfMemory;
+use pg_types::{Cause, Error, OutOfMemory};
 use std::alloc::Global;
 
 impl Config {

@@ -4,8 +4,7 @@ ghost use Rattle.std.specs.Prelude.{Err};
 ghost use Rattle.pg_config.specs.declared.config.Config.{Config};
 ghost use Rattle.pg_config.specs.Outcomes.{HasFault};
 
-use pg_faults::{Cause, Error};
-use pg_types::Text;
+use pg_types::{Cause, Error, Text};
 use std::alloc::Global;
 
 /// The value of this setting is out of form.

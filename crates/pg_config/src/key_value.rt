@@ -11,8 +11,7 @@ ghost use Rattle.pg_config.specs.Numbers.{begins_with};
 ghost use Rattle.pg_config.specs.Outcomes.{IsAnswered};
 
 use crate::config::Config;
-use pg_faults::{Cause, Error};
-use pg_types::OutOfMemory;
+use pg_types::{Cause, Error, OutOfMemory};
 use std::alloc::Global;
 
 /// What a text begins with.

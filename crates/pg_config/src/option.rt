@@ -15,8 +15,7 @@ use crate::host::{DEFAULT_PORT, IpAddr};
 use crate::modes::{ChannelBinding, LoadBalanceHosts, SslMode, SslNegotiation, TargetSessionAttrs};
 use crate::number::{read_seconds, read_unsigned};
 use crate::piece::cut;
-use pg_faults::Error;
-use pg_types::OutOfMemory;
+use pg_types::{Error, OutOfMemory};
 use std::alloc::Global;
 
 /// The most retries that can be set.

@@ -13,8 +13,7 @@ ghost use Rattle.pg_config.specs.Urls as grammar;
 use crate::config::Config;
 use crate::fault::invalid_value;
 use crate::piece::cut;
-use pg_faults::{Cause, Error};
-use pg_types::{OutOfMemory, Text};
+use pg_types::{Cause, Error, OutOfMemory, Text};
 use std::alloc::Global;
 
 /// The port of a host that says none: `DEFAULT_PORT`, as an option spells it.

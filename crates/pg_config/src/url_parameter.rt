@@ -11,7 +11,7 @@ ghost use Rattle.pg_config.specs.UrlFronts.{LeavesLess, stands_view};
 use crate::config::Config;
 use crate::piece::cut;
 use crate::url::{after_login, cut_hosts, decode_text};
-use pg_faults::{Cause, Error};
+use pg_types::{Cause, Error};
 use std::alloc::Global;
 
 /// What the parameters of a URL begin with.

@@ -6,8 +6,8 @@ use Rattle.pg_wire.specs.LinkCalls.{Keeps}
 use Rattle.pg_desk.specs.declared.event.Event.{Event}
 use Rattle.pg_wire.specs.declared.body.ErrorResponseBody.{ErrorResponseBody}
 use Rattle.pg_errors.specs.declared.async_message.AsyncMessage.{AsyncMessage}
-use Rattle.pg_faults.specs.declared.cause.Cause.{Cause}
-use Rattle.pg_faults.specs.declared.error.Error.{Error}
+use Rattle.pg_types.specs.declared.cause.Cause.{Cause}
+use Rattle.pg_types.specs.declared.error.Error.{Error}
 use Rattle.pg_connect.specs.declared.fault.ConnectionFault.{ConnectionFault}
 use Rattle.pg_connect.specs.declared.fault.ConnectionFault.TheVariants as fault
 use Rattle.pg_connect.specs.declared.ends.Off.{Off}

@@ -9,10 +9,10 @@ use Rattle.pg_spec.specs.Links.{LinkView, Rose}
 use Rattle.pg_spec.specs.Report as said
 use Rattle.pg_wire.specs.LinkCalls.{Keeps, Gives, SameBytes}
 use Rattle.pg_errors.specs.declared.async_message.AsyncMessage.TheVariants.{Notice}
-use Rattle.pg_faults.specs.declared.db_error.DbError.{DbError}
+use Rattle.pg_types.specs.declared.db_error.DbError.{DbError}
 use Rattle.pg_wire.specs.declared.message.Message.{Message}
-use Rattle.pg_faults.specs.declared.fault.WireFault.{WireFault}
-use Rattle.pg_faults.specs.declared.fault.WireFault.TheVariants as wire
+use Rattle.pg_types.specs.declared.faults.WireFault.{WireFault}
+use Rattle.pg_types.specs.declared.faults.WireFault.TheVariants as wire
 use Rattle.pg_wire.specs.Decode.{CutsAside, Decodes}
 use Rattle.pg_wire.specs.Messages.{message_view}
 use Rattle.pg_errors.specs.Views as errors

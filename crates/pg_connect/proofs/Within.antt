@@ -1,8 +1,8 @@
 -- Where no more than the limit was given, each answer says so.
 use Rattle.std.proofs.Common.{◌≡◌, ℕ, ◌≤◌, true, Some, Result, Err, sym, subst}
 use Rattle.futures.specs.declared.task.Poll.TheVariants.{Ready}
-use Rattle.pg_faults.specs.declared.error.Error.{Error}
-use Rattle.pg_faults.specs.declared.error.Error.TheVariants as error
+use Rattle.pg_types.specs.declared.error.Error.{Error}
+use Rattle.pg_types.specs.declared.error.Error.TheVariants as error
 use Rattle.pg_connect.specs.declared.fault.ConnectionFault.{ConnectionFault}
 use Rattle.pg_connect.specs.declared.fault.ConnectionFault.TheVariants as fault
 use Rattle.pg_connect.specs.declared.ends.TurnEnd.{TurnEnd}

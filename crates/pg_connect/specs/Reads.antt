@@ -16,10 +16,10 @@ use Rattle.pg_desk.specs.declared.event.Event.{Event}
 use Rattle.pg_desk.specs.declared.event.Event.TheVariants.{Deliver}
 use Rattle.pg_desk.specs.declared.event.Deliver.TheVariants as answer
 use Rattle.pg_errors.specs.declared.async_message.AsyncMessage.{AsyncMessage}
-use Rattle.pg_faults.specs.declared.cause.Cause.{Cause}
-use Rattle.pg_faults.specs.declared.db_error.DbError.{DbError}
-use Rattle.pg_faults.specs.declared.error.Error.{Error}
-use Rattle.pg_faults.specs.declared.error.Error.TheVariants as error
+use Rattle.pg_types.specs.declared.cause.Cause.{Cause}
+use Rattle.pg_types.specs.declared.db_error.DbError.{DbError}
+use Rattle.pg_types.specs.declared.error.Error.{Error}
+use Rattle.pg_types.specs.declared.error.Error.TheVariants as error
 use Rattle.pg_errors.specs.Parsing.{IsHandedOut}
 use Rattle.pg_errors.specs.Views.{async_of}
 use Rattle.pg_connect.specs.declared.fault.ConnectionFault.{ConnectionFault}

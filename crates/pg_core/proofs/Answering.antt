@@ -3,8 +3,8 @@ use Rattle.std.specs.Str.{byte}
 use Rattle.std.proofs.Common.{◌≡◌, ℕ, ◌+◌, ◌==◌, ◌&&◌, not, length, List, [], ◌∷◌, ◌++◌, Bool, true, false, if◌then◌else◌, Option, Some, None, option_map, refl, ap, ◌∙◌, arith}
 use Rattle.std.proofs.lemmas.Bool.Decides.{nat_tests}
 use Rattle.pg_spec.specs.RawMessages.{RawMessage, is_ready, ends_in}
-use Rattle.pg_course.specs.Copies.{is_opened}
-use Rattle.pg_course.specs.Dialogues.{decided_after}
+use Rattle.pg_spec.specs.Copies.{is_opened}
+use Rattle.pg_spec.specs.Dialogues.{decided_after}
 use Rattle.pg_core.specs.Times.{DecidesInTime}
 use Rattle.pg_core.proofs.Requests.{in-time-by}
 

@@ -16,7 +16,7 @@ use Rattle.pg_desk.proofs.Soundness.{running-copies}
 use Rattle.pg_query.specs.Dialogue.{Dialogue, Answer, Ask, Send, Leave, Read, Put, Finish, Close, HangUp as Hang, Call, Hear, Steps}
 use Rattle.pg_query.specs.Lives.{Deed, Leads}
 use Rattle.pg_query.proofs.Questions.{told-asks}
-use Rattle.pg_course.specs.Courses.{Request, Who, stamp_of}
+use Rattle.pg_spec.specs.Courses.{Request, Who, stamp_of}
 use Rattle.pg_core.specs.Deeds.{Addition, booked_by, bookings_in, added_by, additions_in, added_in, granted, requests_in}
 use Rattle.pg_core.proofs.Granted.{granted-append}
 use Rattle.pg_core.specs.Lists.{events_of, state_behind, IsReached}

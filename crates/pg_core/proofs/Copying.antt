@@ -2,12 +2,12 @@
 use Rattle.std.proofs.Common.{◌≡◌, ℕ, List, [], ◌∷◌, length, Bool, true, Option, Some, None, is_some, Result, Ok, Err, refl, subst}
 use Rattle.std.specs.List.{list_any}
 use Rattle.pg_spec.specs.RawMessages.{RawMessage, is_ready, ends_in}
-use Rattle.pg_faults.specs.declared.error.Error.{Error}
+use Rattle.pg_types.specs.declared.error.Error.{Error}
 use Rattle.pg_query.specs.Dialogue.{Dialogue, Finish, Put, Read}
 use Rattle.pg_query.specs.Reading.{reads}
 use Rattle.pg_query.specs.declared.desk_call.Cleanup.{Cleanup}
-use Rattle.pg_course.specs.Copies.{is_opened}
-use Rattle.pg_course.specs.Dialogues.{decided_after}
+use Rattle.pg_spec.specs.Copies.{is_opened}
+use Rattle.pg_spec.specs.Dialogues.{decided_after}
 use Rattle.pg_core.specs.Copying.{copies, once_opened, puts}
 use Rattle.pg_core.specs.Runs.{IsTidy}
 use Rattle.pg_core.specs.Times.{IsCommand, IsFaithful, IsInTime, IsSane, Open, ReadsNo}

@@ -12,8 +12,8 @@ use Rattle.pg_desk.specs.declared.event.Take.{Take}
 use Rattle.pg_desk.specs.declared.event.Take.TheVariants as taking
 use Rattle.pg_desk.specs.declared.event.Event.{Event}
 use Rattle.pg_desk.specs.declared.event.Event.TheVariants as call
-use Rattle.pg_faults.specs.declared.error.Error.{Error}
-use Rattle.pg_faults.specs.declared.error.Error.TheVariants.{Closed, OutOfMemory}
+use Rattle.pg_types.specs.declared.error.Error.{Error}
+use Rattle.pg_types.specs.declared.error.Error.TheVariants.{Closed, OutOfMemory}
 use Rattle.pg_query.specs.Faults.{of_fault}
 use Rattle.pg_query.specs.Dialogue.{Dialogue, Answer, Ask, Send, Leave, Read, Put, Finish, Close, HangUp, Call, Hear, feed, fits, Told, question_of}
 use Rattle.pg_query.specs.Lives.{Deed, Leads}
@@ -23,8 +23,8 @@ use Rattle.pg_query.specs.declared.desk_call.DeskCall.{DeskCall}
 use Rattle.pg_query.specs.declared.desk_call.DeskCall.TheVariants as desk_call
 use Rattle.pg_query.specs.declared.desk_call.Reply.{Reply}
 use Rattle.pg_query.specs.declared.desk_call.Reply.TheVariants as reply
-use Rattle.pg_course.specs.Courses.{Asked, Request}
-use Rattle.pg_course.specs.Dialogues.{decided_after}
+use Rattle.pg_spec.specs.Courses.{Asked, Request}
+use Rattle.pg_spec.specs.Dialogues.{decided_after}
 use Rattle.pg_query.specs.Requests.{IsBehind, Refuses}
 use Rattle.pg_query.proofs.LeavingLaws.{told-fits}
 use Rattle.pg_query.proofs.RequestLaws.{moved, stays-answered}

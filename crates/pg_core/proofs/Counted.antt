@@ -3,9 +3,9 @@ use Rattle.std.proofs.Common.{◌≡◌, ℕ, ◌+◌, ◌-◌, ◌^◌, ◌<◌
 use Rattle.std.proofs.lemmas.Bool.Decides.{nat_tests}
 use Rattle.std.proofs.lemmas.List.{append-nil}
 use Rattle.pg_types.specs.declared.pg_type.PgType.{PgType}
-use Rattle.pg_statements.specs.declared.statement.Described.{Described as Statement}
-use Rattle.pg_statements.specs.declared.statement.Lookup.{Lookup}
-use Rattle.pg_statements.specs.declared.statement.Lookup.TheVariants.{Info, Enum, Composite}
+use Rattle.pg_desk.specs.declared.statement.Described.{Described as Statement}
+use Rattle.pg_desk.specs.declared.statement.Lookup.{Lookup}
+use Rattle.pg_desk.specs.declared.statement.Lookup.TheVariants.{Info, Enum, Composite}
 use Rattle.pg_spec.specs.declared.stamps.Stamp.{Stamp}
 use Rattle.pg_desk.specs.declared.event.DeskFault.TheVariants as fault
 use Rattle.pg_desk.specs.declared.event.CatalogCall.{CatalogCall}
@@ -23,7 +23,7 @@ use Rattle.pg_query.specs.declared.desk_call.DeskCall.{DeskCall}
 use Rattle.pg_query.specs.declared.desk_call.DeskCall.TheVariants as desk_call
 use Rattle.pg_query.specs.declared.desk_call.Reply.{Reply}
 use Rattle.pg_query.specs.declared.desk_call.Reply.TheVariants as reply
-use Rattle.pg_course.specs.Courses.{Asked, Who, stamp_of}
+use Rattle.pg_spec.specs.Courses.{Asked, Who, stamp_of}
 use Rattle.pg_core.specs.Deeds.{told_as, told_by, answers_in, granted, asked_in}
 use Rattle.pg_core.proofs.Granted.{granted-append}
 use Rattle.pg_core.specs.Lists.{events_of, state_behind}

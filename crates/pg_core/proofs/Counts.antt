@@ -7,7 +7,7 @@ use Rattle.pg_spec.proofs.GroupLaws as cuts
 use Rattle.pg_desk.specs.History.{State, IsFrontOf, IsSound, received, reply}
 use Rattle.pg_query.specs.declared.desk_call.DeskCall.{DeskCall}
 use Rattle.pg_query.specs.declared.desk_call.Reply.{Reply}
-use Rattle.pg_course.specs.Courses.{Course}
+use Rattle.pg_spec.specs.Courses.{Course}
 use Rattle.pg_core.specs.Lists.{came_of}
 use Rattle.pg_core.specs.Trails.{CameBy}
 

@@ -12,10 +12,10 @@ use Rattle.pg_desk.specs.declared.event.CatalogCall.{CatalogCall}
 use Rattle.pg_desk.specs.declared.event.CatalogCall.TheVariants as catalog
 use Rattle.pg_desk.specs.Catalog.{type_kept, statement_kept, AllowsUnlessFailed, AllowsCatalog}
 use Rattle.pg_types.specs.declared.pg_type.PgType.{PgType}
-use Rattle.pg_statements.specs.declared.statement.Described.{Described as Statement}
+use Rattle.pg_desk.specs.declared.statement.Described.{Described as Statement}
 use Rattle.pg_desk.specs.History.{State, Change, ClosedAll, FailedAll, change_of, changed, after, after_all, ended, Allows, IsLegal}
-use Rattle.pg_faults.specs.declared.error.Error.{Error}
-use Rattle.pg_faults.specs.declared.error.Error.TheVariants.{OutOfMemory}
+use Rattle.pg_types.specs.declared.error.Error.{Error}
+use Rattle.pg_types.specs.declared.error.Error.TheVariants.{OutOfMemory}
 use Rattle.pg_query.specs.Faults.{of_fault}
 use Rattle.pg_query.proofs.LeavingLaws.{told-fits}
 use Rattle.pg_query.specs.Dialogue as code

@@ -13,8 +13,8 @@ use Rattle.pg_query.specs.declared.desk_call.DeskCall.{DeskCall}
 use Rattle.pg_query.specs.declared.desk_call.DeskCall.TheVariants as desk_call
 use Rattle.pg_query.specs.declared.desk_call.Reply.{Reply}
 use Rattle.pg_query.specs.declared.desk_call.Reply.TheVariants as reply
-use Rattle.pg_course.specs.Courses.{Asked, Who}
-use Rattle.pg_course.specs.Meanings.{AreTold}
+use Rattle.pg_spec.specs.Courses.{Asked, Who}
+use Rattle.pg_spec.specs.Meanings.{AreTold}
 use Rattle.pg_core.specs.Counters.{number_to, portals_in, statements_in, tells}
 use Rattle.pg_core.specs.Deeds.{answers_in, asked_in, granted, told_as, told_by}
 use Rattle.pg_core.specs.Outcomes.{questions_in}

@@ -4,13 +4,13 @@ use Rattle.pg_spec.specs.Turns.{IsOwnTurn}
 use Rattle.pg_spec.specs.declared.stamps.Stamp.{Stamp}
 use Rattle.pg_desk.specs.History.{State, after_all, ended, IsLegal}
 use Rattle.pg_desk.specs.Kept.{stored-part}
-use Rattle.pg_faults.specs.declared.error.Error.TheVariants.{OutOfMemory}
+use Rattle.pg_types.specs.declared.error.Error.TheVariants.{OutOfMemory}
 use Rattle.pg_query.specs.Dialogue.{Dialogue, Answer}
 use Rattle.pg_query.specs.Lives.{Deed, Leads}
 use Rattle.pg_query.specs.Meaning.{Place}
 use Rattle.pg_query.specs.declared.desk_call.DeskCall.{DeskCall}
 use Rattle.pg_query.specs.declared.desk_call.Reply.{Reply}
-use Rattle.pg_course.specs.Courses.{Course, Who, stamp_of}
+use Rattle.pg_spec.specs.Courses.{Course, Who, stamp_of}
 use Rattle.pg_core.specs.Counters.{Counts, tells}
 use Rattle.pg_core.specs.Lists.{came_of, events_of, state_behind}
 use Rattle.pg_core.specs.Times.{IsFaithful, IsUpright, TurnedWell, StaysUpright, AnsweredWell, LackedMemory}

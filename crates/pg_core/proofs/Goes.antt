@@ -5,14 +5,14 @@ use Rattle.std.proofs.lemmas.List.{take-append-drop, drop-take, length-drop}
 use Rattle.std.proofs.Math.Seq.{drop-nil}
 use Rattle.pg_spec.specs.declared.stamps.Stamp.{Stamp}
 use Rattle.pg_spec.specs.RawMessages.{RawMessage}
-use Rattle.pg_faults.specs.declared.error.Error.{Error}
+use Rattle.pg_types.specs.declared.error.Error.{Error}
 use Rattle.pg_query.specs.Dialogue.{Dialogue, Answer, Ask, Send, Leave, Read, Put, Finish, Close, HangUp, Call, Hear}
 use Rattle.pg_query.specs.declared.desk_call.Cleanup.{Cleanup}
 use Rattle.pg_query.specs.declared.desk_call.DeskCall.{DeskCall}
 use Rattle.pg_query.specs.declared.desk_call.Reply.{Reply}
-use Rattle.pg_course.specs.Dialogues as said
-use Rattle.pg_course.specs.Dialogues.{decided_after}
-use Rattle.pg_course.specs.Courses.{Asked, Course, Request, Point, unread, reply_to, delivered_to, Who, stamp_of}
+use Rattle.pg_spec.specs.Dialogues as said
+use Rattle.pg_spec.specs.Dialogues.{decided_after}
+use Rattle.pg_spec.specs.Courses.{Asked, Course, Request, Point, unread, reply_to, delivered_to, Who, stamp_of}
 use Rattle.pg_core.proofs.Walk.{Step, goes, stands, books, sends, puts, asks, is_delivered}
 use Rattle.pg_core.specs.Runs.{Ran, of_request, stays, run, of_question}
 use Rattle.pg_core.specs.Deeds.{Addition, granted, AreGranted}

@@ -14,7 +14,7 @@ use Rattle.pg_desk.specs.declared.event.Event.TheVariants.{Book, Put as PutEvent
 use Rattle.pg_desk.specs.History.{State, Change, Booked, Added, Ended, LetGo, change_of, changed, start, extended, has_ended, is_in, is_hung_up, may_let_go, is_copying, is_running, waiting, after, after_all, take_answer, take_of_waiting, Allows, IsLegal, Taken, joined, taken}
 use Rattle.pg_desk.specs.Asking.{IsAsking}
 use Rattle.pg_desk.proofs.Parts.{extended-length}
-use Rattle.pg_faults.specs.declared.error.Error.{Error}
+use Rattle.pg_types.specs.declared.error.Error.{Error}
 use Rattle.pg_query.specs.Faults.{of_fault}
 use Rattle.pg_query.specs.Dialogue as code
 use Rattle.pg_query.specs.Dialogue.{Dialogue, Answer, feed, feed_one, after_reply, fits, Told, Steps}
@@ -23,8 +23,8 @@ use Rattle.pg_query.specs.declared.desk_call.DeskCall.{DeskCall}
 use Rattle.pg_query.specs.declared.desk_call.Reply.{Reply}
 use Rattle.pg_query.proofs.LeavingLaws.{told-fits}
 use Rattle.pg_query.proofs.Questions.{told-asks}
-use Rattle.pg_course.specs.Copies.{is_opened}
-use Rattle.pg_course.specs.Dialogues.{decided_after}
+use Rattle.pg_spec.specs.Copies.{is_opened}
+use Rattle.pg_spec.specs.Dialogues.{decided_after}
 use Rattle.pg_core.specs.Deeds.{taken_from}
 use Rattle.pg_core.specs.Lists.{events_of, got_of, IsReached, SparesAll}
 use Rattle.pg_core.specs.Runs.{ReadsNothing}

@@ -1,6 +1,6 @@
 -- Those of several supplies that weren't refused.
 use Rattle.std.proofs.Common.{◌≡◌, List, [], ◌∷◌, ◌++◌, Result, Ok, Err, refl, ap}
-use Rattle.pg_faults.specs.declared.error.Error.{Error}
+use Rattle.pg_types.specs.declared.error.Error.{Error}
 use Rattle.pg_core.specs.Deeds.{granted, AreGranted}
 
 pub granted-append : {A : Type 0} (xs ys : List (Result A Error)) → granted (xs ++ ys) ≡ granted xs ++ granted ys

@@ -33,3 +33,9 @@ pub mod Polls
 pub mod Waiting
 pub mod Behind
 pub mod Off
+pub mod Following
+pub mod Mays
+pub mod Searching
+pub mod InWorlds
+pub mod Telling
+pub mod Within

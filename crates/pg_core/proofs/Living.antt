@@ -3,8 +3,8 @@ use Rattle.std.proofs.Common.{◌≡◌, ℕ, zero, suc, ◌+◌, ◌≤◌, nat
 use Rattle.std.proofs.lemmas.Bool.Decides.{nat_tests}
 use Rattle.pg_spec.specs.RawMessages.{RawMessage}
 use Rattle.pg_spec.specs.Turns.{IsFirstTurn, IsOwnTurn}
-use Rattle.pg_course.specs.Dialogues.{Dialogue, Answers, Asks, Sends, Reads, Puts, Closes, Calls, decided_after}
-use Rattle.pg_course.specs.Courses.{Asked, Course, Request, Point, Given, Unfolds, unread, delivered_to, Who}
+use Rattle.pg_spec.specs.Dialogues.{Dialogue, Answers, Asks, Sends, Reads, Puts, Closes, Calls, decided_after}
+use Rattle.pg_spec.specs.Courses.{Asked, Course, Request, Point, Given, Unfolds, unread, delivered_to, Who}
 use Rattle.pg_core.proofs.Walk.{Step, goes, stands, with_parts, is_delivered, may_read}
 
 -- What a turn leads to: it reads no more in that turn; and where it unfolds from there, it unfolds from before.

@@ -11,7 +11,7 @@ use Rattle.pg_desk.specs.declared.event.Event.TheVariants.{Book, Put as PutEvent
 use Rattle.pg_desk.specs.Asking.{IsAsking}
 use Rattle.pg_desk.specs.History.{State, after, Allows, IsLegal}
 use Rattle.pg_desk.proofs.Parts.{extended-length}
-use Rattle.pg_faults.specs.declared.error.Error.{Error}
+use Rattle.pg_types.specs.declared.error.Error.{Error}
 use Rattle.pg_query.specs.Faults.{of_fault}
 use Rattle.pg_query.specs.Dialogue as code
 use Rattle.pg_query.specs.Dialogue.{Dialogue, Answer, feed, after_reply, Told, Steps}

@@ -2,8 +2,8 @@
 use Rattle.std.proofs.Common.{◌≡◌, ◌⊎◌, ℕ, ◌+◌, List, [], ◌∷◌, ◌++◌, length, map, take, drop, Bool, true, false, if◌then◌else◌, Option, Some, None, Result, Ok, Err, is_ok, refl, sym, ap, subst, ◌∙◌, inl, inr}
 use Rattle.std.proofs.lemmas.List.{drop-drop, length-take-le}
 use Rattle.pg_spec.specs.RawMessages.{RawMessage}
-use Rattle.pg_faults.specs.declared.error.Error.{Error}
-use Rattle.pg_faults.specs.declared.error.Error.TheVariants.{Closed, OutOfMemory}
+use Rattle.pg_types.specs.declared.error.Error.{Error}
+use Rattle.pg_types.specs.declared.error.Error.TheVariants.{Closed, OutOfMemory}
 use Rattle.pg_spec.specs.declared.stamps.Stamp.{Stamp}
 use Rattle.pg_desk.specs.History.{IsFrontOf}
 use Rattle.pg_desk.specs.declared.event.DeskFault.{DeskFault}
@@ -17,8 +17,8 @@ use Rattle.pg_query.specs.Meaning.{Place}
 use Rattle.pg_query.specs.Scripts.{IsRead, IsPut}
 use Rattle.pg_query.specs.declared.desk_call.DeskCall.{DeskCall}
 use Rattle.pg_query.specs.declared.desk_call.Reply.{Reply}
-use Rattle.pg_course.specs.Courses.{Asked, Request, Met, Outcome, outcome, nothing_yet, past_reply, with_request, with_sent, with_part, with_question as with_query}
-use Rattle.pg_course.specs.Dialogues.{decided_after}
+use Rattle.pg_spec.specs.Courses.{Asked, Request, Met, Outcome, outcome, nothing_yet, past_reply, with_request, with_sent, with_part, with_question as with_query}
+use Rattle.pg_spec.specs.Dialogues.{decided_after}
 use Rattle.pg_query.proofs.RequestLaws.{lives-lead}
 use Rattle.pg_core.specs.Deeds.{Addition, booked_by, bookings_in, added_by, additions_in, told_as, told_by, answers_in, granted, AreGranted, requests_in, added_in, whole_in, copies_in, asked_in, taken_from, Serves, EndsRefused}
 use Rattle.pg_core.specs.Runs.{AddsNone, AddsTo, MayWait, Ran, of_request, stays, run, ReadsNothing, IsTidy, Holds, Answered, Stands, Gave, Rests, Refused, Comes}

@@ -7,7 +7,7 @@ use Rattle.pg_spec.specs.Book.{Booking, is_of}
 use Rattle.pg_spec.specs.declared.stamps.Stamp.{Stamp}
 use Rattle.pg_query.specs.declared.desk_call.DeskCall.{DeskCall}
 use Rattle.pg_query.specs.declared.desk_call.Reply.{Reply}
-use Rattle.pg_course.specs.Courses.{Asked, Request, numbered, requests_of, questions_of, Who, stamp_of}
+use Rattle.pg_spec.specs.Courses.{Asked, Request, numbered, requests_of, questions_of, Who, stamp_of}
 use Rattle.pg_core.specs.Trails.{AreNumbered, AreToldIn}
 
 numbered-append : (n : ℕ) (bs cs : List Booking) → numbered n (bs ++ cs) ≡ numbered n bs ++ numbered (n + length bs) cs

@@ -13,8 +13,8 @@ use Rattle.pg_desk.specs.declared.event.Event.TheVariants.{Take as TakeEvent, Ha
 use Rattle.pg_desk.specs.History.{State, finished, has_ended, joined, waiting, is_hung_up, after, after_all, take_answer, take_of_waiting, Allows, IsFrontOf, IsLegal, kept}
 use Rattle.pg_desk.specs.Kept.{stored-part}
 use Rattle.pg_desk.proofs.Soundness.{AllCut, legal-kept}
-use Rattle.pg_faults.specs.declared.error.Error.{Error}
-use Rattle.pg_faults.specs.declared.error.Error.TheVariants.{OutOfMemory}
+use Rattle.pg_types.specs.declared.error.Error.{Error}
+use Rattle.pg_types.specs.declared.error.Error.TheVariants.{OutOfMemory}
 use Rattle.pg_query.specs.Faults.{of_fault}
 use Rattle.pg_query.specs.Dialogue as code
 use Rattle.pg_query.specs.Dialogue.{Dialogue, Answer, Steps, feed}

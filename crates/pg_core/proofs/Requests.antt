@@ -1,11 +1,11 @@
 -- A command of one request is a command that the core takes.
 use Rattle.std.proofs.Common.{◌≡◌, ℕ, ◌+◌, List, [], ◌∷◌, Bool, true, false, if◌then◌else◌, Option, Some, None, option_map, is_some, Result, Ok, Err, refl, ap}
 use Rattle.pg_spec.specs.RawMessages.{RawMessage, is_ready, ends_in}
-use Rattle.pg_faults.specs.declared.error.Error.{Error}
+use Rattle.pg_types.specs.declared.error.Error.{Error}
 use Rattle.pg_query.specs.Reading.{ends, reads}
 use Rattle.pg_query.specs.Requests.{asks, reads_unless}
 use Rattle.pg_query.specs.Dialogue.{Dialogue}
-use Rattle.pg_course.specs.Dialogues.{decided_after}
+use Rattle.pg_spec.specs.Dialogues.{decided_after}
 use Rattle.pg_core.specs.Runs.{AddsNone, IsTidy}
 use Rattle.pg_core.specs.Times.{ReadsNo, Free, IsSane, IsInTime, DecidesInTime, IsFaithful, IsCommand}
 

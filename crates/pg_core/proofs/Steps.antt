@@ -9,9 +9,9 @@ use Rattle.pg_desk.specs.declared.event.Event.TheVariants as call
 use Rattle.pg_desk.specs.History.{State, start, taken, waiting, is_hung_up, after, after_all, take_answer, take_of_waiting, IsLegal, IsFrontOf, IsSound, joined, kept, received, reply}
 use Rattle.pg_desk.specs.Kept.{after-joined, kept-joined, legal-joined, legal-later}
 use Rattle.pg_desk.proofs.Soundness.{legal-sound}
-use Rattle.pg_faults.specs.declared.error.Error.{Error}
+use Rattle.pg_types.specs.declared.error.Error.{Error}
 use Rattle.pg_query.specs.Dialogue as code
-use Rattle.pg_faults.specs.declared.error.Error.TheVariants.{OutOfMemory}
+use Rattle.pg_types.specs.declared.error.Error.TheVariants.{OutOfMemory}
 use Rattle.pg_query.specs.Lives.{Deed, Turn, Leads, Lives, deeds}
 use Rattle.pg_query.specs.Meaning.{Place}
 use Rattle.pg_core.specs.Deeds.{Serves, got_after}

@@ -6,14 +6,14 @@ use Rattle.pg_spec.specs.Batches.{is_batch}
 use Rattle.pg_spec.specs.RawMessages.{RawMessage, is_ready, is_aside, ends_in}
 use Rattle.pg_desk.specs.History.{Delivery, finished, between_ends, joined}
 use Rattle.pg_desk.proofs.Soundness.{AllCut}
-use Rattle.pg_faults.specs.declared.error.Error.{Error}
+use Rattle.pg_types.specs.declared.error.Error.{Error}
 use Rattle.pg_query.specs.Dialogue.{Dialogue, Answer, Ask, Send, Leave, Read, Put, Finish, Close, HangUp, Call, Hear}
 use Rattle.pg_query.specs.declared.desk_call.Cleanup.{Cleanup}
 use Rattle.pg_query.specs.declared.desk_call.DeskCall.{DeskCall}
 use Rattle.pg_query.specs.declared.desk_call.Reply.{Reply}
-use Rattle.pg_course.specs.Courses.{Asked, Request}
-use Rattle.pg_course.specs.Dialogues.{decided_after}
-use Rattle.pg_faults.specs.declared.error.Error.TheVariants.{Closed}
+use Rattle.pg_spec.specs.Courses.{Asked, Request}
+use Rattle.pg_spec.specs.Dialogues.{decided_after}
+use Rattle.pg_types.specs.declared.error.Error.TheVariants.{Closed}
 use Rattle.pg_core.specs.Deeds.{Addition, granted}
 use Rattle.pg_core.specs.Runs.{Ran, of_request, stays, if_gone, run}
 use Rattle.pg_core.specs.Times.{ReadsNo, IsTimely}

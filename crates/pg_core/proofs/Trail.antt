@@ -5,7 +5,7 @@ use Rattle.std.proofs.lemmas.List.{append-nil, take-append-drop, length-take-le,
 use Rattle.pg_spec.specs.RawMessages.{RawMessage}
 use Rattle.pg_spec.specs.Turns.{turn_of}
 use Rattle.pg_desk.specs.History.{IsFrontOf}
-use Rattle.pg_faults.specs.declared.error.Error.{Error}
+use Rattle.pg_types.specs.declared.error.Error.{Error}
 use Rattle.pg_query.specs.Dialogue as code
 use Rattle.pg_query.specs.Dialogue.{feed}
 use Rattle.pg_query.specs.Lives.{Deed, Leads}
@@ -13,8 +13,8 @@ use Rattle.pg_query.specs.Meaning.{Place}
 use Rattle.pg_query.specs.Scripts.{IsRead, IsPut}
 use Rattle.pg_query.specs.declared.desk_call.DeskCall.{DeskCall}
 use Rattle.pg_query.specs.declared.desk_call.Reply.{Reply}
-use Rattle.pg_course.specs.Courses.{Asked, Course, Request, Point, Given, Unfolds, begun_in, nowhere, delivered_to, Who}
-use Rattle.pg_course.specs.Dialogues.{Dialogue, Reads}
+use Rattle.pg_spec.specs.Courses.{Asked, Course, Request, Point, Given, Unfolds, begun_in, nowhere, delivered_to, Who}
+use Rattle.pg_spec.specs.Dialogues.{Dialogue, Reads}
 use Rattle.pg_core.proofs.Walk.{Step, is_delivered, may_read, with_parts}
 use Rattle.pg_core.proofs.Living.{Went, went}
 use Rattle.pg_core.specs.Deeds.{Serves, bookings_in, answers_in, additions_in, got_after, granted}

@@ -1,8 +1,8 @@
 -- A turn of a command as a function: it goes on as far as what was delivered lets it, and puts the parts of a copy for which there is room.
 use Rattle.std.specs.Prelude.{ℕ, zero, suc, ◌+◌, nat_le, List, [], ◌∷◌, ◌++◌, take, Bool, false, if◌then◌else◌, Option, Some, None}
 use Rattle.pg_spec.specs.declared.stamps.Stamp.{Stamp}
-use Rattle.pg_course.specs.Dialogues.{Dialogue, Answers, Asks, Sends, Reads, Puts, Closes, Calls, decided_after}
-use Rattle.pg_course.specs.Courses.{Asked, Course, Request, Point, Who, stamp_of, unread, delivered_to}
+use Rattle.pg_spec.specs.Dialogues.{Dialogue, Answers, Asks, Sends, Reads, Puts, Closes, Calls, decided_after}
+use Rattle.pg_spec.specs.Courses.{Asked, Course, Request, Point, Who, stamp_of, unread, delivered_to}
 
 -- What a command did, and where it stands. The request that it reads at last may get parts later: by these, the parts that the
 -- request gets which it read at first, and the requests that it booked.

@@ -1,8 +1,8 @@
 -- A copy to the server, as a dialogue: an opening, its parts, and an end (PostgreSQL documentation, "COPY Operations").
 use Rattle.std.specs.Prelude.{ℕ, List, [], ◌∷◌, true, Option, Some, None, is_some, Result, Ok, Err}
 use Rattle.pg_spec.specs.RawMessages.{RawMessage}
-use Rattle.pg_faults.specs.declared.error.Error.{Error}
-use Rattle.pg_faults.specs.declared.error.Error.TheVariants.{UnexpectedMessage}
+use Rattle.pg_types.specs.declared.error.Error.{Error}
+use Rattle.pg_types.specs.declared.error.Error.TheVariants.{UnexpectedMessage}
 use Rattle.pg_query.specs.Dialogue.{Dialogue, Answer, Ask, Read, Put, Finish, Close, HangUp}
 use Rattle.pg_query.specs.Reading.{reads}
 use Rattle.pg_query.specs.declared.desk_call.Cleanup.{Cleanup}

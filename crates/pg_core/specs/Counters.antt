@@ -1,9 +1,9 @@
 -- What a desk tells of its counters and of the catalog, by what it was asked before.
 use Rattle.std.specs.Prelude.{◌≡◌, ℕ, ◌+◌, ◌-◌, ◌^◌, ◌==◌, nat_lt, List, [], ◌∷◌, ◌++◌, map, Option, Some, None, if◌then◌else◌}
 use Rattle.pg_types.specs.declared.pg_type.PgType.{PgType}
-use Rattle.pg_statements.specs.declared.statement.Described.{Described as Statement}
-use Rattle.pg_statements.specs.declared.statement.Lookup.{Lookup}
-use Rattle.pg_statements.specs.declared.statement.Lookup.TheVariants.{Info, Enum, Composite}
+use Rattle.pg_desk.specs.declared.statement.Described.{Described as Statement}
+use Rattle.pg_desk.specs.declared.statement.Lookup.{Lookup}
+use Rattle.pg_desk.specs.declared.statement.Lookup.TheVariants.{Info, Enum, Composite}
 use Rattle.pg_desk.specs.Catalog.{Catalog, type_kept, statement_kept}
 use Rattle.pg_desk.specs.History.{State}
 use Rattle.pg_query.specs.Lives.{Deed}
@@ -11,7 +11,7 @@ use Rattle.pg_query.specs.declared.desk_call.DeskCall.{DeskCall}
 use Rattle.pg_query.specs.declared.desk_call.DeskCall.TheVariants as desk_call
 use Rattle.pg_query.specs.declared.desk_call.Reply.{Reply}
 use Rattle.pg_query.specs.declared.desk_call.Reply.TheVariants as reply
-use Rattle.pg_course.specs.Courses.{Who}
+use Rattle.pg_spec.specs.Courses.{Who}
 use Rattle.pg_core.specs.Deeds.{asked_in}
 use Rattle.pg_core.specs.Lists.{state_behind}
 use Rattle.pg_core.specs.Trails.{AreToldIn}

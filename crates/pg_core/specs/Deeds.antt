@@ -10,8 +10,8 @@ use Rattle.pg_desk.specs.declared.event.Put.TheVariants as putting
 use Rattle.pg_desk.specs.declared.event.Take.TheVariants as taking
 use Rattle.pg_desk.specs.declared.event.Event.{Event}
 use Rattle.pg_desk.specs.declared.event.Event.TheVariants as call
-use Rattle.pg_faults.specs.declared.error.Error.{Error}
-use Rattle.pg_faults.specs.declared.error.Error.TheVariants.{Closed, OutOfMemory}
+use Rattle.pg_types.specs.declared.error.Error.{Error}
+use Rattle.pg_types.specs.declared.error.Error.TheVariants.{Closed, OutOfMemory}
 use Rattle.pg_query.specs.Faults.{of_fault}
 use Rattle.pg_query.specs.Dialogue.{Dialogue, Answer, question_of, reply_of}
 use Rattle.pg_query.specs.Lives.{Deed}
@@ -19,7 +19,7 @@ use Rattle.pg_query.specs.declared.desk_call.DeskCall.{DeskCall}
 use Rattle.pg_query.specs.declared.desk_call.DeskCall.TheVariants as desk_call
 use Rattle.pg_query.specs.declared.desk_call.Reply.{Reply}
 use Rattle.pg_query.specs.declared.desk_call.Reply.TheVariants as reply
-use Rattle.pg_course.specs.Courses.{Asked, Request}
+use Rattle.pg_spec.specs.Courses.{Asked, Request}
 
 -- what became of a booking that an event tells of: the request, or why there is none
 abbrev pub booked_by : Event → List (Result Request Error)

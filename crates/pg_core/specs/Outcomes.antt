@@ -1,8 +1,8 @@
 -- The outcome of a command's life, without turns.
 use Rattle.std.specs.Prelude.{◌≡◌, ◌⊎◌, ℕ, List, [], ◌∷◌, map, Bool, true, false, None, Some, Result, Err, is_ok, if◌then◌else◌}
 use Rattle.pg_spec.specs.RawMessages.{RawMessage}
-use Rattle.pg_faults.specs.declared.error.Error.{Error}
-use Rattle.pg_faults.specs.declared.error.Error.TheVariants.{Closed, OutOfMemory}
+use Rattle.pg_types.specs.declared.error.Error.{Error}
+use Rattle.pg_types.specs.declared.error.Error.TheVariants.{Closed, OutOfMemory}
 use Rattle.pg_desk.specs.History.{IsFrontOf}
 use Rattle.pg_desk.specs.declared.event.DeskFault.TheVariants as fault
 use Rattle.pg_desk.specs.declared.event.Put.TheVariants as putting
@@ -12,8 +12,8 @@ use Rattle.pg_query.specs.Dialogue as code
 use Rattle.pg_query.specs.Lives.{Deed}
 use Rattle.pg_query.specs.declared.desk_call.DeskCall.{DeskCall}
 use Rattle.pg_query.specs.declared.desk_call.Reply.{Reply}
-use Rattle.pg_course.specs.Courses.{Asked, Request, Met, outcome_of}
-use Rattle.pg_course.specs.Dialogues.{Dialogue, Answers, Asks, Sends, Reads, Puts, Closes, Calls}
+use Rattle.pg_spec.specs.Courses.{Asked, Request, Met, outcome_of}
+use Rattle.pg_spec.specs.Dialogues.{Dialogue, Answers, Asks, Sends, Reads, Puts, Closes, Calls}
 use Rattle.pg_core.specs.Deeds.{bookings_in, additions_in, answers_in, requests_in, whole_in, copies_in, asked_in, EndsRefused}
 use Rattle.pg_core.specs.Runs.{run}
 

@@ -1,15 +1,15 @@
 -- A stretch of a command as a function of what came, of the numbers that it was given and of what it was told.
 use Rattle.std.specs.Prelude.{◌≡◌, ◌⊎◌, ℕ, ◌+◌, ◌≤◌, List, [], ◌∷◌, ◌++◌, length, take, drop, Bool, true, false, Option, Some, None, Result, Ok, Err}
 use Rattle.pg_spec.specs.RawMessages.{RawMessage}
-use Rattle.pg_faults.specs.declared.error.Error.{Error}
-use Rattle.pg_faults.specs.declared.error.Error.TheVariants.{Closed}
+use Rattle.pg_types.specs.declared.error.Error.{Error}
+use Rattle.pg_types.specs.declared.error.Error.TheVariants.{Closed}
 use Rattle.pg_query.specs.Dialogue.{Dialogue, Answer, Ask, Send, Leave, Read, Put, Finish, Close, HangUp, Call, Hear, feed, fits}
 use Rattle.pg_query.specs.Lives.{Deed}
 use Rattle.pg_query.specs.Scripts.{IsPut, IsRead}
 use Rattle.pg_query.specs.declared.desk_call.DeskCall.{DeskCall}
 use Rattle.pg_query.specs.declared.desk_call.Reply.{Reply}
-use Rattle.pg_course.specs.Courses.{Asked, Request}
-use Rattle.pg_course.specs.Dialogues.{decided_after}
+use Rattle.pg_spec.specs.Courses.{Asked, Request}
+use Rattle.pg_spec.specs.Dialogues.{decided_after}
 use Rattle.pg_core.specs.Deeds.{Addition, requests_in, copies_in, added_in, asked_in, parts_of, whole_in, got_after, EndsRefused}
 
 -- What it booked, added and asked, and where it stands: the request that it reads, how many messages it has read of it, and what is

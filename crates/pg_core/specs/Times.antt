@@ -11,10 +11,10 @@ use Rattle.pg_query.specs.Lives.{Deed}
 use Rattle.pg_query.specs.declared.desk_call.Cleanup.{Cleanup}
 use Rattle.pg_query.specs.declared.desk_call.Cleanup.TheVariants.{Close as CloseFirst}
 use Rattle.pg_query.specs.declared.desk_call.Reply.{Reply}
-use Rattle.pg_course.specs.Copies.{is_opened}
-use Rattle.pg_course.specs.Dialogues.{decided_after}
-use Rattle.pg_faults.specs.declared.error.Error.{Error}
-use Rattle.pg_faults.specs.declared.error.Error.TheVariants.{OutOfMemory}
+use Rattle.pg_spec.specs.Copies.{is_opened}
+use Rattle.pg_spec.specs.Dialogues.{decided_after}
+use Rattle.pg_types.specs.declared.error.Error.{Error}
+use Rattle.pg_types.specs.declared.error.Error.TheVariants.{OutOfMemory}
 use Rattle.pg_query.specs.Meaning.{Place}
 use Rattle.pg_core.specs.Lists.{IsReached, got_of}
 use Rattle.pg_core.specs.Runs.{of_request, IsTidy, ReadsNothing, MayWait}

@@ -1,9 +1,9 @@
 -- What a desk tells of the catalog is what was kept last.
 use Rattle.std.proofs.Common.{◌≡◌, ℕ, ◌==◌, List, [], ◌∷◌, ◌++◌, Bool, true, false, if◌then◌else◌, Option, Some, None, Ok, refl, ◌∙◌, ap}
 use Rattle.pg_types.specs.declared.pg_type.PgType.{PgType}
-use Rattle.pg_statements.specs.declared.statement.Described.{Described as Statement}
-use Rattle.pg_statements.specs.declared.statement.Lookup.{Lookup}
-use Rattle.pg_statements.specs.declared.statement.Lookup.TheVariants.{Info, Enum, Composite}
+use Rattle.pg_desk.specs.declared.statement.Described.{Described as Statement}
+use Rattle.pg_desk.specs.declared.statement.Lookup.{Lookup}
+use Rattle.pg_desk.specs.declared.statement.Lookup.TheVariants.{Info, Enum, Composite}
 use Rattle.pg_desk.specs.declared.event.FoundType.{FoundType}
 use Rattle.pg_desk.specs.declared.event.CatalogCall.TheVariants.{TypeOf, SetType, ClearTypes, LookupOf, SetLookup}
 use Rattle.pg_desk.specs.declared.event.Event.{Event}

@@ -1,9 +1,9 @@
 -- What was kept of the catalog last, by the calls before.
 use Rattle.std.specs.Prelude.{ℕ, ◌==◌, List, [], ◌∷◌, if◌then◌else◌, Option, Some, None, Ok}
 use Rattle.pg_types.specs.declared.pg_type.PgType.{PgType}
-use Rattle.pg_statements.specs.declared.statement.Described.{Described as Statement}
-use Rattle.pg_statements.specs.declared.statement.Lookup.{Lookup}
-use Rattle.pg_statements.specs.declared.statement.Lookup.TheVariants.{Info, Enum, Composite}
+use Rattle.pg_desk.specs.declared.statement.Described.{Described as Statement}
+use Rattle.pg_desk.specs.declared.statement.Lookup.{Lookup}
+use Rattle.pg_desk.specs.declared.statement.Lookup.TheVariants.{Info, Enum, Composite}
 use Rattle.pg_desk.specs.declared.event.Event.{Event}
 use Rattle.pg_desk.specs.declared.event.CatalogCall.TheVariants.{SetType, ClearTypes, SetLookup}
 use Rattle.pg_desk.specs.History.{Change, Catalogued, change_of}

@@ -1,10 +1,10 @@
 -- What a desk keeps of the server's catalog: types that were found, and the statements that look types up.
 use Rattle.std.specs.Prelude.{◌≡◌, ℕ, ◌==◌, List, [], ◌∷◌, ◌++◌, Bool, true, false, if◌then◌else◌, Option, Some, None, IsSome, Result, Ok, Err}
 use Rattle.pg_types.specs.declared.pg_type.PgType.{PgType}
-use Rattle.pg_statements.specs.declared.statement.Described.{Described as Statement}
+use Rattle.pg_desk.specs.declared.statement.Described.{Described as Statement}
 use Rattle.pg_desk.specs.declared.event.FoundType.{FoundType}
-use Rattle.pg_statements.specs.declared.statement.Lookup.{Lookup}
-use Rattle.pg_statements.specs.declared.statement.Lookup.TheVariants.{Info, Enum, Composite}
+use Rattle.pg_desk.specs.declared.statement.Lookup.{Lookup}
+use Rattle.pg_desk.specs.declared.statement.Lookup.TheVariants.{Info, Enum, Composite}
 use Rattle.pg_desk.specs.declared.event.DeskFault.{DeskFault}
 use Rattle.pg_desk.specs.declared.event.DeskFault.TheVariants.{Closed, Encode, OutOfMemory}
 use Rattle.pg_desk.specs.declared.event.CatalogCall.{CatalogCall}

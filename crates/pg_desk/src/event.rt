@@ -1,8 +1,8 @@
 //! One event of the core is one call of a desk or an engine, with its arguments and its answer.
 
+use crate::{Lookup, Statement};
 use bytes::Bytes;
 use pg_spec::Stamp;
-use pg_statements::{Lookup, Statement};
 use pg_types::{Blob, List, Oid, Type};
 use pg_wire::BackendMessages;
 

@@ -1,9 +1,9 @@
 -- Faults of the wire as errors: want of memory stays want of memory.
-use Rattle.pg_faults.specs.declared.fault.WireFault.{WireFault}
-use Rattle.pg_faults.specs.declared.fault.WireFault.TheVariants as wire
-use Rattle.pg_faults.specs.declared.cause.Cause.TheVariants.{Wire}
-use Rattle.pg_faults.specs.declared.error.Error.{Error}
-use Rattle.pg_faults.specs.declared.error.Error.TheVariants.{Parse, OutOfMemory}
+use Rattle.pg_types.specs.declared.faults.WireFault.{WireFault}
+use Rattle.pg_types.specs.declared.faults.WireFault.TheVariants as wire
+use Rattle.pg_types.specs.declared.cause.Cause.TheVariants.{Wire}
+use Rattle.pg_types.specs.declared.error.Error.{Error}
+use Rattle.pg_types.specs.declared.error.Error.TheVariants.{Parse, OutOfMemory}
 
 -- a malformed message, as the error of the command that reads it
 abbrev pub of_wire : WireFault → Error

@@ -4,5 +4,5 @@ pub mod Parsing
 pub mod Fields
 pub mod Parts
 pub mod Notices
-pub use Rattle.pg_faults.specs.Getters
-pub use Rattle.pg_faults.specs.Sources
+pub use Rattle.pg_types.specs.Getters
+pub use Rattle.pg_types.specs.Sources

@@ -3,9 +3,9 @@ use Rattle.std.specs.Prelude.{◌≡◌, ◌&&◌, true, false, Result, Ok, Err}
 use Rattle.std.specs.Str.{is_utf8}
 use Rattle.pg_wire.specs.Bodies.{Notified}
 use Rattle.pg_errors.specs.declared.async_message.Notification.{Notification}
-use Rattle.pg_faults.specs.declared.cause.Cause.TheVariants as cause
-use Rattle.pg_faults.specs.declared.error.Error.{Error}
-use Rattle.pg_faults.specs.declared.error.Error.TheVariants as error
+use Rattle.pg_types.specs.declared.cause.Cause.TheVariants as cause
+use Rattle.pg_types.specs.declared.error.Error.{Error}
+use Rattle.pg_types.specs.declared.error.Error.TheVariants as error
 
 -- the notification holds what was read
 pub record IsNotification (body : Notified) (n : Notification) : Type 0 where

@@ -6,10 +6,10 @@ use Rattle.pg_spec.specs.Report.{async_message}
 use Rattle.pg_wire.specs.declared.message.Message.{Message}
 use Rattle.pg_wire.specs.declared.message.Message.TheVariants as wire
 use Rattle.pg_wire.specs.Messages.{message_view}
-use Rattle.pg_faults.specs.declared.cause.Cause.TheVariants as cause
-use Rattle.pg_faults.specs.declared.db_error.DbError.{DbError}
-use Rattle.pg_faults.specs.declared.error.Error.{Error}
-use Rattle.pg_faults.specs.declared.error.Error.TheVariants as error
+use Rattle.pg_types.specs.declared.cause.Cause.TheVariants as cause
+use Rattle.pg_types.specs.declared.db_error.DbError.{DbError}
+use Rattle.pg_types.specs.declared.error.Error.{Error}
+use Rattle.pg_types.specs.declared.error.Error.TheVariants as error
 use Rattle.pg_errors.specs.declared.async_message.AsyncMessage.{AsyncMessage}
 use Rattle.pg_errors.specs.Views.{async_of}
 

@@ -5,8 +5,7 @@ ghost use Rattle.pg_errors.specs.Parsing.{ReadsAside};
 ghost use Rattle.pg_errors.specs.Notices.{ReadsNotification};
 
 use crate::db_error::ParseFields;
-use pg_faults::{Cause, DbError, Error};
-use pg_types::{Held, OutOfMemory, Text};
+use pg_types::{Cause, DbError, Error, Held, OutOfMemory, Text};
 use pg_wire::{Message, NotificationResponseBody};
 use std::alloc::Global;
 

@@ -3,7 +3,7 @@
 ghost use Rattle.pg_errors.specs.Parsing.{ParsesError};
 
 use crate::error_fields::{are_in_form, are_laid_out, read_rest, text};
-use pg_faults::{Cause, DbError, Error, SqlState};
+use pg_types::{Cause, DbError, Error, SqlState};
 use pg_wire::ErrorResponseBody;
 use std::alloc::Global;
 

@@ -9,11 +9,10 @@ ghost use Rattle.pg_spec.specs.DbErrors as spec;
 ghost use Rattle.pg_spec.specs.Numerals as numerals;
 ghost use Rattle.pg_errors.specs.Fields.{fields_in, value_of};
 ghost use Rattle.pg_errors.specs.Parts.{AreNames, AreWords, IsOrigin, IsRest};
-ghost use Rattle.pg_faults.specs.declared.error.Error.TheVariants.{OutOfMemory};
+ghost use Rattle.pg_types.specs.declared.error.Error.TheVariants.{OutOfMemory};
 
 use crate::severity::named_severity;
-use pg_faults::{Error, ErrorPosition, Severity};
-use pg_types::Text;
+use pg_types::{Error, ErrorPosition, Severity, Text};
 use pg_wire::ErrorResponseBody;
 use std::alloc::Global;
 

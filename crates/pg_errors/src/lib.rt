@@ -8,6 +8,6 @@ mod severity;
 
 pub use async_message::{AsyncMessage, Notification};
 pub use db_error::ParseFields;
-pub use pg_faults::{
+pub use pg_types::{
     Cause, DbError, Error, ErrorKind, ErrorPosition, ScramFault, Severity, Source, SqlState,
 };

@@ -3,7 +3,7 @@
 ghost use Rattle.std.specs.Prelude.{◌≡◌};
 ghost use Rattle.pg_spec.specs.DbErrors.{severity_named};
 
-use pg_faults::Severity;
+use pg_types::Severity;
 
 /// The severity of this name, in capitals.
 pub(crate) fn named_severity(name: &str) -> Option<Severity>

@@ -10,11 +10,11 @@ use Rattle.pg_spec.specs.Messages.{Message, BindComplete, CommandComplete, DataR
 use Rattle.pg_spec.specs.RawMessages.{RawMessage}
 use Rattle.pg_spec.specs.Readings.{Next, GoesOn, Answers, Decision, decided_by, decision, one_later}
 use Rattle.pg_spec.specs.SimpleQuery.{affected}
-use Rattle.pg_faults.specs.declared.error.Error.{Error}
-use Rattle.pg_statements.specs.declared.column.Column.{Column}
-use Rattle.pg_statements.specs.declared.statement.Described.{Described as Statement}
-use Rattle.pg_lookup.specs.Cells.{Cells}
-use Rattle.pg_lookup.specs.QueryReplies.{Said, Bound, Row, Complete, Empty, Suspended, Ready, Fails, query_said, row_said, said_by, told_by}
+use Rattle.pg_types.specs.declared.error.Error.{Error}
+use Rattle.pg_desk.specs.declared.column.Column.{Column}
+use Rattle.pg_desk.specs.declared.statement.Described.{Described as Statement}
+use Rattle.pg_core.specs.Cells.{Cells}
+use Rattle.pg_core.specs.QueryReplies.{Said, Bound, Row, Complete, Empty, Suspended, Ready, Fails, query_said, row_said, said_by, told_by}
 use Rattle.pg_rows.specs.Rows.{RowOf, row_of}
 use Rattle.pg_execute.specs.Executes.{first_queried, queried, whole_rows}
 use Rattle.pg_execute.specs.ResultRows.{rows_behind, rows_with}

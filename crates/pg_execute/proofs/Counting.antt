@@ -5,11 +5,11 @@ use Rattle.pg_spec.specs.Messages as message
 use Rattle.pg_spec.specs.RawMessages.{RawMessage}
 use Rattle.pg_spec.specs.Readings.{Next, Answers}
 use Rattle.pg_wire.specs.Faults.{wire_fault}
-use Rattle.pg_faults.specs.declared.fault.WireFault.{WireFault}
-use Rattle.pg_faults.specs.declared.error.Error.{Error}
+use Rattle.pg_types.specs.declared.faults.WireFault.{WireFault}
+use Rattle.pg_types.specs.declared.error.Error.{Error}
 use Rattle.pg_query.specs.Messages.{IsMalformed}
 use Rattle.pg_query.specs.Replies.{malformed_error}
-use Rattle.pg_prepare.proofs.Telling.{reads-on}
+use Rattle.pg_core.proofs.Telling.{reads-on}
 use Rattle.pg_execute.specs.Counts.{Counted, count_by, count_next}
 use Rattle.pg_execute.specs.CountReadings.{counted_of, reading_of_count}
 use Rattle.pg_execute.specs.declared.count_reading.CountReading.{CountReading}

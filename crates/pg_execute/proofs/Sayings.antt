@@ -7,11 +7,11 @@ use Rattle.pg_spec.specs.RawMessages.{RawMessage}
 use Rattle.pg_wire.specs.Faults.{wire_fault}
 use Rattle.pg_wire.specs.declared.message.Message as wire
 use Rattle.pg_wire.specs.declared.message.Message.TheVariants as received
-use Rattle.pg_faults.specs.declared.fault.WireFault.{WireFault}
-use Rattle.pg_faults.specs.declared.error.Error.{Error}
+use Rattle.pg_types.specs.declared.faults.WireFault.{WireFault}
+use Rattle.pg_types.specs.declared.error.Error.{Error}
 use Rattle.pg_query.specs.Messages.{IsMalformed}
 use Rattle.pg_query.specs.Replies.{malformed_error}
-use Rattle.pg_lookup.specs.QueryReplies.{Said, Fails, query_said, said_by}
+use Rattle.pg_core.specs.QueryReplies.{Said, Fails, query_said, said_by}
 
 -- what is said by what a message means
 abbrev said-of : Bool → ℕ → Result Message spec.WireFault → Said

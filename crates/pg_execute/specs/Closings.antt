@@ -1,7 +1,7 @@
 -- Where what closes a statement stands.
 use Rattle.std.specs.Prelude.{ℕ, List, Option, Some, None, Result, Err}
-use Rattle.pg_faults.specs.declared.error.Error.{Error}
-use Rattle.pg_faults.specs.declared.error.Error.TheVariants.{Closed}
+use Rattle.pg_types.specs.declared.error.Error.{Error}
+use Rattle.pg_types.specs.declared.error.Error.TheVariants.{Closed}
 use Rattle.pg_query.specs.Dialogue.{Dialogue, Answer}
 use Rattle.pg_execute.specs.Executes.{posts_before}
 use Rattle.pg_execute.specs.declared.closing.Posts.{Posts}

@@ -1,7 +1,7 @@
 -- What the reading of a count tells from here on.
 use Rattle.std.specs.Prelude.{ℕ, List, Option, Result}
 use Rattle.pg_spec.specs.RawMessages.{RawMessage}
-use Rattle.pg_faults.specs.declared.error.Error.{Error}
+use Rattle.pg_types.specs.declared.error.Error.{Error}
 use Rattle.pg_execute.specs.Counts.{Counted, count_read}
 use Rattle.pg_execute.specs.declared.count_reading.CountReading.{CountReading}
 

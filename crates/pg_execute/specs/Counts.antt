@@ -8,8 +8,8 @@ use Rattle.pg_spec.specs.Messages.{message_of}
 use Rattle.pg_spec.specs.RawMessages.{RawMessage}
 use Rattle.pg_spec.specs.Readings.{Next, GoesOn, Answers}
 use Rattle.pg_spec.specs.SimpleQuery.{affected, server_error}
-use Rattle.pg_faults.specs.declared.error.Error.{Error}
-use Rattle.pg_lookup.specs.QueryReplies.{told_by}
+use Rattle.pg_types.specs.declared.error.Error.{Error}
+use Rattle.pg_core.specs.QueryReplies.{told_by}
 
 -- What was read so far.
 pub record Counted : Type 0 where

@@ -1,6 +1,6 @@
 -- Where one of two scripts stands.
 use Rattle.std.specs.Prelude.{ℕ}
-use Rattle.pg_faults.specs.declared.error.Error.{Error}
+use Rattle.pg_types.specs.declared.error.Error.{Error}
 use Rattle.pg_query.specs.Dialogue.{Dialogue}
 use Rattle.pg_query.specs.Scripts.{Waiting}
 use Rattle.pg_execute.specs.declared.either.Either.{Either}

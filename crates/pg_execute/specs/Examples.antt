@@ -7,14 +7,14 @@ use Rattle.pg_spec.specs.RawMessages.{RawMessage}
 use Rattle.pg_types.specs.declared.pg_type.Kind.{Kind}
 use Rattle.pg_types.specs.declared.value.Value.{Value}
 use Rattle.pg_types.specs.declared.value.Value.TheVariants as value
-use Rattle.pg_faults.specs.declared.error.Error.{Error}
-use Rattle.pg_statements.specs.declared.statement.Described.{Described as Statement}
-use Rattle.pg_statements.specs.declared.column.Column.{Column}
-use Rattle.pg_lookup.specs.Cells.{Cells}
-use Rattle.pg_lookup.specs.Examples.{Came, over, int4}
-use Rattle.pg_lookup.specs.Lookups.{find_all, prepare}
-use Rattle.pg_lookup.specs.Replies.{column, data_row, described, message, ready}
-use Rattle.pg_lookup.specs.Worlds.{new_desk}
+use Rattle.pg_types.specs.declared.error.Error.{Error}
+use Rattle.pg_desk.specs.declared.statement.Described.{Described as Statement}
+use Rattle.pg_desk.specs.declared.column.Column.{Column}
+use Rattle.pg_core.specs.Cells.{Cells}
+use Rattle.pg_core.specs.Examples.{Came, over, int4}
+use Rattle.pg_core.specs.Lookups.{find_all, prepare}
+use Rattle.pg_core.specs.LookupReplies.{column, data_row, described, message, ready}
+use Rattle.pg_core.specs.Worlds.{new_desk}
 use Rattle.pg_execute.specs.Executes.{query, query_raw, query_scalar, execute, on_text}
 use Rattle.pg_execute.specs.Typed.{execute_typed, query_typed}
 use Rattle.pg_execute.specs.declared.how_many.HowMany.{HowMany}

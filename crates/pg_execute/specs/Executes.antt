@@ -5,15 +5,15 @@ use Rattle.pg_spec.specs.Faults.{◌>>=◌, FrameFault}
 use Rattle.pg_spec.specs.Frames.{close_frame, sync_frame}
 use Rattle.pg_spec.specs.RawMessages.{RawMessage}
 use Rattle.pg_types.specs.declared.value.Value.{Value}
-use Rattle.pg_faults.specs.declared.error.Error.{Error}
-use Rattle.pg_statements.specs.declared.statement.Described.{Described as Statement}
+use Rattle.pg_types.specs.declared.error.Error.{Error}
+use Rattle.pg_desk.specs.declared.statement.Described.{Described as Statement}
 use Rattle.pg_query.specs.declared.desk_call.Cleanup.{Cleanup}
 use Rattle.pg_query.specs.declared.desk_call.Cleanup.TheVariants.{Post}
 use Rattle.pg_query.specs.Dialogue.{Dialogue, Answer, Send}
 use Rattle.pg_query.specs.Reading.{reads}
 use Rattle.pg_core.specs.Behind.{behind}
-use Rattle.pg_scripts.specs.Sequences.{then_do}
-use Rattle.pg_lookup.specs.Composing.{asks_for, or_encode}
+use Rattle.pg_core.specs.Sequences.{then_do}
+use Rattle.pg_core.specs.Composing.{asks_for, or_encode}
 use Rattle.pg_execute.specs.Counts.{count_read, nothing_counted}
 use Rattle.pg_execute.specs.Parameters.{execute_request}
 use Rattle.pg_execute.specs.Rows.{first_rows_read, nothing_got, rows_read}

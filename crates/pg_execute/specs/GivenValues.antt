@@ -1,7 +1,7 @@
 -- Values of Bind, as they were written.
 use Rattle.std.specs.Prelude.{◌≡◌, ℕ, List, [], ◌∷◌, ◌++◌, map, flat_map, Option, Result, Ok, Err, pos}
 use Rattle.pg_spec.specs.Frames.{value_bytes}
-use Rattle.pg_faults.specs.declared.error.Error.{Error}
+use Rattle.pg_types.specs.declared.error.Error.{Error}
 use Rattle.pg_execute.specs.declared.given_values.GivenValues.{GivenValues}
 
 -- these values were written, each in binary form

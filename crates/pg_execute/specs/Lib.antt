@@ -14,3 +14,9 @@ pub mod Saying
 pub mod Targets
 pub mod Typed
 pub mod Values
+pub mod TypedCounts
+pub mod Knowing
+pub mod Reads
+pub mod Rests
+pub mod Types
+pub mod Typing

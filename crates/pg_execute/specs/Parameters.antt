@@ -6,9 +6,9 @@ use Rattle.pg_types.specs.declared.pg_type.PgType.{PgType}
 use Rattle.pg_types.specs.declared.value.Value.{Value}
 use Rattle.pg_types.specs.AnyValues.{is_accepted, value_gives, wrong_given}
 use Rattle.pg_types.specs.Values.{Given}
-use Rattle.pg_faults.specs.declared.error.Error.{Error}
-use Rattle.pg_statements.specs.declared.statement.Described.{Described as Statement}
-use Rattle.pg_lookup.specs.Composing.{or_encode}
+use Rattle.pg_types.specs.declared.error.Error.{Error}
+use Rattle.pg_desk.specs.declared.statement.Described.{Described as Statement}
+use Rattle.pg_core.specs.Composing.{or_encode}
 
 -- what a value gives under the type of its parameter, which it may not stand under
 abbrev pub given_under : PgType → Value → Given

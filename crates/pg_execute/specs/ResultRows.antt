@@ -1,9 +1,9 @@
 -- The rows of an answer, each with its columns.
 use Rattle.std.specs.Prelude.{List, [], ◌∷◌, ◌++◌, map, Result, Ok}
 use Rattle.pg_spec.specs.Faults.{◌>>=◌}
-use Rattle.pg_faults.specs.declared.error.Error.{Error}
-use Rattle.pg_statements.specs.declared.column.Column.{Column}
-use Rattle.pg_lookup.specs.Cells.{Cells}
+use Rattle.pg_types.specs.declared.error.Error.{Error}
+use Rattle.pg_desk.specs.declared.column.Column.{Column}
+use Rattle.pg_core.specs.Cells.{Cells}
 use Rattle.pg_rows.specs.Rows.{RowOf, row_of}
 
 -- The rows of these columns, behind those that were made. The first that has another number of cells decides.

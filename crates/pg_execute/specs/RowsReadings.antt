@@ -1,8 +1,8 @@
 -- What the readings of replies tell from here on.
 use Rattle.std.specs.Prelude.{List, length, Option, Result}
 use Rattle.pg_spec.specs.RawMessages.{RawMessage}
-use Rattle.pg_faults.specs.declared.error.Error.{Error}
-use Rattle.pg_statements.specs.declared.statement.Described.{Described as Statement}
+use Rattle.pg_types.specs.declared.error.Error.{Error}
+use Rattle.pg_desk.specs.declared.statement.Described.{Described as Statement}
 use Rattle.pg_execute.specs.Rows.{first_rows_read, rows_read}
 use Rattle.pg_execute.specs.declared.first_rows.FirstRows.{FirstRows}
 use Rattle.pg_execute.specs.declared.got.Got.{Got}

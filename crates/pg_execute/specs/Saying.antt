@@ -1,8 +1,8 @@
 -- What a message of a query's reply says, as it was read.
 use Rattle.std.specs.Prelude.{Result, Ok, Err}
-use Rattle.pg_faults.specs.declared.fault.WireFault.{WireFault}
+use Rattle.pg_types.specs.declared.faults.WireFault.{WireFault}
 use Rattle.pg_wire.specs.declared.message.Message.{Message}
-use Rattle.pg_lookup.specs.QueryReplies as spec
+use Rattle.pg_core.specs.QueryReplies as spec
 use Rattle.pg_execute.specs.declared.said.Said.{Said}
 use Rattle.pg_execute.specs.declared.said.Said.TheVariants as read
 

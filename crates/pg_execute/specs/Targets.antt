@@ -1,9 +1,9 @@
 -- What is asked and answered where a target is executed: a statement, or a text.
 use Rattle.std.specs.Prelude.{ℕ, List, Ok, Err}
-use Rattle.pg_faults.specs.declared.error.Error.{Error}
-use Rattle.pg_faults.specs.declared.error.Error.TheVariants.{Closed}
+use Rattle.pg_types.specs.declared.error.Error.{Error}
+use Rattle.pg_types.specs.declared.error.Error.TheVariants.{Closed}
 use Rattle.pg_query.specs.Dialogue.{Dialogue, Answer}
-use Rattle.pg_statements.specs.declared.statement.Described.{Described}
+use Rattle.pg_desk.specs.declared.statement.Described.{Described}
 use Rattle.pg_execute.specs.Executes.{on_text}
 use Rattle.pg_execute.specs.declared.handed.Handed.{Handed}
 use Rattle.pg_execute.specs.declared.handed.Handed.TheVariants as handed

@@ -13,18 +13,18 @@ use Rattle.pg_spec.specs.SimpleQuery.{affected, server_error, unreadable}
 use Rattle.pg_types.specs.BuiltIns.{built_in_type}
 use Rattle.pg_types.specs.declared.pg_type.PgType.{PgType}
 use Rattle.pg_types.specs.declared.value.Value.{Value}
-use Rattle.pg_faults.specs.declared.error.Error.{Error}
-use Rattle.pg_statements.specs.declared.statement.Described.{Described as Statement}
+use Rattle.pg_types.specs.declared.error.Error.{Error}
+use Rattle.pg_desk.specs.declared.statement.Described.{Described as Statement}
 use Rattle.pg_query.specs.declared.desk_call.Cleanup.TheVariants.{Release}
 use Rattle.pg_query.specs.declared.desk_call.DeskCall.TheVariants as desk_call
 use Rattle.pg_query.specs.declared.desk_call.Reply.{Reply}
 use Rattle.pg_query.specs.declared.desk_call.Reply.TheVariants as reply
 use Rattle.pg_query.specs.Dialogue.{Dialogue, Answer, Call, HangUp, Read}
 use Rattle.pg_query.specs.Reading.{reads}
-use Rattle.pg_scripts.specs.Sequences.{then_do}
-use Rattle.pg_lookup.specs.Composing.{asks_for, or_encode}
-use Rattle.pg_lookup.specs.Prepares.{columns_of}
-use Rattle.pg_lookup.specs.QueryReplies.{told_by}
+use Rattle.pg_core.specs.Sequences.{then_do}
+use Rattle.pg_core.specs.Composing.{asks_for, or_encode}
+use Rattle.pg_core.specs.Prepares.{columns_of}
+use Rattle.pg_core.specs.QueryReplies.{told_by}
 use Rattle.pg_execute.specs.Executes.{whole_rows}
 use Rattle.pg_execute.specs.Parameters.{given_behind}
 use Rattle.pg_execute.specs.Rows.{rows_read}

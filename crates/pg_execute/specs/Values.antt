@@ -9,9 +9,9 @@ use Rattle.pg_types.specs.declared.fault.ValueFault.TheVariants.{WrongType}
 use Rattle.pg_types.specs.declared.fault.RustType.TheVariants as rust
 use Rattle.pg_types.specs.AnyValues.{is_read, value_in}
 use Rattle.pg_types.specs.Values.{wrong_type}
-use Rattle.pg_faults.specs.declared.error.Error.{Error}
-use Rattle.pg_statements.specs.declared.column.Column.{Column}
-use Rattle.pg_lookup.specs.Cells.{Cells, or_from_sql}
+use Rattle.pg_types.specs.declared.error.Error.{Error}
+use Rattle.pg_desk.specs.declared.column.Column.{Column}
+use Rattle.pg_core.specs.Cells.{Cells, or_from_sql}
 
 -- a value of a type that values are read from; null is Null
 abbrev pub value_or_null : PgType → Option (List ℕ) → Result Value ValueFault

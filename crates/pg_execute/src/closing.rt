@@ -3,9 +3,9 @@
 ghost use Rattle.std.specs.Prelude.{◌≡◌, ◌≤◌, IfOk};
 
 use bytes::Bytes;
+use pg_core::Follow;
 use pg_errors::Error;
 use pg_query::{Action, Cleanup, Reply, Script, Want};
-use pg_scripts::Follow;
 use pg_wire::{Message, WireFault};
 use std::alloc::{AllocError, Global};
 use std::collections::VecDeque;

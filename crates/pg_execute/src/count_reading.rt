@@ -3,7 +3,7 @@
 ghost use Rattle.std.specs.Prelude.{◌≡◌, false, true, IfOk};
 ghost use Rattle.pg_spec.specs.Messages as message;
 ghost use Rattle.pg_wire.specs.Messages.{message_view};
-ghost use Rattle.pg_prepare.specs.Described.{Does};
+ghost use Rattle.pg_core.specs.Described.{Does};
 ghost use Rattle.pg_execute.specs.Counts.{count_by, count_read, nothing_counted};
 ghost use Rattle.pg_execute.specs.CountReadings.{counted_of, reading_of_count};
 

@@ -2,9 +2,9 @@
 
 use crate::form::Form;
 use crate::request::{execute_request, read_reply};
+use pg_core::Go;
+use pg_desk::Statement;
 use pg_query::{Reading, SingleRequest};
-use pg_scripts::Go;
-use pg_statements::Statement;
 use pg_types::Value;
 use std::alloc::{AllocError, Global};
 

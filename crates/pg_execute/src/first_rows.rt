@@ -1,11 +1,11 @@
 //! The reply to a query of which the first rows are read, message by message.
 
 ghost use Rattle.std.specs.Prelude.{◌≡◌, length, Result, IfOk};
-ghost use Rattle.pg_faults.specs.declared.fault.WireFault as fault;
+ghost use Rattle.pg_types.specs.declared.faults.WireFault as fault;
 ghost use Rattle.pg_spec.specs.Readings.{GoesOn};
 ghost use Rattle.pg_wire.specs.declared.message.Message as wire;
 ghost use Rattle.pg_query.specs.Reading.{TellsAtFault};
-ghost use Rattle.pg_prepare.specs.Described.{Does};
+ghost use Rattle.pg_core.specs.Described.{Does};
 ghost use Rattle.pg_execute.specs.Rows.{at_end, first_rows_by, first_rows_read, has_so_many, nothing_got, up_to};
 ghost use Rattle.pg_execute.specs.RowsReadings.{reading_of_first};
 ghost use Rattle.pg_execute.specs.Saying.{said_view, FailsAtFault};
@@ -16,9 +16,9 @@ use crate::how_many::HowMany;
 use crate::make::Make;
 use crate::rows_reading::RowsReading;
 use crate::said::{Said, said_by};
+use pg_desk::Statement;
 use pg_errors::Error;
 use pg_query::Reading;
-use pg_statements::Statement;
 use pg_wire::{Message, WireFault};
 use std::alloc::{AllocError, Global};
 

@@ -1,17 +1,17 @@
 //! What an execution answers of its reply.
 
 ghost use Rattle.std.specs.Prelude.{◌≡◌, Bool, List, Option, Result};
-ghost use Rattle.pg_faults.specs.declared.error.Error.{Error};
+ghost use Rattle.pg_types.specs.declared.error.Error.{Error};
 ghost use Rattle.pg_spec.specs.RawMessages.{RawMessage};
-ghost use Rattle.pg_statements.specs.declared.statement.Described.{Described};
+ghost use Rattle.pg_desk.specs.declared.statement.Described.{Described};
 
 use crate::count_reading::CountReading;
 use crate::first_rows::FirstRows;
 use crate::how_many::HowMany;
 use crate::make::Make;
 use crate::rows_reading::RowsReading;
+use pg_desk::Statement;
 use pg_query::Reading;
-use pg_statements::Statement;
 use std::alloc::Global;
 
 /// What an execution answers of its reply.

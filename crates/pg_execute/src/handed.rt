@@ -2,9 +2,9 @@
 
 ghost use Rattle.std.specs.Prelude.{◌≡◌, IfOk};
 
+use pg_desk::Statement;
 use pg_errors::Error;
 use pg_query::{Cleanup, Reply, Script, Want};
-use pg_statements::Statement;
 use pg_wire::{Message, WireFault};
 use std::alloc::{AllocError, Global};
 use std::collections::VecDeque;

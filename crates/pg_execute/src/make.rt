@@ -1,15 +1,15 @@
 //! What is made of the rows of a reply.
 
 ghost use Rattle.std.specs.Prelude.{◌≡◌, Result, IfOk};
-ghost use Rattle.pg_faults.specs.declared.error.Error.{Error};
-ghost use Rattle.pg_statements.specs.declared.statement.Described.{Described};
+ghost use Rattle.pg_types.specs.declared.error.Error.{Error};
+ghost use Rattle.pg_desk.specs.declared.statement.Described.{Described};
 ghost use Rattle.pg_execute.specs.declared.got.Got as got;
 
 use crate::got::Got;
 use crate::result_set::ResultSet;
 use crate::values::column_values;
+use pg_desk::Statement;
 use pg_errors::Error;
-use pg_statements::Statement;
 use pg_types::{List, Value};
 use std::alloc::{AllocError, Global};
 

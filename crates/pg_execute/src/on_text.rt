@@ -2,17 +2,16 @@
 
 ghost use Rattle.std.specs.Prelude.{◌≡◌, ◌≤◌, ◌+◌, []};
 ghost use Rattle.pg_execute.specs.Executes.{executes, on_text};
-ghost use Rattle.pg_lookup.specs.Prepares.{prepares};
+ghost use Rattle.pg_core.specs.Prepares.{prepares};
 
 use crate::closing::{Posts, PostsBefore};
 use crate::executes::Executes;
 use crate::form::Form;
 use crate::request::close_bytes;
+use pg_core::{Finder, Go, Maybe, OrAnswer, Prepares, Then};
+use pg_desk::Statement;
 use pg_errors::Error;
-use pg_prepare::{Finder, Prepares};
 use pg_query::{Cleanup, Reading, Reply, Script, SingleRequest, Want};
-use pg_scripts::{Go, Maybe, OrAnswer, Then};
-use pg_statements::Statement;
 use pg_types::Value;
 use pg_wire::{Message, WireFault};
 use std::alloc::{AllocError, Global};

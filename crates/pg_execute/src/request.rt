@@ -5,19 +5,18 @@ ghost use Rattle.pg_wire.specs.Faults.{frame_fault};
 ghost use Rattle.pg_wire.specs.Writes.{IsRefusal};
 ghost use Rattle.pg_query.specs.Reading.{reads};
 ghost use Rattle.pg_query.specs.SingleRequests.{dialogue_of, steps_of};
-ghost use Rattle.pg_lookup.specs.Composing.{asks_for, or_encode};
+ghost use Rattle.pg_core.specs.Composing.{asks_for, or_encode};
 ghost use Rattle.pg_execute.specs.Executes as executing;
 ghost use Rattle.pg_execute.specs.GivenValues.{IsGiven};
 ghost use Rattle.pg_execute.specs.Parameters as spec;
 
 use crate::given_values::{BINARY, GivenValues, given_values};
 use bytes::{Bytes, BytesMut};
+use pg_desk::Statement;
 use pg_errors::{Cause, Error};
-use pg_frames::{bind, close, execute, sync};
 use pg_query::{Reading, SingleRequest};
-use pg_statements::Statement;
 use pg_types::Value;
-use pg_wire::FrameFault;
+use pg_wire::{FrameFault, bind, close, execute, sync};
 use std::alloc::{AllocError, Global};
 
 /// Bind with these values, Execute of all rows, Sync.

@@ -4,9 +4,9 @@ ghost use Rattle.std.specs.Prelude.{◌≡◌, [], Ok, IfOk};
 ghost use Rattle.pg_rows.specs.Rows.{row_of};
 ghost use Rattle.pg_execute.specs.ResultRows.{rows_behind};
 
+use pg_desk::Statement;
 use pg_errors::Error;
 use pg_rows::{Row, RowCells};
-use pg_statements::Statement;
 use pg_types::List;
 use std::alloc::{AllocError, Global};
 use std::collections::VecDeque;

@@ -1,13 +1,13 @@
 //! The rows that a query gave.
 
 ghost use Rattle.std.specs.Prelude.{◌≡◌, ◌⊎◌, [], Err};
-ghost use Rattle.pg_faults.specs.declared.error.Error.TheVariants as error;
+ghost use Rattle.pg_types.specs.declared.error.Error.TheVariants as error;
 ghost use Rattle.pg_execute.specs.ResultRows.{rows_behind};
 
 use crate::result_rows::rows_under;
+use pg_desk::{Column, Statement};
 use pg_errors::Error;
 use pg_rows::{Row, RowCells};
-use pg_statements::{Column, Statement};
 use pg_types::List;
 use std::alloc::Global;
 

@@ -1,10 +1,10 @@
 //! The reply to a query, read message by message.
 
 ghost use Rattle.std.specs.Prelude.{◌≡◌, ◌++◌, ◌∷◌, [], length, Result, IfOk};
-ghost use Rattle.pg_faults.specs.declared.fault.WireFault as fault;
+ghost use Rattle.pg_types.specs.declared.faults.WireFault as fault;
 ghost use Rattle.pg_wire.specs.declared.message.Message as wire;
 ghost use Rattle.pg_query.specs.Reading.{TellsAtFault};
-ghost use Rattle.pg_prepare.specs.Described.{Does};
+ghost use Rattle.pg_core.specs.Described.{Does};
 ghost use Rattle.pg_execute.specs.Rows.{at_end, behind_row, nothing_got, rows_by, rows_read};
 ghost use Rattle.pg_execute.specs.RowsReadings.{reading_of_rows};
 ghost use Rattle.pg_execute.specs.Saying.{said_view, FailsAtFault};
@@ -14,10 +14,10 @@ use crate::got::Got;
 use crate::how_many::HowMany;
 use crate::make::Make;
 use crate::said::{Said, said_by};
+use pg_desk::Statement;
 use pg_errors::Error;
 use pg_query::Reading;
 use pg_rows::RowCells;
-use pg_statements::Statement;
 use pg_wire::{Message, WireFault};
 use std::alloc::{AllocError, Global};
 use std::mem;

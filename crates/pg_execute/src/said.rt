@@ -7,7 +7,7 @@ ghost use Rattle.pg_spec.specs.Messages as message;
 ghost use Rattle.pg_spec.specs.RawMessages.{RawMessage};
 ghost use Rattle.pg_wire.specs.Messages.{message_view};
 ghost use Rattle.pg_query.specs.Messages.{Means};
-ghost use Rattle.pg_lookup.specs.QueryReplies as spec;
+ghost use Rattle.pg_core.specs.QueryReplies as spec;
 ghost use Rattle.pg_execute.specs.Saying.{said_view, FailsAtFault};
 
 use pg_errors::{Cause, Error};

@@ -3,15 +3,15 @@
 ghost use Rattle.std.specs.Prelude.{◌≡◌, []};
 ghost use Rattle.pg_execute.specs.Executes.{executes};
 ghost use Rattle.pg_execute.specs.Targets.{on_target};
-ghost use Rattle.pg_lookup.specs.Prepares.{prepares};
+ghost use Rattle.pg_core.specs.Prepares.{prepares};
 
 use crate::either::Either;
 use crate::form::Form;
 use crate::on_statement::OnStatement;
 use crate::on_text::OnText;
-use pg_prepare::Finder;
+use pg_core::Finder;
+use pg_desk::Statement;
 use pg_query::{Reading, Script};
-use pg_statements::Statement;
 use pg_types::Value;
 
 /// What is executed.

@@ -2,12 +2,12 @@
 
 ghost use Rattle.std.specs.Prelude.{◌≡◌, [], option_map, slice_get, unwrap_or, None, IfOk};
 ghost use Rattle.pg_execute.specs.Faulting.{Reads};
-ghost use Rattle.pg_lookup.specs.Cells.{or_from_sql};
+ghost use Rattle.pg_core.specs.Cells.{or_from_sql};
 ghost use Rattle.pg_execute.specs.Values as spec;
 
+use pg_desk::Column;
 use pg_errors::{Cause, Error};
 use pg_rows::RowCells;
-use pg_statements::Column;
 use pg_types::{FromSqlOwned, List, RustType, Type, Value, ValueFault, WrongType};
 use std::alloc::{AllocError, Global};
 

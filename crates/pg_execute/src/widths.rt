@@ -2,7 +2,7 @@
 
 ghost use Rattle.std.specs.Prelude.{◌≡◌, ℕ, List, [], Some, Ok};
 ghost use Rattle.pg_spec.specs.RawMessages.{RawMessage};
-ghost use Rattle.pg_statements.specs.declared.statement.Described.{Described};
+ghost use Rattle.pg_desk.specs.declared.statement.Described.{Described};
 ghost use Rattle.pg_execute.specs.Executes.{first_queried, queried, whole_rows};
 ghost use Rattle.pg_execute.specs.ResultRows.{rows_behind, rows_with};
 ghost use Rattle.pg_execute.specs.declared.how_many.HowMany.{HowMany};

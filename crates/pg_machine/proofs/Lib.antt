@@ -1,6 +1,16 @@
+pub mod ServingLaws
+pub mod SessionLaws
+pub mod Spelled
+pub mod TagLaws
+pub mod ServingStepLaws
+pub mod FeedLaws
+pub mod ReplyLaws
+pub mod CourseLaws
 pub mod StepLaws
 pub mod MakingLaws
 pub mod SoundLaws
 pub mod ServedLaws
 pub mod WorkedTables
 pub mod WorkedExchange
+pub mod AnswerLaws
+pub mod WrittenLaws

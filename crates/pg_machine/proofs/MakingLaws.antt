@@ -11,7 +11,7 @@ use Rattle.pg_spec.specs.Messages.{Message, ErrorResponse, message_of}
 use Rattle.pg_spec.specs.RawMessages.{RawMessage, message_at, messages, bytes_left}
 use Rattle.pg_wire.specs.Fronts.{IsWhole, message_of_bytes}
 use Rattle.pg_wire.proofs.Cuts.{messages_of_one, left_of_one, left_of_none}
-use Rattle.pg_serving.specs.Serving.{is_error}
+use Rattle.pg_machine.specs.Serving.{is_error}
 use Rattle.pg_machine.specs.Machines.{is_one_error, is_refusal, is_readable_error}
 use Rattle.pg_machine.specs.Making.{error_of}
 

@@ -9,7 +9,7 @@ use Rattle.std.specs.Result.{is_ok, is_err}
 use Rattle.std.proofs.Math.Seq.{take-length}
 use Rattle.std.specs.declared.alloc.AllocError.{AllocError}
 use Rattle.pg_machine.specs.declared.feeding.Fed.{Fed}
-use Rattle.pg_serving.specs.Feeding.{IsLonger}
+use Rattle.pg_machine.specs.ServingFeeding.{IsLonger}
 use Rattle.pg_machine.specs.Feeding.{Feeds, GoesOn}
 use Rattle.pg_spec.specs.Links.{Rose, next_count}
 use Rattle.pg_wire.specs.LinkCalls.{Gives, Takes, IsInCourse, ReadAnswers, WriteAnswers, Keeps, KeepsPromise, gave, took}
@@ -20,7 +20,7 @@ use Rattle.pg_wire.specs.declared.link.LinkWrite.{LinkWrite}
 use Rattle.pg_wire.specs.declared.link.LinkWrite.TheVariants as writes
 use Rattle.pg_machine.specs.declared.machine_link.MachineLink.TheInside.{Inside}
 use Rattle.pg_machine.specs.Machines.{service_of}
-use Rattle.pg_serving.specs.Sessions.{gives}
+use Rattle.pg_machine.specs.Sessions.{gives}
 use Rattle.pg_machine.specs.MachineLinks.{Served, course_of, due_in, link_of, GivesFront, Reads, TakesUp, KeepsItsPromise, served_of, HoldsServed, is_ready}
 
 -- what is due is what was said and not given

@@ -10,11 +10,11 @@ use Rattle.pg_spec.specs.Batches.{is_nothing}
 use Rattle.pg_spec.specs.RawMessages.{RawMessage, messages, message_bytes, bytes_left, is_ready}
 use Rattle.pg_spec.specs.DbErrors.{db_error_of}
 use Rattle.pg_spec.proofs.MessageLaws.{Fits}
-use Rattle.pg_serving.specs.declared.serving.Turn.{Turn}
-use Rattle.pg_serving.specs.declared.serving.Turn.TheVariants.{Silent, Ready, AnswersReady, Answers, TakesData, EndsCopy, Refuses}
-use Rattle.pg_serving.specs.Serving.{Effect, Serving, serve, turn, kind_of, is_error}
-use Rattle.pg_serving.specs.Requests.{is_sound, is_copy_in, asked, SoundAlong}
-use Rattle.pg_serving.proofs.Spelled.{all-messages-Fit}
+use Rattle.pg_machine.specs.declared.serving.Turn.{Turn}
+use Rattle.pg_machine.specs.declared.serving.Turn.TheVariants.{Silent, Ready, AnswersReady, Answers, TakesData, EndsCopy, Refuses}
+use Rattle.pg_machine.specs.Serving.{Effect, Serving, serve, turn, kind_of, is_error}
+use Rattle.pg_machine.specs.Requests.{is_sound, is_copy_in, asked, SoundAlong}
+use Rattle.pg_machine.proofs.Spelled.{all-messages-Fit}
 use Rattle.pg_machine.specs.declared.machine.MachineRow.{MachineRow}
 use Rattle.pg_machine.specs.Machines.{Table, service_of, row_of, effect_of, refusal_of, own_answer, tagged_as, is_row, is_refusal, is_readable_error, IsMachine}
 

@@ -4,15 +4,15 @@ use Rattle.std.specs.Prelude.{if◌then◌else◌}
 use Rattle.std.specs.List.{list_any}
 use Rattle.pg_spec.specs.RawMessages.{RawMessage, message_bytes, messages}
 use Rattle.pg_wire.specs.Fronts.{IsWhole}
-use Rattle.pg_serving.specs.declared.serving.Mode.{Mode}
-use Rattle.pg_serving.specs.declared.serving.Mode.TheVariants.{Normal}
-use Rattle.pg_serving.specs.declared.serving.Turn.{Turn}
-use Rattle.pg_serving.specs.declared.serving.Turn.TheVariants.{Silent, Ready, AnswersReady, Answers, TakesData, EndsCopy, Refuses}
-use Rattle.pg_serving.specs.Serving.{Effect, is_error, turn, kind_of}
-use Rattle.pg_serving.specs.Requests.{asked}
-use Rattle.pg_serving.specs.Tags.{AreBytes}
-use Rattle.pg_serving.specs.Steps.{ready_bytes, says_ready, answered_mode, frame_of}
-use Rattle.pg_serving.proofs.StepLaws as steps
+use Rattle.pg_machine.specs.declared.serving.Mode.{Mode}
+use Rattle.pg_machine.specs.declared.serving.Mode.TheVariants.{Normal}
+use Rattle.pg_machine.specs.declared.serving.Turn.{Turn}
+use Rattle.pg_machine.specs.declared.serving.Turn.TheVariants.{Silent, Ready, AnswersReady, Answers, TakesData, EndsCopy, Refuses}
+use Rattle.pg_machine.specs.Serving.{Effect, is_error, turn, kind_of}
+use Rattle.pg_machine.specs.Requests.{asked}
+use Rattle.pg_machine.specs.Tags.{AreBytes}
+use Rattle.pg_machine.specs.ServingSteps.{ready_bytes, says_ready, answered_mode, frame_of}
+use Rattle.pg_machine.proofs.ServingStepLaws as steps
 use Rattle.pg_machine.specs.declared.machine.At.{At}
 use Rattle.pg_machine.specs.declared.machine.Said.{Said}
 use Rattle.pg_machine.specs.Machines.{Table, service_of, asked_of, IsSaid, Says}

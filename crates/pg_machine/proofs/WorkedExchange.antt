@@ -7,9 +7,9 @@ use Rattle.pg_spec.specs.Frames.{tagged, query_frame, terminate_frame, startup_f
 use Rattle.pg_spec.specs.RawMessages.{messages, groups, sync_of}
 use Rattle.pg_spec.specs.Startup.{session_part}
 use Rattle.pg_machine.specs.Machines.{service_of}
-use Rattle.pg_serving.specs.Sessions.{IsExchange, IsStartup, IsOver, AreRequests, KeepsRules, alone}
+use Rattle.pg_machine.specs.Sessions.{IsExchange, IsStartup, IsOver, AreRequests, KeepsRules, alone}
 use Rattle.pg_machine.specs.Examples.{framed, refuses_all, an_error, z}
-use Rattle.pg_serving.proofs.SessionLaws.{session-alone}
+use Rattle.pg_machine.proofs.SessionLaws.{session-alone}
 
 abbrev s : Settings
 s = only_user (codes "a")

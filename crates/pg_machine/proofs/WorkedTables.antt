@@ -3,8 +3,8 @@ use Rattle.std.proofs.Common.{◌≡◌, [], ◌∷◌, ◌++◌, refl, false}
 use Rattle.std.specs.Prelude.{codes, pos}
 use Rattle.pg_spec.specs.Frames.{tagged, describe_frame, query_frame, bind_frame, execute_frame, sync_frame}
 use Rattle.pg_spec.specs.RawMessages.{messages}
-use Rattle.pg_serving.specs.Serving.{served}
-use Rattle.pg_serving.specs.Sessions.{begun}
+use Rattle.pg_machine.specs.Serving.{served}
+use Rattle.pg_machine.specs.Sessions.{begun}
 use Rattle.pg_machine.specs.Machines.{service_of}
 use Rattle.pg_machine.specs.Machines.{IsMachine, is_row}
 use Rattle.pg_machine.specs.Examples.{refuses_all, refuses_one, first_requests, copy_requests, fed, an_error, bound, copying, z, row, framed}

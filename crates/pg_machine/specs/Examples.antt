@@ -3,8 +3,8 @@ use Rattle.std.specs.Prelude.{ℕ, List, [], ◌∷◌, ◌++◌, true, false, c
 use Rattle.pg_spec.specs.Faults.{FrameFault}
 use Rattle.pg_spec.specs.Frames.{tagged, query_frame, parse_frame, describe_frame, bind_frame, execute_frame, copy_data_frame, sync_frame, flush_frame, copy_done_frame}
 use Rattle.pg_spec.specs.RawMessages.{messages}
-use Rattle.pg_serving.specs.Serving.{one_at_a_time}
-use Rattle.pg_serving.specs.Sessions.{begun, spoken}
+use Rattle.pg_machine.specs.Serving.{one_at_a_time}
+use Rattle.pg_machine.specs.Sessions.{begun, spoken}
 use Rattle.pg_machine.specs.declared.machine.MachineRow.{MachineRow}
 use Rattle.pg_machine.specs.Machines.{Table, service_of}
 

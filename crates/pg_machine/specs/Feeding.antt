@@ -2,9 +2,9 @@
 use Rattle.std.specs.Prelude.{◌≡◌, ℕ, List, Result, Ok, Err, Option, Some, None}
 use Rattle.pg_types.specs.declared.memory.OutOfMemory.{OutOfMemory}
 use Rattle.pg_spec.specs.Sent.{after_startup_frame}
-use Rattle.pg_serving.specs.Sessions.{gives}
-use Rattle.pg_serving.specs.Feeding.{IsLonger}
-use Rattle.pg_serving.specs.Feeding as serving
+use Rattle.pg_machine.specs.Sessions.{gives}
+use Rattle.pg_machine.specs.ServingFeeding.{IsLonger}
+use Rattle.pg_machine.specs.ServingFeeding as serving
 use Rattle.pg_machine.specs.declared.machine.At.{At}
 use Rattle.pg_machine.specs.declared.feeding.Fed.{Fed}
 use Rattle.pg_machine.specs.Machines.{Table, service_of}

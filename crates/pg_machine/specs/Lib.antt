@@ -1,3 +1,11 @@
+pub mod Fronts
+pub mod Serving
+pub mod Requests
+pub mod Sessions
+pub mod ServingSteps
+pub mod Tags
+pub mod ServingFeeding
+pub mod Courses
 pub mod Machines
 pub mod MachineFields
 pub mod Making
@@ -7,3 +15,6 @@ pub mod Feeding
 pub mod Alone
 pub mod MachineLinks
 pub mod Examples
+pub mod MachineTexts
+pub mod Readings
+pub mod Written

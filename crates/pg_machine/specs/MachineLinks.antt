@@ -13,7 +13,7 @@ use Rattle.pg_wire.specs.declared.link.LinkStep.{LinkStep}
 use Rattle.pg_wire.specs.declared.link.LinkStep.TheVariants as steps
 use Rattle.pg_wire.specs.declared.link.LinkWait.{LinkWait}
 use Rattle.pg_wire.specs.declared.link.LinkWait.TheVariants as waits
-use Rattle.pg_serving.specs.Sessions.{gives}
+use Rattle.pg_machine.specs.Sessions.{gives}
 use Rattle.pg_machine.specs.declared.machine_link.MachineLink.TheInside.{Inside}
 use Rattle.pg_machine.specs.Machines.{Table, service_of}
 use Rattle.pg_machine.specs.Feeding.{Feeds}

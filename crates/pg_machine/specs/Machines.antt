@@ -7,12 +7,12 @@ use Rattle.pg_spec.specs.DbErrors.{db_error_of}
 use Rattle.pg_spec.specs.RawMessages.{RawMessage, messages, message_bytes, bytes_left}
 use Rattle.pg_machine.specs.declared.machine.MachineRow.{MachineRow}
 use Rattle.pg_machine.specs.declared.machine.Said.{Said}
-use Rattle.pg_serving.specs.declared.serving.Turn.{Turn}
-use Rattle.pg_serving.specs.declared.serving.Turn.TheVariants.{Silent, Ready, AnswersReady, Answers, TakesData, EndsCopy, Refuses}
+use Rattle.pg_machine.specs.declared.serving.Turn.{Turn}
+use Rattle.pg_machine.specs.declared.serving.Turn.TheVariants.{Silent, Ready, AnswersReady, Answers, TakesData, EndsCopy, Refuses}
 use Rattle.pg_machine.specs.declared.machine.MachineFault.{MachineFault}
 use Rattle.pg_machine.specs.declared.machine.MachineFault.TheVariants.{BadRow, BadRefusal, OutOfMemory}
-use Rattle.pg_serving.specs.Serving.{Effect, Service, is_error}
-use Rattle.pg_serving.specs.Requests.{is_sound}
+use Rattle.pg_machine.specs.Serving.{Effect, Service, is_error}
+use Rattle.pg_machine.specs.Requests.{is_sound}
 
 -- the rows, and what a frame is answered that has none
 pub record Table : Type 0 where

@@ -1,9 +1,9 @@
 -- What a frame does to a machine.
 use Rattle.std.specs.Prelude.{◌≡◌, ℕ, List, ◌++◌, Result, Ok, Err}
 use Rattle.pg_types.specs.declared.memory.OutOfMemory.{OutOfMemory}
-use Rattle.pg_serving.specs.Serving.{Serving, serve}
-use Rattle.pg_serving.specs.Sessions.{spoken}
-use Rattle.pg_serving.specs.Steps.{frame_of}
+use Rattle.pg_machine.specs.Serving.{Serving, serve}
+use Rattle.pg_machine.specs.Sessions.{spoken}
+use Rattle.pg_machine.specs.ServingSteps.{frame_of}
 use Rattle.pg_machine.specs.declared.machine.At.{At}
 use Rattle.pg_machine.specs.Machines.{Table, service_of}
 

@@ -5,7 +5,7 @@ ghost use Rattle.pg_machine.specs.Feeding.{FeedsAll, HasFed, Feeds, GoesFurther,
 
 use crate::machine::{At, Machine};
 use crate::opening::frames_begin;
-use pg_serving::{Found, front_message};
+use crate::{Found, front_message};
 use pg_types::OutOfMemory;
 
 /// How many bytes were cut into frames, and where the server stands behind them.

@@ -8,10 +8,10 @@ ghost use Rattle.pg_spec.specs.RawMessages.{RawMessage, messages, groups, sync_o
 ghost use Rattle.pg_spec.specs.Settings.{Settings};
 ghost use Rattle.pg_spec.specs.Startup.{session_part};
 ghost use Rattle.pg_wire.specs.LinkCalls.{IsInCourse, Keeps};
-ghost use Rattle.pg_serving.specs.declared.serving.Mode.TheVariants.{Normal};
-ghost use Rattle.pg_serving.specs.Serving.{Serving, served, joined, one_at_a_time};
-ghost use Rattle.pg_serving.specs.Requests.{IsRequest, SoundAlong, OnlyCopiesOpen};
-ghost use Rattle.pg_serving.specs.Sessions.{AreRequests, IsExchange, IsStartup, begun, frames_of, gives, alone};
+ghost use Rattle.pg_machine.specs.declared.serving.Mode.TheVariants.{Normal};
+ghost use Rattle.pg_machine.specs.Serving.{Serving, served, joined, one_at_a_time};
+ghost use Rattle.pg_machine.specs.Requests.{IsRequest, SoundAlong, OnlyCopiesOpen};
+ghost use Rattle.pg_machine.specs.Sessions.{AreRequests, IsExchange, IsStartup, begun, frames_of, gives, alone};
 ghost use Rattle.pg_machine.specs.Machines.{Table, IsMachine, service_of};
 
 /// Whatever frames come, each answer of a machine is one that a server may give.

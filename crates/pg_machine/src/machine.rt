@@ -4,12 +4,12 @@ ghost use Rattle.std.specs.Prelude.{◌≡◌, true, IfSome, length};
 ghost use Rattle.std.specs.List.{list_all};
 ghost use Rattle.std.specs.Option.{option_copied};
 ghost use Rattle.pg_wire.specs.Fronts.{IsWhole};
-ghost use Rattle.pg_serving.specs.Requests.{is_execute};
-ghost use Rattle.pg_serving.specs.Sessions.{begun};
+ghost use Rattle.pg_machine.specs.Requests.{is_execute};
+ghost use Rattle.pg_machine.specs.Sessions.{begun};
 ghost use Rattle.pg_machine.specs.Machines.{own_answer, answer_or_refusal, asked_of, refusal_of, Says, tagged_as, row_of, is_row, FirstBad, IsMachine};
 ghost use Rattle.pg_machine.specs.Steps.{serving_of, Serves};
 
-use pg_serving::{Mode, Turn, kind_of, may_answer, mode_behind, put, says_ready, tags_of, turn_of};
+use crate::{Mode, Turn, kind_of, may_answer, mode_behind, put, says_ready, tags_of, turn_of};
 use pg_types::{Blob, List, OutOfMemory};
 use std::marker::Model;
 use thiserror::Error;

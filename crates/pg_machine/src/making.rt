@@ -6,9 +6,9 @@ ghost use Rattle.pg_machine.specs.Machines.{is_one_error, is_refusal, MachineOr}
 ghost use Rattle.pg_machine.specs.Making.{IsRead, IsUnread, error_of};
 
 use crate::machine::{Machine, MachineFault, MachineRow, first_bad};
+use crate::{Found, front_message};
 use bytes::Bytes;
 use pg_errors::{DbError, Error, ParseFields};
-use pg_serving::{Found, front_message};
 use pg_types::{Blob, List, OutOfMemory};
 use pg_wire::{ErrorResponseBody, Message};
 use std::alloc::Global;

@@ -4,16 +4,16 @@ use Rattle.pg_spec.specs.Frames.{cancel_request}
 use Rattle.pg_spec.specs.Links.{LinkView, Grew}
 use Rattle.futures.specs.declared.task.Poll.{Poll}
 use Rattle.futures.specs.declared.task.Poll.TheVariants.{Ready, Pending}
-use Rattle.pg_faults.specs.declared.cause.Cause.TheVariants as cause
-use Rattle.pg_faults.specs.declared.error.Error.{Error}
-use Rattle.pg_faults.specs.declared.error.Error.TheVariants as error
-use Rattle.pg_faults.specs.declared.fault.FrameFault.{FrameFault}
+use Rattle.pg_types.specs.declared.cause.Cause.TheVariants as cause
+use Rattle.pg_types.specs.declared.error.Error.{Error}
+use Rattle.pg_types.specs.declared.error.Error.TheVariants as error
+use Rattle.pg_types.specs.declared.faults.FrameFault.{FrameFault}
 use Rattle.pg_spec.specs.Faults as spec
 use Rattle.pg_wire.specs.Writes.{Writes}
 use Rattle.pg_connect.proofs.Joining.{grew_none, grew_then, keeps_same, keeps_then, rose_later}
 use Rattle.pg_startup.specs.Transfers.{IsFlushed}
 use Rattle.pg_startup.specs.declared.transfer.Transfer.{Transfer}
-use Rattle.pg_tls.specs.declared.maybe_tls.MaybeTls.{MaybeTls}
+use Rattle.pg_open.specs.declared.maybe_tls.MaybeTls.{MaybeTls}
 use Rattle.pg_open.specs.Cancelling.{CancelFails, CancelStands, IsGiven, IsSending, IsUnderWay, Said, SaidEnds, Sends, Sent, WasSent, cancel_frame, cancel_settings}
 use Rattle.pg_open.specs.Choosing.{Known, StandsAt, TlsAnswers}
 use Rattle.pg_open.specs.declared.cancel_stages.CancelStage.{CancelStage}

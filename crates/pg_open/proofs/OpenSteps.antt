@@ -7,18 +7,18 @@ use Rattle.pg_spec.specs.Links.{LinkView}
 use Rattle.pg_spec.specs.RawMessages.{messages}
 use Rattle.pg_spec.specs.Startup.{Login}
 use Rattle.pg_spec.specs.Startup as dialogues
-use Rattle.pg_faults.specs.declared.error.Error.{Error}
-use Rattle.pg_faults.specs.declared.error.Error.TheVariants as error
+use Rattle.pg_types.specs.declared.error.Error.{Error}
+use Rattle.pg_types.specs.declared.error.Error.TheVariants as error
 use Rattle.pg_config.specs.Views.{settings_of}
-use Rattle.pg_login.specs.Steps.{Made, frame_of}
+use Rattle.pg_startup.specs.Steps.{Made, frame_of}
 use Rattle.pg_connect.specs.Calm.{MissesOne, StaysCalm}
 use Rattle.pg_startup.specs.StartupPolls.{GoesOn, StartupAnswers}
 use Rattle.pg_startup.specs.Startups as startups
 use Rattle.pg_startup.specs.declared.startup.Startup.{Startup}
-use Rattle.pg_tls.specs.declared.choice.TlsChoice.{TlsChoice}
-use Rattle.pg_tls.specs.declared.choice.TlsChoice.TheVariants as choice
-use Rattle.pg_tls.specs.declared.maybe_tls.MaybeTls.{MaybeTls}
-use Rattle.pg_tls.specs.declared.maybe_tls.MaybeTls.TheVariants as maybe
+use Rattle.pg_open.specs.declared.choice.TlsChoice.{TlsChoice}
+use Rattle.pg_open.specs.declared.choice.TlsChoice.TheVariants as choice
+use Rattle.pg_open.specs.declared.maybe_tls.MaybeTls.{MaybeTls}
+use Rattle.pg_open.specs.declared.maybe_tls.MaybeTls.TheVariants as maybe
 use Rattle.pg_open.specs.Choosing.{Chose, StandsAt, TlsAnswers, WaitsOn}
 use Rattle.pg_open.specs.Opening.{CanStart, Finishes, GoesOnFrom, HandsOut, IsOpening, IsReached, IsStarting, LeavesLess, OpenAnswers, OpenFails, OpenGoesOn, OpenStands, Outside, StartAnswers, StartsOn, WasGoing, WasOpened, login_over, moved_before, seen, tls_settings}
 use Rattle.pg_open.specs.declared.open_stages.OpenSettings.{OpenSettings}

@@ -10,7 +10,7 @@ use Rattle.pg_startup.specs.SslRequests.{Asking as IsAsking}
 use Rattle.pg_startup.specs.Startups.{Opening, WasAnswered}
 use Rattle.pg_startup.specs.declared.ssl_request.SslRequest.{SslRequest}
 use Rattle.pg_startup.specs.declared.startup.Startup.{Startup}
-use Rattle.pg_tls.specs.declared.maybe_tls.MaybeTls.{MaybeTls}
+use Rattle.pg_open.specs.declared.maybe_tls.MaybeTls.{MaybeTls}
 use Rattle.pg_open.specs.Choosing.{Known, StandsAt, Waits}
 use Rattle.pg_open.specs.Opening.{IsOpening, IsStarting, OpenIdles, OpenStands, OpenStays, Outside, is_first, login_over, seen, tls_settings}
 use Rattle.pg_open.specs.declared.open_stages.OpenSettings.{OpenSettings}

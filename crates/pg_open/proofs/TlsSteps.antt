@@ -4,18 +4,18 @@ use Rattle.std.specs.Str.{byte}
 use Rattle.futures.specs.Poll.{OnPending}
 use Rattle.futures.specs.declared.task.Poll.{Poll}
 use Rattle.pg_config.specs.Views.{ssl_mode, ssl_negotiation}
-use Rattle.pg_faults.specs.declared.cause.Cause.{Cause}
-use Rattle.pg_faults.specs.declared.cause.Cause.TheVariants as cause
-use Rattle.pg_faults.specs.declared.error.Error.{Error}
-use Rattle.pg_faults.specs.declared.error.Error.TheVariants as error
+use Rattle.pg_types.specs.declared.cause.Cause.{Cause}
+use Rattle.pg_types.specs.declared.cause.Cause.TheVariants as cause
+use Rattle.pg_types.specs.declared.error.Error.{Error}
+use Rattle.pg_types.specs.declared.error.Error.TheVariants as error
 use Rattle.pg_spec.specs.Links.{LinkView}
-use Rattle.pg_tls.specs.declared.maybe_tls.MaybeTls.{MaybeTls}
+use Rattle.pg_open.specs.declared.maybe_tls.MaybeTls.{MaybeTls}
 use Rattle.pg_wire.specs.LinkCalls.{Keeps, WaitAnswers}
 use Rattle.pg_wire.specs.declared.link.LinkWait.{LinkWait}
 use Rattle.pg_spec.specs.Settings.{Mode, Disable, Prefer, Require, Negotiation, Postgres, Direct}
-use Rattle.pg_tls.specs.Choices as choices
-use Rattle.pg_tls.specs.declared.choice.TlsChoice.{TlsChoice}
-use Rattle.pg_tls.specs.declared.choice.TlsChoice.TheVariants as choice
+use Rattle.pg_open.specs.Choices as choices
+use Rattle.pg_open.specs.declared.choice.TlsChoice.{TlsChoice}
+use Rattle.pg_open.specs.declared.choice.TlsChoice.TheVariants as choice
 use Rattle.futures.specs.declared.task.Poll.TheVariants.{Ready, Pending}
 use Rattle.pg_startup.specs.SslRequests.{AskFailed, Asked}
 use Rattle.pg_startup.specs.declared.ssl_request.SslRequest.{SslRequest}

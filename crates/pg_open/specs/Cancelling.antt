@@ -6,13 +6,13 @@ use Rattle.futures.specs.declared.task.Poll.{Poll}
 use Rattle.futures.specs.declared.task.Poll.TheVariants.{Ready, Pending}
 use Rattle.pg_wire.specs.LinkCalls.{Keeps, WaitAnswers}
 use Rattle.pg_wire.specs.declared.link.LinkWait.{LinkWait}
-use Rattle.pg_faults.specs.declared.cause.Cause.TheVariants as cause
-use Rattle.pg_faults.specs.declared.error.Error.{Error}
-use Rattle.pg_faults.specs.declared.error.Error.TheVariants as error
+use Rattle.pg_types.specs.declared.cause.Cause.TheVariants as cause
+use Rattle.pg_types.specs.declared.error.Error.{Error}
+use Rattle.pg_types.specs.declared.error.Error.TheVariants as error
 use Rattle.pg_connect.specs.Ends.{IsFlushedFrom}
 use Rattle.pg_startup.specs.Transfers.{IsFlushed}
 use Rattle.pg_startup.specs.declared.transfer.Transfer.{Transfer}
-use Rattle.pg_tls.specs.declared.maybe_tls.MaybeTls.{MaybeTls}
+use Rattle.pg_open.specs.declared.maybe_tls.MaybeTls.{MaybeTls}
 use Rattle.pg_open.specs.Choosing.{Known, IsChosen, IsOpen, StandsAt, TlsFails, Waits, WaitsOn}
 use Rattle.pg_open.specs.declared.cancel_stages.CancelStage.{CancelStage}
 use Rattle.pg_open.specs.declared.cancel_stages.CancelStage.TheVariants.{Choosing, Sending, Over}

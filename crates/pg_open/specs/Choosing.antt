@@ -8,17 +8,17 @@ use Rattle.pg_config.specs.Views.{ssl_mode, ssl_negotiation}
 use Rattle.pg_wire.specs.LinkCalls.{Keeps, WaitAnswers}
 use Rattle.pg_wire.specs.declared.link.LinkWait.{LinkWait}
 use Rattle.pg_wire.specs.declared.link.LinkWait.TheVariants as waits
-use Rattle.pg_faults.specs.declared.cause.Cause.TheVariants as cause
-use Rattle.pg_faults.specs.declared.error.Error.{Error}
-use Rattle.pg_faults.specs.declared.error.Error.TheVariants as error
+use Rattle.pg_types.specs.declared.cause.Cause.TheVariants as cause
+use Rattle.pg_types.specs.declared.error.Error.{Error}
+use Rattle.pg_types.specs.declared.error.Error.TheVariants as error
 use Rattle.pg_connect.specs.Calm.{MissesOne, StaysCalm}
 use Rattle.pg_startup.specs.SslRequests.{AskFailed, Asked, Asking as IsAsking, AsksLess, AsksOn}
 use Rattle.pg_startup.specs.declared.ssl_request.SslRequest.{SslRequest}
-use Rattle.pg_tls.specs.Choices as choices
-use Rattle.pg_tls.specs.declared.choice.TlsChoice.{TlsChoice}
-use Rattle.pg_tls.specs.declared.choice.TlsChoice.TheVariants as choice
-use Rattle.pg_tls.specs.declared.maybe_tls.MaybeTls.{MaybeTls}
-use Rattle.pg_tls.specs.declared.maybe_tls.MaybeTls.TheVariants as maybe
+use Rattle.pg_open.specs.Choices as choices
+use Rattle.pg_open.specs.declared.choice.TlsChoice.{TlsChoice}
+use Rattle.pg_open.specs.declared.choice.TlsChoice.TheVariants as choice
+use Rattle.pg_open.specs.declared.maybe_tls.MaybeTls.{MaybeTls}
+use Rattle.pg_open.specs.declared.maybe_tls.MaybeTls.TheVariants as maybe
 use Rattle.pg_open.specs.declared.stages.Question.{Question}
 use Rattle.pg_open.specs.declared.stages.Stage.{Stage}
 use Rattle.pg_open.specs.declared.stages.Stage.TheVariants.{Fresh, Asking, Shaking, Over}

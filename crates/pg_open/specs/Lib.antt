@@ -1,3 +1,5 @@
+pub mod Choices
+pub mod Links
 pub mod Choosing
 pub mod Cancelling
 pub mod Opening

@@ -11,18 +11,18 @@ use Rattle.futures.specs.declared.task.Poll.TheVariants.{Ready, Pending}
 use Rattle.pg_config.specs.Views.{settings_of}
 use Rattle.pg_wire.specs.LinkCalls.{Keeps, WaitAnswers}
 use Rattle.pg_wire.specs.declared.link.LinkWait.{LinkWait}
-use Rattle.pg_faults.specs.declared.cause.Cause.{Cause}
-use Rattle.pg_faults.specs.declared.cause.Cause.TheVariants as cause
-use Rattle.pg_faults.specs.declared.error.Error.{Error}
-use Rattle.pg_faults.specs.declared.error.Error.TheVariants as error
-use Rattle.pg_login.specs.Steps.{Made, frame_of}
+use Rattle.pg_types.specs.declared.cause.Cause.{Cause}
+use Rattle.pg_types.specs.declared.cause.Cause.TheVariants as cause
+use Rattle.pg_types.specs.declared.error.Error.{Error}
+use Rattle.pg_types.specs.declared.error.Error.TheVariants as error
+use Rattle.pg_startup.specs.Steps.{Made, frame_of}
 use Rattle.pg_connect.specs.Calm.{MissesOne, StaysCalm}
 use Rattle.pg_startup.specs.StartupPolls.{GoesOn, IsFresh, IsNearer}
 use Rattle.pg_startup.specs.Startups as startups
 use Rattle.pg_startup.specs.declared.startup.Startup.{Startup}
-use Rattle.pg_tls.specs.Links.{binding_of, view_of}
-use Rattle.pg_tls.specs.declared.maybe_tls.MaybeTls.{MaybeTls}
-use Rattle.pg_tls.specs.declared.maybe_tls.MaybeTls.TheVariants as maybe
+use Rattle.pg_open.specs.Links.{binding_of, view_of}
+use Rattle.pg_open.specs.declared.maybe_tls.MaybeTls.{MaybeTls}
+use Rattle.pg_open.specs.declared.maybe_tls.MaybeTls.TheVariants as maybe
 use Rattle.pg_open.specs.Choosing.{IsChosen, Known, StandsAt, TlsFails, Waits, WaitsOn, known, quiet_of}
 use Rattle.pg_open.specs.declared.cancel_stages.SessionInfo.{SessionInfo}
 use Rattle.pg_open.specs.declared.open_stages.OpenSettings.{OpenSettings}

@@ -1,10 +1,9 @@
 //! The states of a cancelling, and what a session is known by.
 
-use crate::{ConnectTls, StreamOf};
+use crate::tls::TlsConnect;
+use crate::{ConnectTls, MaybeTls, StreamOf};
 use pg_config::{SslMode, SslNegotiation};
 use pg_startup::Transfer;
-use pg_tls::MaybeTls;
-use pg_tls::tls::TlsConnect;
 
 /// What a session is known by to its server, and how its link was chosen.
 #[derive(Clone, Copy, Drop)]

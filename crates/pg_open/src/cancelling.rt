@@ -3,18 +3,18 @@
 ghost use Rattle.std.specs.Prelude.{◌≡◌, FitsSigned};
 ghost use Rattle.std.specs.Int.{w32};
 ghost use Rattle.futures.specs.Poll.{OnPending};
-ghost use Rattle.pg_tls.specs.Links.{view_of};
+ghost use Rattle.pg_open.specs.Links.{view_of};
 ghost use Rattle.pg_open.specs.Choosing.{IsOpen, known};
 ghost use Rattle.pg_open.specs.Cancelling.{CancelAnswers, CancelIdles, CancelStands, CancelWaits, IsGiven, IsOnlySending, IsStillOpen, IsUnderWay, Said, SaidEnds};
 
+use crate::tls::TlsConnect;
 use crate::{
-    CancelQuery, CancelStage, CancelToken, ConnectTls, NO_LIMIT, SessionInfo, StreamOf, TlsSettings,
+    CancelQuery, CancelStage, CancelToken, ConnectTls, MaybeTls, NO_LIMIT, SessionInfo, StreamOf,
+    TlsSettings,
 };
 use futures::task::Poll;
 use pg_errors::{Cause, Error};
 use pg_startup::Transfer;
-use pg_tls::MaybeTls;
-use pg_tls::tls::TlsConnect;
 use pg_wire::{Link, LinkStep, LinkWait};
 use std::alloc::Global;
 use std::mem;
@@ -126,7 +126,7 @@ impl<L: Link + Drop, T: TlsConnect<L> + Drop> CancelQuery<L, T> {
     {
         let mut bytes = Transfer::new(alloc, 0, NO_LIMIT);
         let (process_id, secret_key) = key_of(&self.info);
-        if pg_frames::cancel_request(process_id, secret_key, &mut bytes.unsent).is_err() {
+        if pg_wire::cancel_request(process_id, secret_key, &mut bytes.unsent).is_err() {
             self.stage = CancelStage::Over(Some(link));
             return Poll::Ready(Err(Error::OutOfMemory));
         }

@@ -4,16 +4,15 @@ ghost use Rattle.std.specs.Prelude.{◌≡◌, ◌<◌, ◌^◌, ◌-◌, Some, 
 ghost use Rattle.futures.specs.Poll.{OnPending};
 ghost use Rattle.pg_startup.specs.SslRequests.{Asked};
 ghost use Rattle.pg_startup.specs.declared.ssl_request.SslRequest.{SslRequest as Request};
-ghost use Rattle.pg_tls.specs.declared.choice.TlsChoice.TheVariants as choices;
+ghost use Rattle.pg_open.specs.declared.choice.TlsChoice.TheVariants as choices;
 ghost use Rattle.pg_open.specs.Choosing.{IsAsked, IsBegun, IsOpen, StandsAt, TlsAnswers, Waits, WaitsOn, Chose, first_of, known, limit_of, quiet_of};
 
-use crate::{ConnectTls, NO_LIMIT, Question, Stage, StreamOf, TlsSettings};
+use crate::tls::{ForcePrivateApi, TlsConnect, TlsHandshake};
+use crate::{ConnectTls, MaybeTls, NO_LIMIT, Question, Stage, StreamOf, TlsChoice, TlsSettings};
 use futures::task::Poll;
 use pg_config::{SslMode, SslNegotiation};
 use pg_errors::{Cause, Error};
 use pg_startup::SslRequest;
-use pg_tls::tls::{ForcePrivateApi, TlsConnect, TlsHandshake};
-use pg_tls::{MaybeTls, TlsChoice};
 use pg_wire::{Link, LinkWait};
 use std::alloc::Global;
 use std::mem;

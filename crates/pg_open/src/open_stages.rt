@@ -2,12 +2,11 @@
 
 ghost use Rattle.std.specs.Prelude.{◌<◌, ◌≤◌, ◌^◌};
 
-use crate::{ConnectTls, SessionInfo, StreamOf};
+use crate::tls::TlsConnect;
+use crate::{ConnectTls, MaybeTls, SessionInfo, StreamOf};
 use pg_config::Config;
 use pg_connect::Connection;
 use pg_startup::Startup;
-use pg_tls::MaybeTls;
-use pg_tls::tls::TlsConnect;
 use pg_types::Blob;
 
 /// By what a connection is opened, beside its link and its connector.

@@ -3,7 +3,7 @@
 ghost use Rattle.std.specs.Prelude.{◌≡◌, ◌<◌, ◌≤◌, ◌^◌, ◌++◌, false, IfOk, IsTrue, MatchResult, Ok, Err, Some};
 ghost use Rattle.futures.specs.Poll.{OnPending};
 ghost use Rattle.pg_config.specs.Views.{settings_of};
-ghost use Rattle.pg_login.specs.Steps.{Made, frame_of};
+ghost use Rattle.pg_startup.specs.Steps.{Made, frame_of};
 ghost use Rattle.pg_spec.specs.Links.{LinkView};
 ghost use Rattle.pg_spec.specs.Passwords.{is_nonce};
 ghost use Rattle.pg_startup.specs.StartupPolls.{IsFresh};
@@ -11,19 +11,17 @@ ghost use Rattle.pg_startup.specs.Startups.{Opening};
 ghost use Rattle.pg_open.specs.Opening.{Finishes, GoesOnFrom, IsOpening, IsReached, LeavesLess, OpenAnswers, OpenIdles, OpenStands, OpenStays, StartAnswers, WasGoing, WasReached, info_of, login_by, moved_before, open_quiet, outside, sent_before, tls_settings};
 
 use crate::may_start::may_start;
+use crate::tls::{TlsConnect, TlsStream};
 use crate::{
-    ConnectRaw, ConnectTls, OpenSettings, OpenStage, Opened, SessionInfo, Starting, StreamOf,
-    TlsSettings,
+    ConnectRaw, ConnectTls, MaybeTls, OpenSettings, OpenStage, Opened, SessionInfo, Starting,
+    StreamOf, TlsSettings,
 };
 use bytes::BytesMut;
 use futures::task::Poll;
 use pg_config::Config;
 use pg_connect::Connection;
 use pg_errors::Error;
-use pg_login::Login;
-use pg_startup::Startup;
-use pg_tls::MaybeTls;
-use pg_tls::tls::{TlsConnect, TlsStream};
+use pg_startup::{Login, Startup};
 use pg_types::{Blob, OutOfMemory};
 use pg_wire::{Link, LinkWait};
 use std::alloc::Global;
@@ -336,7 +334,7 @@ fn sent_in_all(alloc: Global, asked: u64, opening: &[u8]) -> Result<Blob, OutOfM
     ensures { IfOk result (λ sent. sent ≡ sent_before asked ++ opening.now) }
 {
     let mut sent = BytesMut::new(alloc);
-    if asked > 0 && pg_frames::ssl_request(&mut sent).is_err() {
+    if asked > 0 && pg_wire::ssl_request(&mut sent).is_err() {
         return Err(OutOfMemory);
     }
     if sent.extend_from_slice(opening).is_err() {

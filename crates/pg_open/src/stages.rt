@@ -2,9 +2,9 @@
 
 ghost use Rattle.std.specs.Prelude.{◌<◌, ◌≤◌, ◌^◌};
 
+use crate::tls::{TlsConnect, TlsHandshake};
 use pg_config::{SslMode, SslNegotiation};
 use pg_startup::SslRequest;
-use pg_tls::tls::{TlsConnect, TlsHandshake};
 
 /// The most bytes that a link may give where its caller sets no limit.
 pub const NO_LIMIT: u64 = 9_223_372_036_854_775_807;

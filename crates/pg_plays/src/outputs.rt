@@ -3,7 +3,7 @@
 ghost use Rattle.std.specs.Prelude.{◌<◌};
 
 use crate::played;
-use pg_rehearse::Pieces;
+use pg_served::Pieces;
 use std::alloc::{AllocError, Global};
 
 /// The number that a word says, 1 where it says none.

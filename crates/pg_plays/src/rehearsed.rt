@@ -4,8 +4,8 @@ ghost use Rattle.std.specs.Prelude.{◌<◌};
 
 use crate::alike::are_alike;
 use crate::outputs::{output, pieces_of};
-use pg_machine_file::{MachineFile, machine_of};
-use pg_rehearse::{Pieces, echo_link, machine_link, rehearse_echo, rehearse_machine};
+use pg_machine::{MachineFile, machine_of};
+use pg_served::{Pieces, echo_link, machine_link, rehearse_echo, rehearse_machine};
 use pg_wire::{MemorySink, MemorySource};
 use std::alloc::{AllocError, Global};
 

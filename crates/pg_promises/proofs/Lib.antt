@@ -6,3 +6,14 @@ pub mod WorkedRefused
 pub mod Required
 pub mod Strings
 pub mod WorkedStrings
+pub mod Landed
+pub mod LandedBack
+pub mod Begun
+pub mod SentOrder
+pub mod NoFlush
+pub mod Kept
+pub mod Tests
+pub mod Simple
+pub mod Worked
+pub mod Wrongly
+pub mod Naming

@@ -7,9 +7,9 @@ use Rattle.pg_promises.specs.ConnectionStrings.{Means}
 use Rattle.pg_spec.specs.Asides.{AsideBreaks, AsideUnreadable, out_of_turn}
 use Rattle.pg_spec.specs.Faults.{WireFault, BadLength, Cause, Link, Ended, Wire, Fields, NotText, Frame, NoUser, Nonce, NoPassword, Handshake, Method, Mechanism, BindingRequired, NotAscii, Scram, Failure, Io, UnexpectedMessage, Tls, Closed, Db, Parse, Encode, Authentication, ConfigParse, Config, Stalled, LimitReached, OutOfMemory}
 use Rattle.pg_spec.specs.Faults as faults
-use Rattle.pg_faults.specs.declared.fault.WireFault.TheVariants as wire
-use Rattle.pg_faults.specs.declared.fault.FrameFault.TheVariants as frame
-use Rattle.pg_faults.specs.declared.cause.ScramFault.TheVariants as scram
+use Rattle.pg_types.specs.declared.faults.WireFault.TheVariants as wire
+use Rattle.pg_types.specs.declared.faults.FrameFault.TheVariants as frame
+use Rattle.pg_types.specs.declared.cause.ScramFault.TheVariants as scram
 use Rattle.pg_spec.specs.Frames.{ssl_request}
 use Rattle.pg_spec.specs.Links.{LinkView, Rose, OfBytes, next_count}
 use Rattle.pg_spec.specs.Passwords.{is_nonce}

@@ -3,3 +3,17 @@ pub mod EndedWell
 pub mod Causes
 pub mod Promises
 pub mod Examples
+pub mod Endings
+pub mod Landed
+pub mod Calls
+pub mod Sent
+pub mod FailedCauses
+pub mod Kept
+pub mod Completeness
+pub mod FailedLanded
+pub mod Words
+pub mod Readings
+pub mod Rows
+pub mod Replies
+pub mod Sessions
+pub mod Wrong

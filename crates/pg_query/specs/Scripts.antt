@@ -1,13 +1,13 @@
 -- What a script owes at each step.
 use Rattle.std.specs.Prelude.{◌≡◌, ◌<◌, ℕ, suc, List, [], Result, Ok, Err}
-use Rattle.pg_faults.specs.declared.fault.WireFault.{WireFault}
+use Rattle.pg_types.specs.declared.faults.WireFault.{WireFault}
 use Rattle.pg_wire.specs.declared.message.Message.{Message}
 use Rattle.pg_query.specs.declared.script.Want.{Want}
 use Rattle.pg_query.specs.declared.script.Want.TheVariants as want
 use Rattle.pg_query.specs.declared.script.Action.TheVariants as act
 use Rattle.pg_query.specs.declared.desk_call.Reply.{Reply}
 use Rattle.pg_query.specs.declared.desk_call.Cleanup.{Cleanup}
-use Rattle.pg_faults.specs.declared.error.Error.{Error}
+use Rattle.pg_types.specs.declared.error.Error.{Error}
 use Rattle.pg_query.specs.Dialogue.{Dialogue, Answer, Ask, Send, Leave, Read, Put, Finish, Close, HangUp, Call, Hear}
 
 -- a message is read here

@@ -1,7 +1,7 @@
 //! What holds of every command.
 
 ghost use Rattle.std.specs.Prelude.{◌≡◌, Result, List, Err};
-ghost use Rattle.pg_faults.specs.declared.error.Error.{Error};
+ghost use Rattle.pg_types.specs.declared.error.Error.{Error};
 ghost use Rattle.pg_query.specs.Dialogue.{Answer};
 ghost use Rattle.pg_query.specs.Meaning.{Place};
 ghost use Rattle.pg_query.specs.Lives.{Turn, Lives, deeds};

@@ -2,7 +2,7 @@
 
 ghost use Rattle.std.specs.Prelude.{◌≡◌, ◌<◌, ℕ, IfOk};
 ghost use Rattle.pg_spec.specs.RawMessages.{RawMessage};
-ghost use Rattle.pg_faults.specs.declared.error.Error.{Error};
+ghost use Rattle.pg_types.specs.declared.error.Error.{Error};
 ghost use Rattle.pg_query.specs.Dialogue.{Dialogue, feed_one};
 ghost use Rattle.pg_query.specs.Messages.{Means};
 ghost use Rattle.pg_query.specs.Scripts.{Waiting, IsMessage, IsReply, heard, GoesOn, Stops, Falls, cleanup_of};

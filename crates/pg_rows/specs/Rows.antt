@@ -3,7 +3,7 @@ use Rattle.std.specs.Prelude.{◌≡◌, ℕ, ◌+◌, ◌==◌, List, [], lengt
 use Rattle.pg_spec.specs.Bodies.{cells_of}
 use Rattle.pg_spec.specs.Faults.{WireFault, Parse, FieldCount}
 use Rattle.pg_spec.specs.SimpleQuery.{unreadable}
-use Rattle.pg_faults.specs.declared.error.Error.{Error}
+use Rattle.pg_types.specs.declared.error.Error.{Error}
 use Rattle.pg_wire.specs.Steps.{CellsLeft}
 
 -- the cells of a row; null is None

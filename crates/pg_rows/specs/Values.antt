@@ -9,10 +9,10 @@ use Rattle.pg_types.specs.declared.fault.ValueFault.{ValueFault}
 use Rattle.pg_types.specs.declared.fault.ValueFault.TheVariants as fault
 use Rattle.pg_types.specs.declared.fault.RustType.TheVariants as rust
 use Rattle.pg_types.specs.declared.memory.OutOfMemory.{OutOfMemory as Lack}
-use Rattle.pg_faults.specs.declared.cause.Cause.TheVariants.{Value}
-use Rattle.pg_faults.specs.declared.error.Error.{Error}
-use Rattle.pg_faults.specs.declared.error.Error.TheVariants.{Column as NoColumn, FromSql, OutOfMemory}
-use Rattle.pg_statements.specs.declared.column.Column.{Column}
+use Rattle.pg_types.specs.declared.cause.Cause.TheVariants.{Value}
+use Rattle.pg_types.specs.declared.error.Error.{Error}
+use Rattle.pg_types.specs.declared.error.Error.TheVariants.{Column as NoColumn, FromSql, OutOfMemory}
+use Rattle.pg_desk.specs.declared.column.Column.{Column}
 use Rattle.pg_rows.specs.declared.row_index.RowIndex.{RowIndex}
 use Rattle.pg_rows.specs.declared.simple_column.SimpleColumn.{SimpleColumn}
 use Rattle.pg_rows.specs.Places.{place_of, index_text}

@@ -9,7 +9,7 @@ ghost use Rattle.pg_wire.specs.Faults.{wire_fault};
 ghost use Rattle.pg_wire.specs.Steps.{IsWithin, Refuses, cell_in};
 ghost use Rattle.pg_rows.specs.Rows.{HoldsCells, cell_at, cells_read, cells_size, row_refusal};
 
-use pg_faults::{Cause, Error, WireFault};
+use pg_types::{Cause, Error, WireFault};
 use pg_wire::DataRowBody;
 use std::ops::Range;
 

@@ -8,9 +8,8 @@ ghost use Rattle.pg_rows.specs.Values.{CanGet, Gets, GetsValue, ReadsUnder};
 use crate::cells::{cell, check, check_number, size};
 use crate::row_index::{RowIndex, no_column, place_of};
 use crate::values::{answer_at, value_of};
-use pg_faults::Error;
-use pg_statements::{Column, Statement};
-use pg_types::{FromSql, OutOfMemory};
+use pg_desk::{Column, Statement};
+use pg_types::{Error, FromSql, OutOfMemory};
 use pg_wire::DataRowBody;
 use std::alloc::Global;
 use std::fmt;
@@ -29,7 +28,7 @@ impl Model for Row {
     ghost use Rattle.pg_spec.specs.Bodies.{cells_of};
     ghost use Rattle.std.specs.Coded.{codes};
     ghost use Rattle.pg_types.specs.contracts.pg_type.PgType as pg_type;
-    ghost use Rattle.pg_statements.specs.declared.column.Column as seen;
+    ghost use Rattle.pg_desk.specs.declared.column.Column as seen;
     ghost use Rattle.pg_rows.specs.Rows.{HoldsCells, RowOf, cells_read};
 
     ghost Value = { RowOf seen.Column };

@@ -6,8 +6,8 @@ ghost use Rattle.pg_rows.specs.Rows.{IsUnreadable, cell_at, row_of};
 
 use crate::cells::{bytes_in, cell, unreadable, walk};
 use crate::row::Row;
-use pg_faults::Error;
-use pg_statements::Statement;
+use pg_desk::Statement;
+use pg_types::Error;
 use pg_wire::{DataRowBody, DataRowRanges};
 use std::fmt;
 use std::marker::Model;

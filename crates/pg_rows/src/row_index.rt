@@ -3,13 +3,12 @@
 ghost use Rattle.std.specs.Prelude.{◌≡◌, ◌⊎◌, List, ℕ, map, IfOk, IfErr};
 ghost use Rattle.std.specs.List.{position};
 ghost use Rattle.std.specs.Str.{bytes_eq, str_eq_ignore_ascii_case};
-ghost use Rattle.pg_faults.specs.declared.error.Error.TheVariants as error;
+ghost use Rattle.pg_types.specs.declared.error.Error.TheVariants as error;
 ghost use Rattle.pg_rows.specs.Places.{index_text, place_of};
 
 use crate::simple_column::SimpleColumn;
-use pg_faults::Error;
-use pg_statements::Column;
-use pg_types::Text;
+use pg_desk::Column;
+use pg_types::{Error, Text};
 use std::alloc::Global;
 
 /// Which column of a row is meant.

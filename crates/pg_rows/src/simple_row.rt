@@ -9,7 +9,7 @@ use crate::cells::{cell, check};
 use crate::row_index::{RowIndex, no_column, place_of};
 use crate::simple_column::{SimpleColumn, SimpleColumns};
 use crate::values::{answer_at, text};
-use pg_faults::Error;
+use pg_types::Error;
 use pg_wire::DataRowBody;
 use std::alloc::Global;
 use std::fmt;

@@ -3,8 +3,7 @@
 ghost use Rattle.std.specs.Prelude.{◌≡◌, Ok, Err, option_map, MatchResult};
 ghost use Rattle.pg_rows.specs.Values.{ReadsText, ReadsUnder, error_at};
 
-use pg_faults::{Cause, Error};
-use pg_types::{FromSql, RustType, Type, ValueFault, WrongType};
+use pg_types::{Cause, Error, FromSql, RustType, Type, ValueFault, WrongType};
 use std::alloc::Global;
 use std::str;
 

@@ -4,7 +4,7 @@ use Rattle.std.specs.List.{slice_split}
 use Rattle.std.specs.Str.{byte, all_ascii_digits}
 use Rattle.pg_spec.specs.Faults as spec
 use Rattle.pg_spec.specs.Passwords.{ServerFirst, judged, server_first_of}
-use Rattle.pg_faults.specs.declared.cause.ScramFault.{ScramFault}
+use Rattle.pg_types.specs.declared.cause.ScramFault.{ScramFault}
 use Rattle.pg_scram.specs.declared.challenge.Challenge.{Challenge}
 use Rattle.pg_scram.specs.declared.challenge.Form.{Form}
 use Rattle.pg_scram.specs.Faults.{Refuses}

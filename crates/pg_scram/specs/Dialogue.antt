@@ -2,7 +2,7 @@
 use Rattle.std.specs.Prelude.{◌≡◌, ℕ, List, Result, Ok, Err}
 use Rattle.pg_spec.specs.Faults as spec
 use Rattle.pg_spec.specs.Passwords.{ClientFinal}
-use Rattle.pg_faults.specs.declared.cause.ScramFault.{ScramFault}
+use Rattle.pg_types.specs.declared.cause.ScramFault.{ScramFault}
 use Rattle.pg_scram.specs.declared.binding.ChannelBinding.{ChannelBinding}
 use Rattle.pg_scram.specs.declared.sasl.ScramSha256.{ScramSha256}
 use Rattle.pg_scram.specs.declared.sasl.ScramSha256Final.{ScramSha256Final}

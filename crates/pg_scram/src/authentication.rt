@@ -1,7 +1,7 @@
 //! The reply to a request for an MD5 password.
 
 ghost use Rattle.std.specs.Prelude.{◌≡◌, ◌++◌, IfOk, IfErr};
-ghost use Rattle.pg_faults.specs.declared.cause.ScramFault.TheVariants.{OutOfMemory};
+ghost use Rattle.pg_types.specs.declared.cause.ScramFault.TheVariants.{OutOfMemory};
 ghost use Rattle.md5.specs.Md5 as digest;
 ghost use Rattle.pg_spec.specs.Passwords.{md5_reply};
 

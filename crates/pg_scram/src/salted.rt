@@ -1,7 +1,7 @@
 //! The salted password (RFC 5802, section 2.2).
 
 ghost use Rattle.std.specs.Prelude.{◌≡◌, ◌≤◌, IfOk, IfErr};
-ghost use Rattle.pg_faults.specs.declared.cause.ScramFault.TheVariants.{OutOfMemory};
+ghost use Rattle.pg_types.specs.declared.cause.ScramFault.TheVariants.{OutOfMemory};
 ghost use Rattle.pg_spec.specs.Passwords as spec;
 
 use crate::mac::{hmac, xor};

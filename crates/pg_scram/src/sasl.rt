@@ -1,7 +1,7 @@
 //! The SCRAM-SHA-256 dialogue of a client (RFC 5802, RFC 7677).
 
 ghost use Rattle.std.specs.Prelude.{◌≡◌, None, IsTrue, IfOk, IfErr};
-ghost use Rattle.pg_faults.specs.declared.cause.ScramFault.TheVariants.{OutOfMemory};
+ghost use Rattle.pg_types.specs.declared.cause.ScramFault.TheVariants.{OutOfMemory};
 ghost use Rattle.pg_spec.specs.Passwords.{is_nonce, server_final_fault};
 ghost use Rattle.pg_spec.specs.Bindings.{client_final};
 ghost use Rattle.pg_scram.specs.Bindings.{binding_of};

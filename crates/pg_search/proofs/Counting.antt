@@ -2,8 +2,8 @@
 use Rattle.std.proofs.Common.{◌≡◌, ◌<◌, ◌≤◌, ℕ, zero, suc, ◌+◌, ◌-◌, ◌*◌, List, [], ◌∷◌, length, Bool, true, false, not, ◌&&◌, nat_lt, Result, Ok, Err, IfOk, refl, ap, subst, arith}
 use Rattle.std.proofs.Math.Nat.{mul-le-mul_right}
 use Rattle.std.proofs.lemmas.Bool.{ltb-true}
-use Rattle.pg_lookup.specs.Lookups.{TypeRow, is_among}
-use Rattle.pg_lookup.specs.Searches.{busy_of}
+use Rattle.pg_core.specs.Lookups.{TypeRow, is_among}
+use Rattle.pg_core.specs.Searches.{busy_of}
 use Rattle.pg_search.specs.declared.sort.Wrap.{Wrap}
 use Rattle.pg_search.specs.declared.frame.Frame.{Frame}
 use Rattle.pg_search.specs.declared.frame.Frame.TheVariants.{Wrapped, Part}

@@ -1,7 +1,7 @@
 -- What a script inside a search wants, hears and reads is so in the search.
 use Rattle.std.proofs.Common.{◌≡◌, List, [], ◌∷◌, Bool, true, false, if◌then◌else◌, Result, refl, sym, ◌∙◌, ap, subst, append-nil}
 use Rattle.pg_spec.specs.RawMessages.{RawMessage}
-use Rattle.pg_faults.specs.declared.error.Error.{Error}
+use Rattle.pg_types.specs.declared.error.Error.{Error}
 use Rattle.pg_query.specs.declared.desk_call.Cleanup.{Cleanup}
 use Rattle.pg_query.specs.declared.desk_call.DeskCall.{DeskCall}
 use Rattle.pg_query.specs.declared.desk_call.Reply.{Reply}
@@ -11,7 +11,7 @@ use Rattle.pg_query.specs.declared.script.Action.TheVariants as act
 use Rattle.pg_query.specs.Dialogue.{Dialogue, Answer, Ask, Send, Leave, Read, Put, Finish, Close, HangUp, Call, Hear, feed_one}
 use Rattle.pg_query.specs.Scripts.{Waiting, Nothing, AMessage, AReply, IsMessage, IsReply, IsRead, IsHear, heard, GoesOn, cleanup_of}
 use Rattle.pg_core.specs.Behind.{behind}
-use Rattle.pg_scripts.specs.Thens.{waits_through, read_through, hear_through}
+use Rattle.pg_core.specs.Thens.{waits_through, read_through, hear_through}
 
 -- one dialogue behind another
 module _ {X T : Type 0} (f : Result X Error → Dialogue T) where

@@ -3,16 +3,16 @@ use Rattle.std.proofs.Common.{◌≡◌, ℕ, suc, ◌-◌, List, [], ◌∷◌,
 use Rattle.pg_types.specs.declared.pg_type.PgType.{PgType}
 use Rattle.pg_types.specs.declared.pg_type.Kind.{Kind, Composite, Enum}
 use Rattle.pg_types.specs.BuiltIns.{built_in_type}
-use Rattle.pg_faults.specs.declared.error.Error.{Error}
-use Rattle.pg_faults.specs.declared.error.Error.TheVariants.{UnexpectedMessage}
+use Rattle.pg_types.specs.declared.error.Error.{Error}
+use Rattle.pg_types.specs.declared.error.Error.TheVariants.{UnexpectedMessage}
 use Rattle.pg_query.specs.declared.desk_call.DeskCall.TheVariants.{TypeOf, SetType}
 use Rattle.pg_query.specs.Dialogue.{Dialogue, Answer, Call}
 use Rattle.pg_core.specs.Behind.{behind}
-use Rattle.pg_scripts.specs.Sequences.{or_answer, then_do}
-use Rattle.pg_lookup.specs.Cells.{Cells}
-use Rattle.pg_lookup.specs.Prepares.{type_told, known_or}
-use Rattle.pg_lookup.specs.Lookups.{TypeRow, FieldRow, FieldRows, Of, Labels, Fields, find_all, labels_of, field_rows, row_of, made_by, wraps, keeps, kept_told, field_row, fields_by, find, find_each, unless_known}
-use Rattle.pg_lookup.specs.Searches.{find_above, busy_of, searching}
+use Rattle.pg_core.specs.Sequences.{or_answer, then_do}
+use Rattle.pg_core.specs.Cells.{Cells}
+use Rattle.pg_core.specs.Prepares.{type_told, known_or}
+use Rattle.pg_core.specs.Lookups.{TypeRow, FieldRow, FieldRows, Of, Labels, Fields, find_all, labels_of, field_rows, row_of, made_by, wraps, keeps, kept_told, field_row, fields_by, find, find_each, unless_known}
+use Rattle.pg_core.specs.Searches.{find_above, busy_of, searching}
 use Rattle.pg_search.specs.declared.sort.Wrap.{Wrap}
 use Rattle.pg_search.specs.declared.frame.Frame.{Frame}
 use Rattle.pg_search.specs.declared.frame.Frame.TheVariants.{Wrapped, Part}

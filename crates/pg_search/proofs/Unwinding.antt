@@ -2,17 +2,17 @@
 use Rattle.std.proofs.Common.{◌≡◌, ℕ, zero, suc, ◌-◌, List, [], ◌∷◌, ◌++◌, Bool, true, false, not, ◌&&◌, nat_lt, Option, Some, None, Result, Err, refl, sym, ◌∙◌, ap, arith, append-nil}
 use Rattle.std.proofs.lemmas.Bool.{lt-ltb, le-ltb}
 use Rattle.pg_types.specs.declared.pg_type.PgType.{PgType}
-use Rattle.pg_faults.specs.declared.error.Error.{Error}
-use Rattle.pg_faults.specs.declared.error.Error.TheVariants.{UnexpectedMessage}
+use Rattle.pg_types.specs.declared.error.Error.{Error}
+use Rattle.pg_types.specs.declared.error.Error.TheVariants.{UnexpectedMessage}
 use Rattle.pg_query.specs.declared.desk_call.DeskCall.{DeskCall}
 use Rattle.pg_query.specs.declared.desk_call.Reply.{Reply}
 use Rattle.pg_query.specs.Dialogue.{Dialogue, Answer, Ask, Send, Leave, Read, Put, Finish, Close, HangUp, Call, Hear}
 use Rattle.pg_core.specs.Behind.{behind}
-use Rattle.pg_scripts.specs.Sequences.{or_answer, then_do}
-use Rattle.pg_lookup.specs.Composing.{asks_desk}
-use Rattle.pg_lookup.specs.Prepares.{known}
-use Rattle.pg_lookup.specs.Lookups.{row_of, made_by, sort_of, find, find_each, is_among, unless_known}
-use Rattle.pg_lookup.specs.Searches.{Frame, find_above, resumes, searching}
+use Rattle.pg_core.specs.Sequences.{or_answer, then_do}
+use Rattle.pg_core.specs.Composing.{asks_desk}
+use Rattle.pg_core.specs.Prepares.{known}
+use Rattle.pg_core.specs.Lookups.{row_of, made_by, sort_of, find, find_each, is_among, unless_known}
+use Rattle.pg_core.specs.Searches.{Frame, find_above, resumes, searching}
 
 -- a dialogue behind one that stands behind another
 pub behind-behind : {A B T : Type 0} (d : Dialogue A) (f : Result A Error → Dialogue B) (g : Result B Error → Dialogue T) → behind [] (behind [] d f) g ≡ behind [] d (λ r. behind [] (f r) g)

@@ -2,7 +2,7 @@
 use Rattle.std.proofs.Common.{◌≡◌, ◌≤◌, ◌+◌, ◌*◌, ℕ, List, [], Result, Ok, Err, IfOk, refl, sym, ◌∙◌, ap, subst, arith}
 use Rattle.pg_spec.specs.RawMessages.{RawMessage}
 use Rattle.pg_types.specs.declared.pg_type.PgType.{PgType}
-use Rattle.pg_faults.specs.declared.error.Error.{Error}
+use Rattle.pg_types.specs.declared.error.Error.{Error}
 use Rattle.pg_query.specs.declared.desk_call.Reply.{Reply}
 use Rattle.pg_query.specs.declared.script.Want.{Want}
 use Rattle.pg_query.specs.declared.script.Want.TheVariants as want
@@ -10,7 +10,7 @@ use Rattle.pg_query.specs.declared.script.Action.{Action}
 use Rattle.pg_query.specs.Dialogue.{Dialogue, feed_one}
 use Rattle.pg_query.specs.Scripts.{Waiting, IsMessage, IsReply, Falls, GoesOn, heard}
 use Rattle.pg_core.specs.Behind.{behind}
-use Rattle.pg_lookup.specs.Lookups.{TypeRow, FieldRows}
+use Rattle.pg_core.specs.Lookups.{TypeRow, FieldRows}
 use Rattle.pg_search.specs.declared.stack.Stack.{Stack}
 use Rattle.pg_search.specs.declared.search.Job.{Job}
 use Rattle.pg_search.specs.declared.search.Job.TheVariants as job

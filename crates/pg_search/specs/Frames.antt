@@ -2,7 +2,7 @@
 use Rattle.std.specs.Prelude.{List, [], ◌∷◌}
 use Rattle.pg_search.specs.declared.frame.Frame.{Frame}
 use Rattle.pg_search.specs.declared.frame.Frame.TheVariants.{Wrapped, Part}
-use Rattle.pg_lookup.specs.Searches as seen
+use Rattle.pg_core.specs.Searches as seen
 use Rattle.pg_search.specs.Sorts.{wrap_of}
 
 -- what waits for one type

@@ -3,3 +3,9 @@ pub mod Frames
 pub mod Stacks
 pub mod Steps
 pub mod Searching
+pub mod CatalogReadings
+pub mod Given
+pub mod Keeping
+pub mod Saying
+pub mod Asking
+pub mod Rows

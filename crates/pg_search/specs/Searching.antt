@@ -1,15 +1,15 @@
 -- Where a search stands, by its job.
 use Rattle.std.specs.Prelude.{ℕ, ◌+◌, ◌-◌, ◌*◌, List, [], length, Err}
 use Rattle.pg_types.specs.declared.pg_type.PgType.{PgType}
-use Rattle.pg_faults.specs.declared.error.Error.{Error}
-use Rattle.pg_faults.specs.declared.error.Error.TheVariants.{Closed}
+use Rattle.pg_types.specs.declared.error.Error.{Error}
+use Rattle.pg_types.specs.declared.error.Error.TheVariants.{Closed}
 use Rattle.pg_query.specs.declared.script.Want.{Want}
 use Rattle.pg_query.specs.Dialogue.{Dialogue, Answer, Hear}
 use Rattle.pg_query.specs.Scripts.{Waiting, Nothing, AReply, GoesOn}
 use Rattle.pg_core.specs.Behind.{behind}
-use Rattle.pg_scripts.specs.Thens.{waits_through}
-use Rattle.pg_lookup.specs.Prepares.{type_told}
-use Rattle.pg_lookup.specs.Lookups.{TypeRow, FieldRows, kept_told, find_all, unless_known}
+use Rattle.pg_core.specs.Thens.{waits_through}
+use Rattle.pg_core.specs.Prepares.{type_told}
+use Rattle.pg_core.specs.Lookups.{TypeRow, FieldRows, kept_told, find_all, unless_known}
 use Rattle.pg_search.specs.declared.stack.Stack.{Stack}
 use Rattle.pg_search.specs.declared.search.Job.{Job}
 use Rattle.pg_search.specs.declared.search.Job.TheVariants as job

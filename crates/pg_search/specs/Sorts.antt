@@ -3,7 +3,7 @@ use Rattle.pg_search.specs.declared.sort.Wrap.{Wrap}
 use Rattle.pg_search.specs.declared.sort.Wrap.TheVariants as wrap
 use Rattle.pg_search.specs.declared.sort.Sort.{Sort}
 use Rattle.pg_search.specs.declared.sort.Sort.TheVariants as sort
-use Rattle.pg_lookup.specs.Lookups as seen
+use Rattle.pg_core.specs.Lookups as seen
 
 -- how a type is made of one other
 abbrev pub wrap_of : Wrap → seen.Wrap

@@ -2,13 +2,13 @@
 use Rattle.std.specs.Prelude.{ℕ, suc, ◌-◌, nat_lt, List, [], ◌∷◌, length, Bool, not, ◌&&◌, Result, Err}
 use Rattle.pg_types.specs.declared.pg_type.PgType.{PgType}
 use Rattle.pg_types.specs.declared.pg_type.Kind.{Enum, Composite}
-use Rattle.pg_faults.specs.declared.error.Error.{Error}
+use Rattle.pg_types.specs.declared.error.Error.{Error}
 use Rattle.pg_query.specs.declared.desk_call.DeskCall.TheVariants.{TypeOf, SetType}
 use Rattle.pg_query.specs.Dialogue.{Dialogue, Answer, Call}
-use Rattle.pg_scripts.specs.Sequences.{or_answer, then_do}
-use Rattle.pg_lookup.specs.Prepares.{type_told}
-use Rattle.pg_lookup.specs.Lookups.{TypeRow, FieldRows, row_of, made_by, sort_of, keeps, kept_told, fields_by, find, find_each, is_among, unless_known}
-use Rattle.pg_lookup.specs.Searches.{find_above, busy_of, searching}
+use Rattle.pg_core.specs.Sequences.{or_answer, then_do}
+use Rattle.pg_core.specs.Prepares.{type_told}
+use Rattle.pg_core.specs.Lookups.{TypeRow, FieldRows, row_of, made_by, sort_of, keeps, kept_told, fields_by, find, find_each, is_among, unless_known}
+use Rattle.pg_core.specs.Searches.{find_above, busy_of, searching}
 use Rattle.pg_search.specs.declared.frame.OpenComposite.{OpenComposite}
 use Rattle.pg_search.specs.declared.stack.Stack.{Stack}
 use Rattle.pg_search.specs.declared.stack.Next.{Next}

@@ -1,12 +1,12 @@
 //! What a search asks of the server's catalog.
 
 ghost use Rattle.std.specs.Prelude.{◌≡◌, ◌≤◌, ℕ, IfOk};
-ghost use Rattle.pg_lookup.specs.Lookups.{field_row, field_rows, labels_of, row_of};
+ghost use Rattle.pg_core.specs.Lookups.{field_row, field_rows, labels_of, row_of};
 
 use crate::rows::{FieldRow, FieldRows, TypeRow};
+use pg_desk::Column;
 use pg_errors::Error;
 use pg_query::Script;
-use pg_statements::Column;
 use pg_types::{Blob, List, Oid, Text};
 use std::alloc::{AllocError, Global};
 

@@ -1,16 +1,16 @@
 //! What waits for the types of others.
 
 ghost use Rattle.std.specs.Prelude.{◌≡◌, IfOk};
-ghost use Rattle.pg_lookup.specs.Lookups.{wraps};
-ghost use Rattle.pg_lookup.specs.Searches.{oid_of};
+ghost use Rattle.pg_core.specs.Lookups.{wraps};
+ghost use Rattle.pg_core.specs.Searches.{oid_of};
 ghost use Rattle.pg_search.specs.Frames.{frame_of};
 ghost use Rattle.pg_search.specs.Sorts.{wrap_of};
 
 use crate::rows::TypeRow;
 use crate::size::is_small;
 use crate::sort::Wrap;
+use pg_desk::Statement;
 use pg_query::Cells;
-use pg_statements::Statement;
 use pg_types::{Field, Kind, List, Oid, Text, Type};
 use std::alloc::{AllocError, Global};
 use std::collections::VecDeque;

@@ -2,8 +2,8 @@
 
 ghost use Rattle.std.specs.Prelude.{◌≡◌};
 
+use pg_desk::{Column, Statement};
 use pg_query::Cells;
-use pg_statements::{Column, Statement};
 use pg_types::{List, Oid, Text};
 use std::collections::VecDeque;
 use std::marker::Model;
@@ -21,7 +21,7 @@ pub struct TypeRow {
 }
 
 impl Model for TypeRow {
-    ghost use Rattle.pg_lookup.specs.Lookups as seen;
+    ghost use Rattle.pg_core.specs.Lookups as seen;
 
     ghost Value = { seen.TypeRow };
 
@@ -36,7 +36,7 @@ pub struct FieldRows {
 }
 
 impl Model for FieldRows {
-    ghost use Rattle.pg_lookup.specs.Lookups as seen;
+    ghost use Rattle.pg_core.specs.Lookups as seen;
     ghost use Rattle.pg_types.specs.contracts.pg_type.PgType as pg_type;
     ghost use Rattle.std.specs.Coded.{codes};
 
@@ -55,7 +55,7 @@ pub struct FieldRow {
 }
 
 impl Model for FieldRow {
-    ghost use Rattle.pg_lookup.specs.Lookups as seen;
+    ghost use Rattle.pg_core.specs.Lookups as seen;
 
     ghost Value = { seen.FieldRow };
 

@@ -3,14 +3,14 @@
 ghost use Rattle.std.specs.Prelude.{◌≡◌, ◌≤◌, ◌+◌, ◌-◌, ◌*◌, ℕ, List, [], length, Option, None, Ok, IfOk};
 ghost use Rattle.pg_spec.specs.RawMessages.{RawMessage};
 ghost use Rattle.pg_types.specs.declared.pg_type.PgType.{PgType};
-ghost use Rattle.pg_lookup.specs.Lookups as spec;
-ghost use Rattle.pg_lookup.specs.Prepares.{type_told};
+ghost use Rattle.pg_core.specs.Lookups as spec;
+ghost use Rattle.pg_core.specs.Prepares.{type_told};
 ghost use Rattle.pg_query.specs.Dialogue.{Answer, Dialogue, feed_one};
 ghost use Rattle.pg_query.specs.Messages.{Means};
 ghost use Rattle.pg_query.specs.Scripts.{Falls, GoesOn, IsMessage};
 ghost use Rattle.pg_core.specs.Behind.{behind};
-ghost use Rattle.pg_scripts.specs.Sequences.{or_answer};
-ghost use Rattle.pg_scripts.specs.Thens.{is_end};
+ghost use Rattle.pg_core.specs.Sequences.{or_answer};
+ghost use Rattle.pg_core.specs.Thens.{is_end};
 
 use crate::asker::Asker;
 use crate::frame::{Frame, OpenComposite, typed};

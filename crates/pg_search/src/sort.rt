@@ -1,7 +1,7 @@
 //! What a type's row says of its kind.
 
 ghost use Rattle.std.specs.Prelude.{◌≡◌};
-ghost use Rattle.pg_lookup.specs.Lookups as spec;
+ghost use Rattle.pg_core.specs.Lookups as spec;
 ghost use Rattle.pg_search.specs.Sorts.{sort_said};
 
 use crate::rows::TypeRow;

@@ -2,7 +2,7 @@
 
 ghost use Rattle.std.specs.Prelude.{◌≡◌, ◌≤◌, ◌+◌, ◌*◌, ◌∷◌, [], ℕ, length, IfOk};
 ghost use Rattle.pg_query.specs.Dialogue.{Answer};
-ghost use Rattle.pg_lookup.specs.Lookups.{find_all};
+ghost use Rattle.pg_core.specs.Lookups.{find_all};
 ghost use Rattle.pg_search.specs.Stacks.{composite_goes, find_at, may_find, next_dialogue, rest_at, searching_at, turn_dialogue};
 ghost use Rattle.pg_search.specs.Steps.{finding_steps, more_at, more_over, next_steps, stack_steps, turn_steps};
 

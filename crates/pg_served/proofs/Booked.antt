@@ -13,11 +13,11 @@ use Rattle.pg_spec.specs.Sent.{ends_unit, is_password, tagged_frames, units, who
 use Rattle.pg_spec.specs.Settings.{Settings, startup_parameters}
 use Rattle.pg_spec.proofs.MessageLaws.{Fits, message_at_front, messages-append, messages-join}
 use Rattle.pg_wire.proofs.Cuts.{left_of_one}
-use Rattle.pg_serving.specs.Serving.{Service, Serving, Replied, joined, served}
-use Rattle.pg_serving.specs.Requests.{SoundAlong}
-use Rattle.pg_serving.specs.Sessions.{alone, begun, frames_of, spoken}
-use Rattle.pg_serving.proofs.ServingLaws.{IsOneGroup, SoundAlong-append, pipelined-one_at_a_time, requests-IsReply, served-append}
-use Rattle.pg_serving.proofs.SessionLaws.{AllOneGroup, AllRequests, length-alone, length-map', silent-Terminate, terminate, terminate-messages, wire-messages}
+use Rattle.pg_machine.specs.Serving.{Service, Serving, Replied, joined, served}
+use Rattle.pg_machine.specs.Requests.{SoundAlong}
+use Rattle.pg_machine.specs.Sessions.{alone, begun, frames_of, spoken}
+use Rattle.pg_machine.proofs.ServingLaws.{IsOneGroup, SoundAlong-append, pipelined-one_at_a_time, requests-IsReply, served-append}
+use Rattle.pg_machine.proofs.SessionLaws.{AllOneGroup, AllRequests, length-alone, length-map', silent-Terminate, terminate, terminate-messages, wire-messages}
 use Rattle.pg_session.proofs.Caused.Frames.{frames-behind}
 use Rattle.pg_session.proofs.Complete.Bytes.{messages-behind, none-front}
 use Rattle.pg_session.proofs.Complete.Groups.{AreReplies, ended-pieces}

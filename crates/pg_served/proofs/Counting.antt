@@ -7,13 +7,13 @@ use Rattle.std.proofs.lemmas.Bool.{eqb-true}
 use Rattle.std.proofs.lemmas.List.{length-append}
 use Rattle.pg_spec.specs.RawMessages.{RawMessage, is_ready, is_aside, sync_of, cut_after, groups, is_whole_group}
 use Rattle.pg_spec.specs.Sent.{ends_unit}
-use Rattle.pg_serving.specs.declared.serving.Mode.TheVariants.{Normal}
-use Rattle.pg_serving.specs.declared.serving.Kind.{Kind}
-use Rattle.pg_serving.specs.declared.serving.Kind.TheVariants.{Query, Sync, CopyDone, CopyFail}
-use Rattle.pg_serving.specs.Serving.{Service, Serving, Replied, kind_of, joined, served}
-use Rattle.pg_serving.specs.Requests.{SoundAlong, IsRequest, IsReply, OnlyCopiesOpen}
-use Rattle.pg_serving.proofs.ServingLaws.{served-append, front-NotReady, SoundAlong-append, Closes, request-Closes}
-use Rattle.pg_serving.proofs.SessionLaws.{both_true}
+use Rattle.pg_machine.specs.declared.serving.Mode.TheVariants.{Normal}
+use Rattle.pg_machine.specs.declared.serving.Kind.{Kind}
+use Rattle.pg_machine.specs.declared.serving.Kind.TheVariants.{Query, Sync, CopyDone, CopyFail}
+use Rattle.pg_machine.specs.Serving.{Service, Serving, Replied, kind_of, joined, served}
+use Rattle.pg_machine.specs.Requests.{SoundAlong, IsRequest, IsReply, OnlyCopiesOpen}
+use Rattle.pg_machine.proofs.ServingLaws.{served-append, front-NotReady, SoundAlong-append, Closes, request-Closes}
+use Rattle.pg_machine.proofs.SessionLaws.{both_true}
 
 -- ---- how many of some messages are ReadyForQuery
 

@@ -3,7 +3,7 @@ use Rattle.std.proofs.Common.{◌≡◌, ℕ, Bool, false, List, [], ◌∷◌, 
 use Rattle.std.proofs.lemmas.Option.{same_Some}
 use Rattle.pg_spec.specs.Frames.{terminate_frame}
 use Rattle.pg_wire.specs.LinkCalls.{Continues}
-use Rattle.pg_serving.specs.Sessions.{gives}
+use Rattle.pg_machine.specs.Sessions.{gives}
 use Rattle.pg_machine.specs.Machines.{Table}
 use Rattle.pg_machine.specs.Machines as machines
 use Rattle.pg_machine.specs.MachineLinks as machine_links

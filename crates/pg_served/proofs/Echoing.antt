@@ -12,7 +12,7 @@ use Rattle.pg_spec.specs.Faults.{FrameFault}
 use Rattle.pg_spec.specs.Frames.{query_frame, terminate_frame}
 use Rattle.pg_spec.specs.Report.{Command, Simple}
 use Rattle.pg_spec.specs.Settings.{Settings, named, startup_parameters}
-use Rattle.pg_serving.specs.Sessions.{IsStartup}
+use Rattle.pg_machine.specs.Sessions.{IsStartup}
 use Rattle.pg_server.specs.Echoes.{IsTextQuery, echo_step}
 use Rattle.pg_server.specs.Hearing.{said_to}
 use Rattle.pg_server.specs.Standings.{unfed}

@@ -22,10 +22,10 @@ use Rattle.pg_spec.specs.Settings.{Settings, startup_parameters}
 use Rattle.pg_spec.specs.Startup.{Startup, Done, More, First, begun_by, dialogue, plain_login, session_part, startup, used_of}
 use Rattle.pg_spec.proofs.GroupLaws.{groups-AreFronts}
 use Rattle.pg_spec.proofs.MessageLaws.{Fits, messages-append, bytes_left-append}
-use Rattle.pg_serving.specs.Serving.{Service, joined, served}
-use Rattle.pg_serving.specs.Requests.{SoundAlong}
-use Rattle.pg_serving.specs.Sessions.{IsStartup, begun, frames_of, spoken}
-use Rattle.pg_serving.proofs.ServingLaws.{replies-Fit}
+use Rattle.pg_machine.specs.Serving.{Service, joined, served}
+use Rattle.pg_machine.specs.Requests.{SoundAlong}
+use Rattle.pg_machine.specs.Sessions.{IsStartup, begun, frames_of, spoken}
+use Rattle.pg_machine.proofs.ServingLaws.{replies-Fit}
 use Rattle.pg_session.proofs.Complete.Bytes.{IsFrontOf, all-behind, all-front, all-holds, front-of, messages-behind, never-bad, none-front, place-low}
 use Rattle.pg_session.proofs.Complete.Start.{done-later, frames-grow, front-startup, never-refused, same-later, used-within}
 use Rattle.pg_session.proofs.Opening.Sent.{cut-front}

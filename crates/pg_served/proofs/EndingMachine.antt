@@ -11,10 +11,10 @@ use Rattle.pg_spec.specs.Frames.{startup_frame, terminate_frame}
 use Rattle.pg_spec.specs.RawMessages.{messages}
 use Rattle.pg_spec.specs.Sent.{after_startup_frame}
 use Rattle.pg_spec.specs.Settings.{Settings, startup_parameters}
-use Rattle.pg_serving.specs.Serving.{Service, joined, served}
-use Rattle.pg_serving.specs.Requests.{SoundAlong}
-use Rattle.pg_serving.specs.Sessions.{begun, frames_of, spoken}
-use Rattle.pg_serving.proofs.SessionLaws.{IsStartupFrame, startup-frame}
+use Rattle.pg_machine.specs.Serving.{Service, joined, served}
+use Rattle.pg_machine.specs.Requests.{SoundAlong}
+use Rattle.pg_machine.specs.Sessions.{begun, frames_of, spoken}
+use Rattle.pg_machine.proofs.SessionLaws.{IsStartupFrame, startup-frame}
 use Rattle.pg_machine.specs.Machines.{Table, IsMachine}
 use Rattle.pg_machine.specs.Machines as machines
 use Rattle.pg_machine.specs.MachineLinks.{Served, new_link, due_in}

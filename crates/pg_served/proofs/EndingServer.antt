@@ -21,11 +21,11 @@ use Rattle.pg_spec.specs.Settings.{Settings, startup_parameters}
 use Rattle.pg_spec.specs.Startup.{First, begun_by, dialogue, plain_login}
 use Rattle.pg_wire.specs.LinkCalls.{Continues}
 use Rattle.pg_wire.specs.Memory.{as_count}
-use Rattle.pg_serving.specs.Serving.{Service, joined, served}
-use Rattle.pg_serving.specs.Requests.{SoundAlong}
-use Rattle.pg_serving.specs.Sessions.{IsStartup, begun, frames_of, spoken}
-use Rattle.pg_serving.proofs.ServingLaws.{SoundAlong-append}
-use Rattle.pg_serving.proofs.SessionLaws.{terminate, terminate-messages, wire-messages}
+use Rattle.pg_machine.specs.Serving.{Service, joined, served}
+use Rattle.pg_machine.specs.Requests.{SoundAlong}
+use Rattle.pg_machine.specs.Sessions.{IsStartup, begun, frames_of, spoken}
+use Rattle.pg_machine.proofs.ServingLaws.{SoundAlong-append}
+use Rattle.pg_machine.proofs.SessionLaws.{terminate, terminate-messages, wire-messages}
 use Rattle.pg_server.specs.declared.fault.ServerFault.{ServerFault}
 use Rattle.pg_server.specs.ByteLists.{are_bytes}
 use Rattle.pg_server.specs.Handlers.{Step, service_of}

@@ -6,8 +6,8 @@ use Rattle.pg_desk.specs.declared.event.Booking.{Booking}
 use Rattle.pg_spec.specs.RawMessages.{RawMessage, messages}
 use Rattle.pg_text.specs.Views.{booking_of}
 use Rattle.pg_types.specs.declared.memory.OutOfMemory.{OutOfMemory}
-use Rattle.pg_serving.specs.Serving.{one_at_a_time}
-use Rattle.pg_serving.specs.Sessions.{alone, begun, frames_of, spoken}
+use Rattle.pg_machine.specs.Serving.{one_at_a_time}
+use Rattle.pg_machine.specs.Sessions.{alone, begun, frames_of, spoken}
 use Rattle.pg_machine.specs.Alone.{replies_alone}
 use Rattle.pg_machine.specs.Machines.{Table, service_of}
 

@@ -15,3 +15,4 @@ mod Played
 mod WorkedEnding
 mod Feeding
 mod Echoing
+mod Faulting

@@ -1,7 +1,7 @@
 -- What a session over a link promises, said of a link to a server, or to a machine.
 use Rattle.std.proofs.Common.{◌≡◌, true, List, Result, Ok, Err, subst}
-use Rattle.pg_faults.specs.declared.error.Error.{Error}
-use Rattle.pg_failed.specs.Calls.{apart}
+use Rattle.pg_types.specs.declared.error.Error.{Error}
+use Rattle.pg_promises.specs.Calls.{apart}
 use Rattle.pg_promises.specs.Causes.{HasCause}
 use Rattle.pg_spec.specs.Faults as errors
 use Rattle.pg_spec.specs.Report as said

@@ -16,9 +16,9 @@ use Rattle.pg_spec.specs.Report.{Command, Simple, Report}
 use Rattle.pg_spec.specs.Turns.{Times, entry_at}
 use Rattle.pg_spec.proofs.MessageLaws.{message_at_front, messages-front}
 use Rattle.pg_wire.proofs.Cuts.{left_of_one}
-use Rattle.pg_serving.specs.Serving.{Service, Serving, served}
-use Rattle.pg_serving.specs.Requests.{OnlyCopiesOpen, opens_copy}
-use Rattle.pg_serving.specs.Sessions.{AreRequests, begun, frames_of}
+use Rattle.pg_machine.specs.Serving.{Service, Serving, served}
+use Rattle.pg_machine.specs.Requests.{OnlyCopiesOpen, opens_copy}
+use Rattle.pg_machine.specs.Sessions.{AreRequests, begun, frames_of}
 use Rattle.pg_table.proofs.Queries.{IsQuery, a-query}
 use Rattle.pg_served.specs.OneAtATime.{AsksInRequests}
 

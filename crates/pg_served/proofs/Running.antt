@@ -8,8 +8,8 @@ use Rattle.pg_spec.specs.Book.{wire}
 use Rattle.pg_spec.specs.Links.{LinkView, OfBytes}
 use Rattle.pg_spec.specs.Report.{Report}
 use Rattle.pg_wire.specs.LinkCalls.{Continues}
-use Rattle.pg_serving.specs.Serving.{joined}
-use Rattle.pg_serving.specs.Sessions.{begun, frames_of}
+use Rattle.pg_machine.specs.Serving.{joined}
+use Rattle.pg_machine.specs.Sessions.{begun, frames_of}
 use Rattle.pg_machine.specs.Machines.{Table, IsMachine}
 use Rattle.pg_machine.specs.Machines as machines
 use Rattle.pg_machine.specs.MachineLinks as machine_links

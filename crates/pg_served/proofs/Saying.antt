@@ -3,21 +3,21 @@ use Rattle.std.proofs.Common.{◌≡◌, ℕ, zero, suc, ◌<◌, Bool, true, fa
 use Rattle.std.specs.Prelude.{IfSome, IsTrue, option_map}
 use Rattle.std.proofs.lemmas.Grind.{flat_map-append}
 use Rattle.std.proofs.lemmas.Option.{none-some}
-use Rattle.pg_faults.specs.declared.fault.WireFault.{WireFault}
-use Rattle.pg_faults.specs.declared.fault.WireFault.TheVariants.{BadLength}
+use Rattle.pg_types.specs.declared.faults.WireFault.{WireFault}
+use Rattle.pg_types.specs.declared.faults.WireFault.TheVariants.{BadLength}
 use Rattle.pg_spec.specs.Batches.{is_nothing}
 use Rattle.pg_spec.specs.ClientFrames.{ClientFrame, client_frame_of}
 use Rattle.pg_spec.specs.RawMessages.{RawMessage, message_at, message_bytes, messages, bytes_left, has_bad_header}
 use Rattle.pg_spec.specs.Sent.{is_terminate}
 use Rattle.pg_wire.proofs.Cuts.{messages_of_none, messages_of_one}
-use Rattle.pg_serving.specs.declared.serving.Turn.{Turn}
-use Rattle.pg_serving.specs.declared.serving.Turn.TheVariants.{Silent, Ready, AnswersReady, Answers, TakesData, EndsCopy, Refuses}
-use Rattle.pg_serving.specs.Serving as rules
-use Rattle.pg_serving.specs.Serving.{Replied, served, turn, kind_of, own_or_refusal}
-use Rattle.pg_serving.specs.Sessions.{spoken}
-use Rattle.pg_serving.specs.Requests.{SoundAlong, asked, is_sound, is_copy_in}
-use Rattle.pg_serving.specs.Tags.{has_two}
-use Rattle.pg_serving.proofs.SessionLaws.{both_true}
+use Rattle.pg_machine.specs.declared.serving.Turn.{Turn}
+use Rattle.pg_machine.specs.declared.serving.Turn.TheVariants.{Silent, Ready, AnswersReady, Answers, TakesData, EndsCopy, Refuses}
+use Rattle.pg_machine.specs.Serving as rules
+use Rattle.pg_machine.specs.Serving.{Replied, served, turn, kind_of, own_or_refusal}
+use Rattle.pg_machine.specs.Sessions.{spoken}
+use Rattle.pg_machine.specs.Requests.{SoundAlong, asked, is_sound, is_copy_in}
+use Rattle.pg_machine.specs.Tags.{has_two}
+use Rattle.pg_machine.proofs.SessionLaws.{both_true}
 use Rattle.pg_server.specs.declared.fault.ServerFault.{ServerFault}
 use Rattle.pg_server.specs.declared.fault.ServerFault.TheVariants as faults
 use Rattle.pg_server.specs.declared.session.Stage.TheVariants.{Serves, Over}

@@ -4,7 +4,7 @@ use Rattle.std.specs.Prelude.{map, if◌then◌else◌}
 use Rattle.std.specs.Int.{w32, to_be_bytes}
 use Rattle.std.specs.List.{concat, flat_map}
 use Rattle.std.proofs.lemmas.List.{drop_at, length-append}
-use Rattle.pg_faults.specs.declared.fault.WireFault.TheVariants.{BadLength, Layout}
+use Rattle.pg_types.specs.declared.faults.WireFault.TheVariants.{BadLength, Layout}
 use Rattle.pg_promises.specs.EndedWell.{Session, EndedWell, replies}
 use Rattle.pg_spec.specs.Book.{Booking, wire}
 use Rattle.pg_spec.specs.Bytes.{text0}
@@ -17,11 +17,11 @@ use Rattle.pg_spec.specs.Startup.{Startup, startup, session_part, used_of, dialo
 use Rattle.pg_spec.proofs.MessageLaws.{messages-join}
 use Rattle.pg_spec.proofs.Readers.{bytes_at_front, number_at_front}
 use Rattle.pg_spec.proofs.SentLaws.{after_startup_frame-front}
-use Rattle.pg_serving.specs.Serving.{Service, Serving, Replied, served, joined}
-use Rattle.pg_serving.specs.Requests.{SoundAlong}
-use Rattle.pg_serving.specs.Sessions.{IsOver, begun, frames_of, spoken}
-use Rattle.pg_serving.proofs.ServingLaws.{served-append, SoundAlong-append, replies-Fit}
-use Rattle.pg_serving.proofs.SessionLaws.{AllRequests, silent-Terminate, terminate, terminate-messages, wire-messages}
+use Rattle.pg_machine.specs.Serving.{Service, Serving, Replied, served, joined}
+use Rattle.pg_machine.specs.Requests.{SoundAlong}
+use Rattle.pg_machine.specs.Sessions.{IsOver, begun, frames_of, spoken}
+use Rattle.pg_machine.proofs.ServingLaws.{served-append, SoundAlong-append, replies-Fit}
+use Rattle.pg_machine.proofs.SessionLaws.{AllRequests, silent-Terminate, terminate, terminate-messages, wire-messages}
 use Rattle.pg_server.specs.declared.fault.ServerFault.{ServerFault}
 use Rattle.pg_server.specs.declared.fault.ServerFault.TheVariants as faults
 use Rattle.pg_server.specs.declared.session.Stage.TheVariants.{Serves}

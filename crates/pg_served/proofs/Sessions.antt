@@ -16,11 +16,11 @@ use Rattle.pg_spec.specs.SimpleQuery.{simple_reading}
 use Rattle.pg_spec.specs.Startup.{Startup, Outcome, Done, Refused, More, startup, session_part, used_of, begun_by}
 use Rattle.pg_spec.proofs.MessageLaws.{messages-append, messages-join, Fits}
 use Rattle.pg_wire.proofs.Cuts.{messages-behind}
-use Rattle.pg_serving.specs.Serving.{Service, served, joined}
-use Rattle.pg_serving.specs.Requests.{IsReply, SoundAlong}
-use Rattle.pg_serving.specs.Sessions.{AreRequests, IsExchange, IsStartup, IsOver, alone, begun, frames_of, spoken}
-use Rattle.pg_serving.proofs.ServingLaws.{served-joined, replies-Fit, requests-IsReply, replies-groups}
-use Rattle.pg_serving.proofs.SessionLaws.{AllRequests, both_true, session-alone}
+use Rattle.pg_machine.specs.Serving.{Service, served, joined}
+use Rattle.pg_machine.specs.Requests.{IsReply, SoundAlong}
+use Rattle.pg_machine.specs.Sessions.{AreRequests, IsExchange, IsStartup, IsOver, alone, begun, frames_of, spoken}
+use Rattle.pg_machine.proofs.ServingLaws.{served-joined, replies-Fit, requests-IsReply, replies-groups}
+use Rattle.pg_machine.proofs.SessionLaws.{AllRequests, both_true, session-alone}
 use Rattle.pg_session.proofs.Complete.Start.{same-later}
 use Rattle.pg_server.specs.Startups.{are_startup, is_startup}
 use Rattle.pg_served.specs.OneAtATime.{AsksInRequests, IsOneAtATime, fed_alone}

@@ -13,7 +13,7 @@ use Rattle.pg_spec.specs.Messages.{Message, BackendKeyData, ReadyForQuery, Param
 use Rattle.pg_spec.specs.RawMessages.{RawMessage, is_ready}
 use Rattle.pg_spec.specs.Settings.{Mode, Disable, Prefer, Require, Settings, startup_parameters}
 use Rattle.pg_spec.specs.Startup.{Login, Phase, First, Info, Move, Writes, Ends, Refuses, Outcome, Done, Refused, More, Startup, startup_message, startup_move, moved_by, after_one, dialogue, begun_by, startup, plain_login, unless_required}
-use Rattle.pg_serving.proofs.SessionLaws.{both_true}
+use Rattle.pg_machine.proofs.SessionLaws.{both_true}
 use Rattle.pg_server.specs.Startups.{is_authentication_ok, is_report, are_settled, are_startup}
 
 pub nothing : {X : Type 0} (xs : List X) → is_nothing xs ≡ true → xs ≡ []

@@ -12,8 +12,8 @@ use Rattle.pg_spec.specs.Passwords.{is_nonce}
 use Rattle.pg_spec.specs.RawMessages.{RawMessage, messages}
 use Rattle.pg_spec.specs.Report.{Command, Report, Simple}
 use Rattle.pg_spec.specs.Settings.{Settings}
-use Rattle.pg_serving.specs.Serving.{Service, joined, served}
-use Rattle.pg_serving.specs.Sessions.{IsStartup, begun, frames_of, spoken}
+use Rattle.pg_machine.specs.Serving.{Service, joined, served}
+use Rattle.pg_machine.specs.Sessions.{IsStartup, begun, frames_of, spoken}
 use Rattle.pg_machine.specs.Machines as machines
 use Rattle.pg_machine.specs.MachineLinks as machine_links
 use Rattle.pg_server.specs.Handlers.{Step, service_of}

@@ -2,3 +2,4 @@ pub mod OneAtATime
 pub mod Runs
 pub mod Conforming
 pub mod Promised
+pub mod Rehearsals

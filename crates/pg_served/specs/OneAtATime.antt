@@ -6,9 +6,9 @@ use Rattle.pg_spec.specs.Book.{Booking, request_of}
 use Rattle.pg_spec.specs.RawMessages.{sync_of}
 use Rattle.pg_spec.specs.Report.{Command}
 use Rattle.pg_spec.specs.Turns.{entry_at}
-use Rattle.pg_serving.specs.Serving.{Service, joined}
-use Rattle.pg_serving.specs.Requests.{IsReply, OnlyCopiesOpen}
-use Rattle.pg_serving.specs.Sessions.{AreRequests, alone, begun, frames_of, spoken}
+use Rattle.pg_machine.specs.Serving.{Service, joined}
+use Rattle.pg_machine.specs.Requests.{IsReply, OnlyCopiesOpen}
+use Rattle.pg_machine.specs.Sessions.{AreRequests, alone, begun, frames_of, spoken}
 
 -- Each booking is the whole frames of one request, and no request but a copy's opens a copy of this server.
 pub record AsksInRequests {S : Type 0} (service : Service S) (begins : S) (book : List Booking) : Type 0 where

@@ -1,6 +1,6 @@
 -- All that a session over a server of the repository promises.
 use Rattle.std.specs.Prelude.{◌≡◌, List, Result, IfOk}
-use Rattle.pg_faults.specs.declared.error.Error.{Error}
+use Rattle.pg_types.specs.declared.error.Error.{Error}
 use Rattle.pg_spec.specs.Report as said
 use Rattle.pg_text.specs.Views.{as_scripts}
 use Rattle.pg_text.specs.declared.command.Command.{Command}

@@ -1,6 +1,6 @@
 -- What a session over a server of the repository promises.
 use Rattle.std.specs.Prelude.{◌≡◌, ℕ, true, List, Result, Err, IfOk, IsSome}
-use Rattle.pg_faults.specs.declared.error.Error.{Error}
+use Rattle.pg_types.specs.declared.error.Error.{Error}
 use Rattle.pg_promises.specs.Causes.{Call, OfDialogue}
 use Rattle.pg_promises.specs.ConnectionStrings.{Means}
 use Rattle.pg_spec.specs.Faults.{Io, Link}
@@ -8,12 +8,12 @@ use Rattle.pg_spec.specs.Links.{LinkView}
 use Rattle.pg_spec.specs.Report.{Report}
 use Rattle.pg_spec.specs.Report as said
 use Rattle.pg_spec.specs.Settings.{Settings}
-use Rattle.pg_turns.specs.Sessions.{HasPlayed}
+use Rattle.pg_session.specs.Sessions.{HasPlayed}
 use Rattle.pg_table.specs.Headlines.{told_in}
 use Rattle.pg_table.specs.Table.{table}
 use Rattle.pg_text.specs.declared.command.Command.{Command}
 use Rattle.pg_text.specs.declared.report.Report as told
-use Rattle.pg_serving.specs.Serving.{Service}
+use Rattle.pg_machine.specs.Serving.{Service}
 use Rattle.pg_machine.specs.Machines as machines
 use Rattle.pg_machine.specs.MachineLinks as machine_links
 use Rattle.pg_server.specs.Handlers.{Step, service_of}

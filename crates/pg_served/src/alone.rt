@@ -2,7 +2,7 @@
 
 ghost use Rattle.std.specs.Prelude.{◌≡◌, IfOk, map};
 ghost use Rattle.std.specs.List.{concat};
-ghost use Rattle.pg_serving.specs.Sessions.{alone, spoken};
+ghost use Rattle.pg_machine.specs.Sessions.{alone, spoken};
 ghost use Rattle.pg_machine.specs.Machines.{service_of};
 ghost use Rattle.pg_text.specs.Views.{booking_of};
 

@@ -6,8 +6,8 @@ use Rattle.std.specs.Option.{option_and_then}
 use Rattle.std.proofs.lemmas.Bool.{leb-true, le-leb, leb-false}
 use Rattle.std.proofs.lemmas.List.{length-append, length-drop, take-append-le, drop-append-le}
 use Rattle.std.proofs.lemmas.Option.{option_and_then_some, some_pair_parts, cond_some}
-use Rattle.pg_faults.specs.declared.fault.WireFault.{WireFault}
-use Rattle.pg_faults.specs.declared.fault.WireFault.TheVariants.{BadLength, Layout}
+use Rattle.pg_types.specs.declared.faults.WireFault.{WireFault}
+use Rattle.pg_types.specs.declared.faults.WireFault.TheVariants.{BadLength, Layout}
 use Rattle.pg_spec.specs.Bytes.{◌>>=◌, bytes_at, number_at}
 use Rattle.pg_spec.specs.ClientFrames.{ClientFrame}
 use Rattle.pg_spec.specs.RawMessages as raw
@@ -20,7 +20,7 @@ use Rattle.pg_server.specs.Frames.{frame_or_fault}
 use Rattle.pg_server.specs.Handlers.{Step}
 use Rattle.pg_server.specs.Openings as opening
 use Rattle.pg_server.specs.Openings.{InFront, is_length, is_parameters, starting, cancelling, opening_by, opening_behind, opening_in_front}
-use Rattle.pg_serving.specs.Sessions.{spoken}
+use Rattle.pg_machine.specs.Sessions.{spoken}
 use Rattle.pg_spec.specs.Batches.{is_nothing}
 use Rattle.pg_server.specs.Standings.{Standing, Front, Waits, Says, Stops, is_broken, replied, behind_frame, reading, serving, opened, at_stage, front}
 use Rattle.pg_server.proofs.CutLaws.{IsBehind, Known, opening_by-known, opening_behind-known, message_at-behind, finish}

@@ -2,23 +2,23 @@
 use Rattle.std.proofs.Common.{◌≡◌, ℕ, Bool, true, false, not, ◌&&◌, List, [], ◌∷◌, ◌++◌, Option, Some, None, Result, Ok, Err, refl, sym, ap, subst, ◌∙◌, cond}
 use Rattle.std.specs.Prelude.{if◌then◌else◌, option_map}
 use Rattle.std.specs.List.{list_any}
-use Rattle.pg_faults.specs.declared.fault.WireFault.{WireFault}
-use Rattle.pg_faults.specs.declared.fault.WireFault.TheVariants as wire
+use Rattle.pg_types.specs.declared.faults.WireFault.{WireFault}
+use Rattle.pg_types.specs.declared.faults.WireFault.TheVariants as wire
 use Rattle.pg_spec.specs.Batches.{is_nothing}
 use Rattle.pg_spec.specs.ClientFrames.{ClientFrame, client_frame_of}
 use Rattle.pg_spec.specs.RawMessages.{RawMessage, messages, bytes_left, is_ready, ends_in}
-use Rattle.pg_serving.specs.declared.serving.Mode.{Mode}
-use Rattle.pg_serving.specs.declared.serving.Mode.TheVariants.{Normal}
-use Rattle.pg_serving.specs.declared.serving.Turn.{Turn}
-use Rattle.pg_serving.specs.declared.serving.Turn.TheVariants.{Silent, Ready, AnswersReady, Answers, TakesData, EndsCopy, Refuses}
-use Rattle.pg_serving.specs.declared.tags.Tags.{Tags}
-use Rattle.pg_serving.specs.Serving as serving
-use Rattle.pg_serving.specs.Serving.{turn, kind_of, is_error, Replied}
-use Rattle.pg_serving.specs.Requests.{asked, is_sound, is_copy_in}
-use Rattle.pg_serving.specs.Tags.{has_two, AreBytes}
-use Rattle.pg_serving.specs.Steps.{says_ready, answered_mode, ready_bytes}
-use Rattle.pg_serving.proofs.StepLaws as steps
-use Rattle.pg_serving.proofs.ReplyLaws.{AreTagsOf, reply-sounds}
+use Rattle.pg_machine.specs.declared.serving.Mode.{Mode}
+use Rattle.pg_machine.specs.declared.serving.Mode.TheVariants.{Normal}
+use Rattle.pg_machine.specs.declared.serving.Turn.{Turn}
+use Rattle.pg_machine.specs.declared.serving.Turn.TheVariants.{Silent, Ready, AnswersReady, Answers, TakesData, EndsCopy, Refuses}
+use Rattle.pg_machine.specs.declared.tags.Tags.{Tags}
+use Rattle.pg_machine.specs.Serving as serving
+use Rattle.pg_machine.specs.Serving.{turn, kind_of, is_error, Replied}
+use Rattle.pg_machine.specs.Requests.{asked, is_sound, is_copy_in}
+use Rattle.pg_machine.specs.Tags.{has_two, AreBytes}
+use Rattle.pg_machine.specs.ServingSteps.{says_ready, answered_mode, ready_bytes}
+use Rattle.pg_machine.proofs.ServingStepLaws as steps
+use Rattle.pg_machine.proofs.ReplyLaws.{AreTagsOf, reply-sounds}
 use Rattle.pg_server.specs.declared.handler.Effect.{Effect}
 use Rattle.pg_server.specs.Answers.{asks, sounds}
 use Rattle.pg_server.specs.Frames.{frame_or_fault, with_texts, is_known, is_text}

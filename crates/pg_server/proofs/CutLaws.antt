@@ -6,8 +6,8 @@ use Rattle.std.specs.Option.{option_and_then}
 use Rattle.std.proofs.lemmas.Bool.{leb-true}
 use Rattle.std.proofs.lemmas.List.{take-append-drop, length-take-le, length-append, drop_at}
 use Rattle.std.proofs.lemmas.Option.{option_and_then_some, some_pair_parts, cond_some}
-use Rattle.pg_faults.specs.declared.fault.WireFault.{WireFault}
-use Rattle.pg_faults.specs.declared.fault.WireFault.TheVariants.{BadLength, Layout}
+use Rattle.pg_types.specs.declared.faults.WireFault.{WireFault}
+use Rattle.pg_types.specs.declared.faults.WireFault.TheVariants.{BadLength, Layout}
 use Rattle.pg_spec.specs.Bytes.{◌>>=◌, bytes_at, number_at}
 use Rattle.pg_spec.specs.ClientFrames.{ClientFrame}
 use Rattle.pg_spec.specs.RawMessages as raw
@@ -21,7 +21,7 @@ use Rattle.pg_server.specs.Frames.{frame_or_fault}
 use Rattle.pg_server.specs.Handlers.{Step}
 use Rattle.pg_server.specs.Openings as opening
 use Rattle.pg_server.specs.Openings.{InFront, is_length, is_parameters, starting, cancelling, opening_by, opening_behind, opening_in_front}
-use Rattle.pg_serving.specs.Sessions.{spoken}
+use Rattle.pg_machine.specs.Sessions.{spoken}
 use Rattle.pg_server.specs.Standings.{Standing, Front, Waits, Says, Stops, is_broken, replied, behind_frame, reading, serving, opened, at_stage, front}
 
 -- ---- what is left is behind what was taken

@@ -7,7 +7,7 @@ use Rattle.std.specs.Option.{option_and_then}
 use Rattle.std.specs.Str.{byte, bytes_eq}
 use Rattle.std.proofs.lemmas.Bool.{le-leb, lt-ltb, ltb-true, ltb-false, ne_eqb}
 use Rattle.std.proofs.lemmas.List.Folds.{list_any-append}
-use Rattle.pg_faults.specs.declared.fault.WireFault.TheVariants.{BadLength, Layout, NotUtf8}
+use Rattle.pg_types.specs.declared.faults.WireFault.TheVariants.{BadLength, Layout, NotUtf8}
 use Rattle.pg_spec.specs.Batches.{is_nothing}
 use Rattle.pg_spec.specs.Bytes.{◌>>=◌, if_all_read, text0, text0_at, items_of}
 use Rattle.pg_spec.specs.Bodies.{name_at}
@@ -20,12 +20,12 @@ use Rattle.pg_spec.specs.RawMessages.{RawMessage, bytes_left, has_bad_header, me
 use Rattle.pg_spec.proofs.MessageLaws.{Fits, message_at_front, messages-front}
 use Rattle.pg_spec.proofs.Readers.{bytes_at_front, items_of-none, items_of-some, number_at_front}
 use Rattle.pg_wire.proofs.Cuts.{left_of_one}
-use Rattle.pg_serving.specs.declared.serving.Mode.{Mode}
-use Rattle.pg_serving.specs.declared.serving.Mode.TheVariants.{Normal}
-use Rattle.pg_serving.specs.Requests.{is_sound}
-use Rattle.pg_serving.specs.Serving as serving
-use Rattle.pg_serving.specs.Serving.{kind_of, turn}
-use Rattle.pg_serving.specs.Sessions.{spoken}
+use Rattle.pg_machine.specs.declared.serving.Mode.{Mode}
+use Rattle.pg_machine.specs.declared.serving.Mode.TheVariants.{Normal}
+use Rattle.pg_machine.specs.Requests.{is_sound}
+use Rattle.pg_machine.specs.Serving as serving
+use Rattle.pg_machine.specs.Serving.{kind_of, turn}
+use Rattle.pg_machine.specs.Sessions.{spoken}
 use Rattle.pg_server.specs.declared.fault.ServerFault.TheVariants as faults
 use Rattle.pg_server.specs.declared.handler.Effect.{Effect}
 use Rattle.pg_server.specs.declared.session.Stage.TheVariants.{Serves}

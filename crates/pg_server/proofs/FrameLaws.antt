@@ -2,8 +2,8 @@
 use Rattle.std.proofs.Common.{◌≡◌, ℕ, ◌-◌, List, take, drop, get_or, Some, Result, Ok, Err, refl, sym, ap, subst, ◌∙◌, arith}
 use Rattle.std.proofs.lemmas.List.{drop-take}
 use Rattle.pg_wire.specs.Fronts.{IsWhole, message_of_bytes}
-use Rattle.pg_faults.specs.declared.fault.WireFault.{WireFault}
-use Rattle.pg_faults.specs.declared.fault.WireFault.TheVariants.{BadLength, UnknownTag, Layout, NotUtf8, OutOfMemory}
+use Rattle.pg_types.specs.declared.faults.WireFault.{WireFault}
+use Rattle.pg_types.specs.declared.faults.WireFault.TheVariants.{BadLength, UnknownTag, Layout, NotUtf8, OutOfMemory}
 use Rattle.pg_server.specs.declared.frame.Frame.{Frame}
 use Rattle.pg_server.specs.Frames.{frame_or_fault, IsFrame, TakesFrame, RefusesFrame, Parses}
 

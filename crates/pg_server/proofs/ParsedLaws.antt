@@ -8,7 +8,7 @@ use Rattle.std.proofs.lemmas.Option.{option_and_then_some, some_pair_parts}
 use Rattle.pg_spec.specs.Bytes.{◌>>=◌}
 use Rattle.pg_spec.specs.ClientFrames as spec
 use Rattle.pg_spec.specs.RawMessages.{RawMessage, message_at}
-use Rattle.pg_faults.specs.declared.fault.WireFault.TheVariants as wire
+use Rattle.pg_types.specs.declared.faults.WireFault.TheVariants as wire
 use Rattle.pg_server.specs.Frames.{is_known, is_text, with_texts}
 use Rattle.pg_server.specs.Parsed.{is_answer, IsReadAs}
 

@@ -9,8 +9,8 @@ use Rattle.std.proofs.lemmas.Option.{none-some}
 use Rattle.std.proofs.Math.ListN.{replicate}
 use Rattle.std.proofs.Math.Seq.{take-length}
 use lib.IntN.{nat_abs}
-use Rattle.pg_faults.specs.declared.fault.WireFault.{WireFault}
-use Rattle.pg_faults.specs.declared.fault.WireFault.TheVariants.{BadLength}
+use Rattle.pg_types.specs.declared.faults.WireFault.{WireFault}
+use Rattle.pg_types.specs.declared.faults.WireFault.TheVariants.{BadLength}
 use Rattle.pg_spec.specs.ClientFrames.{ClientFrame}
 use Rattle.pg_spec.specs.RawMessages.{RawMessage, message_at, has_bad_header}
 use Rattle.pg_spec.proofs.MessageLaws.{message_at-Reader}
@@ -20,7 +20,7 @@ use Rattle.pg_wire.specs.declared.link.LinkWrite.TheVariants as writes
 use Rattle.pg_wire.specs.Fronts.{IsWhole, message_of_bytes}
 use Rattle.pg_wire.specs.Header.{StandsAtFront, HasBadLength, length_field, len_of}
 use Rattle.pg_wire.proofs.Pieces.{whole_by_header}
-use Rattle.pg_serving.specs.Sessions.{spoken}
+use Rattle.pg_machine.specs.Sessions.{spoken}
 use Rattle.pg_server.specs.Copies.{Copied, Lengthens}
 use Rattle.pg_server.specs.Crossings as crossing
 use Rattle.pg_server.specs.Crossings.{Crossed}

@@ -2,8 +2,8 @@
 use Rattle.std.proofs.Common.{◌≡◌, ℕ, ◌-◌, ◌≤◌, Bool, List, ◌++◌, Some, Result, Ok, Err, refl, sym, ap, subst, ◌∙◌, cond, arith, length, drop}
 use Rattle.pg_spec.specs.ClientFrames.{ClientFrame}
 use Rattle.pg_spec.specs.RawMessages.{RawMessage}
-use Rattle.pg_serving.specs.Serving as serving
-use Rattle.pg_serving.specs.Sessions.{spoken}
+use Rattle.pg_machine.specs.Serving as serving
+use Rattle.pg_machine.specs.Sessions.{spoken}
 use Rattle.pg_server.specs.declared.answer.Answer.{Answer}
 use Rattle.pg_server.specs.declared.fault.ServerFault.{ServerFault}
 use Rattle.pg_server.specs.declared.fault.ServerFault.TheVariants as faults

@@ -2,14 +2,14 @@
 use Rattle.std.proofs.Common.{◌≡◌, ℕ, zero, suc, ◌<◌, Bool, true, false, List, [], ◌∷◌, ◌++◌, Some, None, Result, Ok, Err, refl, sym, ap, subst, ◌∙◌, cond, arith, length, append_assoc}
 use Rattle.std.proofs.lemmas.Grind.{flat_map-append}
 use Rattle.std.proofs.lemmas.Option.{none-some}
-use Rattle.pg_faults.specs.declared.fault.WireFault.{WireFault}
-use Rattle.pg_faults.specs.declared.fault.WireFault.TheVariants.{BadLength}
+use Rattle.pg_types.specs.declared.faults.WireFault.{WireFault}
+use Rattle.pg_types.specs.declared.faults.WireFault.TheVariants.{BadLength}
 use Rattle.pg_spec.specs.ClientFrames.{ClientFrame}
 use Rattle.pg_spec.specs.RawMessages.{RawMessage, message_at, message_bytes, messages, has_bad_header}
 use Rattle.pg_spec.specs.Sent.{is_terminate}
 use Rattle.pg_wire.proofs.Cuts.{messages_of_one, messages_of_none}
-use Rattle.pg_serving.specs.Serving.{Replied, served}
-use Rattle.pg_serving.specs.Sessions.{spoken}
+use Rattle.pg_machine.specs.Serving.{Replied, served}
+use Rattle.pg_machine.specs.Sessions.{spoken}
 use Rattle.pg_server.specs.declared.fault.ServerFault.{ServerFault}
 use Rattle.pg_server.specs.declared.fault.ServerFault.TheVariants as faults
 use Rattle.pg_server.specs.declared.session.Stage.TheVariants.{Serves, Over}

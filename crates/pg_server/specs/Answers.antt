@@ -1,11 +1,11 @@
 -- What is said to a frame, part by part.
 use Rattle.std.specs.Prelude.{ℕ, Bool, true, false, not, ◌&&◌, ◌==◌, List, [], ◌++◌, if◌then◌else◌}
 use Rattle.std.specs.Str.{byte}
-use Rattle.pg_serving.specs.declared.serving.Turn.{Turn}
-use Rattle.pg_serving.specs.declared.serving.Turn.TheVariants.{Silent, Ready}
-use Rattle.pg_serving.specs.declared.tags.Tags.{Tags}
-use Rattle.pg_serving.specs.Steps.{ready_bytes}
-use Rattle.pg_serving.specs.Tags as tags
+use Rattle.pg_machine.specs.declared.serving.Turn.{Turn}
+use Rattle.pg_machine.specs.declared.serving.Turn.TheVariants.{Silent, Ready}
+use Rattle.pg_machine.specs.declared.tags.Tags.{Tags}
+use Rattle.pg_machine.specs.ServingSteps.{ready_bytes}
+use Rattle.pg_machine.specs.Tags as tags
 use Rattle.pg_server.specs.declared.answer.Answer.{Answer}
 
 -- the handler is asked in this turn

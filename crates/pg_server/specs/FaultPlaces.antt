@@ -1,8 +1,8 @@
 -- Where a fault comes behind the startup frame.
 use Rattle.std.specs.Prelude.{◌≡◌, ℕ, ◌≤◌, List, ◌++◌, length, take}
 use Rattle.pg_spec.specs.RawMessages.{messages}
-use Rattle.pg_serving.specs.Serving.{served}
-use Rattle.pg_serving.specs.Sessions.{begun, spoken}
+use Rattle.pg_machine.specs.Serving.{served}
+use Rattle.pg_machine.specs.Sessions.{begun, spoken}
 use Rattle.pg_wire.specs.Memory.{as_count}
 use Rattle.pg_server.specs.declared.fault.ServerFault.{ServerFault}
 use Rattle.pg_server.specs.declared.fault.ServerFault.TheVariants as faults

@@ -4,8 +4,8 @@ use Rattle.std.specs.List.{list_all, list_any}
 use Rattle.std.specs.Str.{byte, is_utf8}
 use Rattle.pg_spec.specs.ClientFrames as spec
 use Rattle.pg_spec.specs.RawMessages.{RawMessage, message_at, has_bad_header}
-use Rattle.pg_faults.specs.declared.fault.WireFault.{WireFault}
-use Rattle.pg_faults.specs.declared.fault.WireFault.TheVariants as wire
+use Rattle.pg_types.specs.declared.faults.WireFault.{WireFault}
+use Rattle.pg_types.specs.declared.faults.WireFault.TheVariants as wire
 use Rattle.pg_server.specs.declared.frame.Frame.{Frame}
 use Rattle.pg_server.specs.declared.frame.Frame.TheVariants as frames
 

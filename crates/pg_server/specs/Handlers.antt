@@ -3,9 +3,9 @@ use Rattle.std.specs.Prelude.{Bool, false, not, ◌&&◌, [], Some, None, option
 use Rattle.pg_spec.specs.Batches.{is_nothing}
 use Rattle.pg_spec.specs.ClientFrames.{ClientFrame, client_frame_of}
 use Rattle.pg_spec.specs.RawMessages.{RawMessage, messages, bytes_left}
-use Rattle.pg_serving.specs.Serving as serving
-use Rattle.pg_serving.specs.Requests.{is_sound, is_copy_in}
-use Rattle.pg_serving.specs.Tags.{has_two}
+use Rattle.pg_machine.specs.Serving as serving
+use Rattle.pg_machine.specs.Requests.{is_sound, is_copy_in}
+use Rattle.pg_machine.specs.Tags.{has_two}
 use Rattle.pg_server.specs.declared.handler.Effect.{Effect}
 
 -- what a handler does with a frame; `S` are its states

@@ -5,7 +5,7 @@ use Rattle.std.specs.Int.{w32}
 use Rattle.std.specs.Str.{bytes_eq}
 use Rattle.pg_spec.specs.Bytes.{number_at, bytes_at, items_of}
 use Rattle.pg_spec.specs.ClientFrames.{pair_at}
-use Rattle.pg_faults.specs.declared.fault.WireFault.TheVariants.{BadLength, Layout}
+use Rattle.pg_types.specs.declared.faults.WireFault.TheVariants.{BadLength, Layout}
 use Rattle.pg_server.specs.declared.fault.ServerFault.{ServerFault}
 use Rattle.pg_server.specs.declared.fault.ServerFault.TheVariants.{Version, Cancel, BadFrame}
 use Rattle.pg_server.specs.declared.opening.Opening.{Opening}

@@ -2,17 +2,17 @@
 use Rattle.std.specs.Prelude.{◌≡◌, ℕ, ◌-◌, ◌≤◌, Bool, true, false, not, ◌&&◌, List, [], ◌∷◌, ◌++◌, length, drop, Option, Some, None, Result, Ok, Err, if◌then◌else◌}
 use Rattle.std.specs.Borrow.{Bor}
 use Rattle.std.specs.Str.{byte}
-use Rattle.pg_faults.specs.declared.fault.WireFault.{WireFault}
-use Rattle.pg_faults.specs.declared.fault.WireFault.TheVariants.{BadLength}
+use Rattle.pg_types.specs.declared.faults.WireFault.{WireFault}
+use Rattle.pg_types.specs.declared.faults.WireFault.TheVariants.{BadLength}
 use Rattle.pg_spec.specs.Batches.{is_nothing}
 use Rattle.pg_spec.specs.ClientFrames.{ClientFrame}
 use Rattle.pg_spec.specs.Links.{next_count}
 use Rattle.pg_spec.specs.RawMessages.{RawMessage, message_at, has_bad_header}
 use Rattle.pg_spec.specs.Sent.{is_terminate}
-use Rattle.pg_serving.specs.declared.serving.Mode.{Mode}
-use Rattle.pg_serving.specs.declared.serving.Mode.TheVariants.{Normal}
-use Rattle.pg_serving.specs.Serving.{Serving, Replied, turn, kind_of, serve}
-use Rattle.pg_serving.specs.Sessions.{spoken}
+use Rattle.pg_machine.specs.declared.serving.Mode.{Mode}
+use Rattle.pg_machine.specs.declared.serving.Mode.TheVariants.{Normal}
+use Rattle.pg_machine.specs.Serving.{Serving, Replied, turn, kind_of, serve}
+use Rattle.pg_machine.specs.Sessions.{spoken}
 use Rattle.pg_server.specs.Answers.{asks, answer_bytes}
 use Rattle.pg_server.specs.Frames.{frame_or_fault}
 use Rattle.pg_server.specs.Handlers.{Step, service_of, may_give}

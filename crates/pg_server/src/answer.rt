@@ -1,11 +1,11 @@
 //! What is said to a frame.
 
 ghost use Rattle.std.specs.Prelude.{◌≡◌, ◌++◌, [], IfOk, MatchResult, if◌then◌else◌};
-ghost use Rattle.pg_serving.specs.Steps.{ready_bytes};
+ghost use Rattle.pg_machine.specs.ServingSteps.{ready_bytes};
 ghost use Rattle.pg_server.specs.Answers.{asks, answer_bytes, sounds};
 
 use bytes::BytesMut;
-use pg_serving::{Tags, Turn, may_answer};
+use pg_machine::{Tags, Turn, may_answer};
 use pg_types::{Blob, OutOfMemory};
 use std::alloc::Global;
 

@@ -9,8 +9,7 @@ use crate::frame::Frame;
 use crate::items::{counted_formats, counted_values};
 use crate::layout::owned;
 use crate::reading::text0;
-use pg_faults::WireFault;
-use pg_types::{Blob, List, OutOfMemory};
+use pg_types::{Blob, List, OutOfMemory, WireFault};
 use std::alloc::Global;
 
 /// What a Bind says behind its names.

@@ -1,6 +1,6 @@
 //! Why a server refuses what it is given.
 
-use pg_faults::WireFault;
+use pg_types::WireFault;
 use thiserror::Error;
 
 /// Why a server can't be made, or goes no further.

@@ -5,9 +5,8 @@ ghost use Rattle.pg_server.specs.Frames.{Parses, IsFrame};
 
 use crate::layout::frame_of;
 use bytes::Bytes;
-use pg_faults::WireFault;
-use pg_serving::{Found, front_message};
-use pg_types::{Blob, List, Text};
+use pg_machine::{Found, front_message};
+use pg_types::{Blob, List, Text, WireFault};
 use std::alloc::Global;
 
 /// A frame of a client, with all that it says.

@@ -8,8 +8,7 @@ use crate::binding::bind;
 use crate::frame::Frame;
 use crate::parsing::parse;
 use crate::reading::{signed32, text0};
-use pg_faults::WireFault;
-use pg_types::{Blob, Text};
+use pg_types::{Blob, Text, WireFault};
 use std::alloc::Global;
 use std::str;
 

@@ -6,7 +6,7 @@ ghost use Rattle.pg_server.specs.Openings.{OpensAs, is_parameters, starting, ope
 
 use crate::fault::ServerFault;
 use crate::reading::{number32, raw, text0};
-use pg_faults::WireFault;
+use pg_types::WireFault;
 
 /// The code of SSLRequest.
 const SSL: u32 = 80_877_103;

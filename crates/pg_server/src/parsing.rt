@@ -8,8 +8,7 @@ use crate::frame::Frame;
 use crate::items::counted_oids;
 use crate::layout::owned;
 use crate::reading::text0;
-use pg_faults::WireFault;
-use pg_types::{List, OutOfMemory};
+use pg_types::{List, OutOfMemory, WireFault};
 use std::alloc::Global;
 
 /// A statement's name, its text and the types of its parameters. None where the layout is broken.

@@ -3,7 +3,7 @@
 ghost use Rattle.std.specs.Prelude.{◌≡◌, ◌↔◌, true, drop, Ok, if◌then◌else◌};
 ghost use Rattle.pg_spec.specs.RawMessages.{RawMessage};
 ghost use Rattle.pg_wire.specs.Fronts.{IsWhole, message_of_bytes};
-ghost use Rattle.pg_serving.specs.declared.serving.Mode.TheVariants as modes;
+ghost use Rattle.pg_machine.specs.declared.serving.Mode.TheVariants as modes;
 ghost use Rattle.pg_server.specs.declared.session.Stage.TheVariants as stage;
 ghost use Rattle.pg_server.specs.Frames.{frame_view, frame_or_fault};
 ghost use Rattle.pg_server.specs.Openings.{opening_in_front};
@@ -16,9 +16,8 @@ use crate::frame::{Frame, whole_frame};
 use crate::handler::Handler;
 use crate::opening::{Opening, in_front};
 use bytes::BytesMut;
-use pg_faults::WireFault;
-use pg_serving::{Found, Mode, front_message, kind_of, mode_behind, says_ready, tags_of, turn_of};
-use pg_types::Blob;
+use pg_machine::{Found, Mode, front_message, kind_of, mode_behind, says_ready, tags_of, turn_of};
+use pg_types::{Blob, WireFault};
 use std::alloc::Global;
 
 /// How far a server has come.

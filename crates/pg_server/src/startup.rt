@@ -4,7 +4,7 @@ ghost use Rattle.std.specs.Prelude.{◌≡◌};
 ghost use Rattle.pg_server.specs.Startups.{is_startup, is_settled, is_authentication_ok, is_report_tag};
 ghost use Rattle.pg_wire.specs.Fronts.{IsWhole, message_of_bytes};
 
-use pg_serving::{Found, front_message};
+use pg_machine::{Found, front_message};
 
 /// The first `n` bytes, which are a message, are AuthenticationOk.
 fn is_authentication_ok(bytes: &[u8], n: usize) -> bool

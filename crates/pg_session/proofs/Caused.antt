@@ -18,9 +18,9 @@ use Rattle.pg_wire.specs.declared.message.Message.{Message}
 use Rattle.futures.specs.declared.task.Poll.{Poll}
 use Rattle.futures.specs.declared.task.Poll.TheVariants.{Ready, Pending}
 use Rattle.pg_errors.specs.declared.async_message.AsyncMessage.{AsyncMessage}
-use Rattle.pg_faults.specs.declared.cause.Cause.TheVariants as cause
-use Rattle.pg_faults.specs.declared.error.Error.{Error}
-use Rattle.pg_faults.specs.declared.error.Error.TheVariants as error
+use Rattle.pg_types.specs.declared.cause.Cause.TheVariants as cause
+use Rattle.pg_types.specs.declared.error.Error.{Error}
+use Rattle.pg_types.specs.declared.error.Error.TheVariants as error
 use Rattle.pg_desk.specs.History.{start, after_all}
 use Rattle.pg_hub.specs.Standing.{Standing}
 use Rattle.pg_hub.specs.Fits.{HubBecomes}
@@ -30,9 +30,9 @@ use Rattle.pg_connect.specs.Calm.{MissesFew}
 use Rattle.pg_connect.proofs.Calm.{calm_then}
 use Rattle.pg_connect.proofs.Joining.{rose_later}
 use Rattle.pg_session.specs.Failures.{BreaksOff, GivesOut, HasBroken, HasFailed, IsFine, PauseFails, RunsShort, WasPolled}
-use Rattle.pg_turns.specs.Sessions.{MakesAll, numbers}
-use Rattle.pg_turns.specs.States.{SessionState}
-use Rattle.pg_turns.specs.Turns.{Makes}
+use Rattle.pg_session.specs.Sessions.{MakesAll, numbers}
+use Rattle.pg_session.specs.States.{SessionState}
+use Rattle.pg_session.specs.Turns.{Makes}
 use Rattle.pg_session.proofs.Crossing.{moves-by}
 use Rattle.pg_session.proofs.Crossing.Start.{stood-start}
 use Rattle.pg_session.proofs.Opening.{IsDone, done-of}
@@ -41,12 +41,12 @@ use Rattle.pg_session.proofs.Caused.Turns.{IsOpen, open-all, takes-on, broke-off
 use Rattle.pg_session.proofs.Caused.Asks.{AsksWhole, asks-all, asks-new, tame-in}
 use Rattle.pg_session.proofs.Caused.Bytes.{Fails, cause-of}
 use Rattle.pg_session.proofs.LimitsKept.{HoldsLimit, holds-paused, holds-polled}
-use Rattle.pg_turns.proofs.Order.{makes_all_then}
+use Rattle.pg_session.proofs.Order.{makes_all_then}
 use Rattle.pg_session.proofs.Quiet.Handles.{stays-makes}
 use Rattle.pg_session.proofs.Nearer.Puts.{whole-put-none}
 use Rattle.pg_session.proofs.Quiet.{quiet-round}
 use Rattle.pg_session.proofs.Stalled.{stalled-round}
-use Rattle.pg_turns.specs.Speeches.{BookWhole, LetGo, Speech}
+use Rattle.pg_session.specs.Speeches.{BookWhole, LetGo, Speech}
 
 first_false : (a b : Bool) → (a || b) ≡ false → a ≡ false
 first_false true b e = absurd cc

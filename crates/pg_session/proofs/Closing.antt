@@ -2,8 +2,8 @@
 use Rattle.std.proofs.Common.{◌≡◌, ◌+◌, ◌⊎◌, ◌++◌, ◌∷◌, inl, inr, ℕ, List, [], length, map, true, false, Option, Some, None, Result, Ok, Err, refl, ap, ◌∙◌, arith}
 use Rattle.futures.specs.declared.task.Poll.{Poll}
 use Rattle.futures.specs.declared.task.Poll.TheVariants.{Ready, Pending}
-use Rattle.pg_faults.specs.declared.error.Error.{Error}
-use Rattle.pg_faults.specs.declared.error.Error.TheVariants.{OutOfMemory}
+use Rattle.pg_types.specs.declared.error.Error.{Error}
+use Rattle.pg_types.specs.declared.error.Error.TheVariants.{OutOfMemory}
 use Rattle.pg_spec.specs.Book as book
 use Rattle.pg_spec.specs.Frames.{terminate_frame}
 use Rattle.pg_spec.specs.Links.{LinkView}
@@ -16,18 +16,18 @@ use Rattle.pg_connect.specs.Answers.{Failed, PollAnswers, StaysClosed}
 use Rattle.pg_connect.specs.Calm.{MissesFew}
 use Rattle.pg_connect.specs.declared.streams.Streams.{Streams}
 use Rattle.pg_core.specs.Trails.{said_booking}
-use Rattle.pg_headline.specs.Endings.{Report}
+use Rattle.pg_promises.specs.Endings.{Report}
 use Rattle.pg_session.specs.Failures.{BreaksOff, GivesOut, HasBroken, HasFailed, IsFine, RunsShort, WasOver, WasPolled}
-use Rattle.pg_turns.specs.Sessions.{HasPlayed, MakesAll, numbers}
-use Rattle.pg_turns.specs.States.{SessionState}
-use Rattle.pg_turns.specs.Turns.{HandsOn, Makes}
+use Rattle.pg_session.specs.Sessions.{HasPlayed, MakesAll, numbers}
+use Rattle.pg_session.specs.States.{SessionState}
+use Rattle.pg_session.specs.Turns.{HandsOn, Makes}
 use Rattle.pg_session.specs.WholeSession.{IsClosed, LeavesOpen, WasClosed}
 use Rattle.pg_session.proofs.Crossing.Chain.{StoodIn, stood-all, stood-turn}
 use Rattle.pg_session.proofs.Crossing.End.{all-taken, is-last}
 use Rattle.pg_session.proofs.Crossing.Start.{stood-start}
 use Rattle.pg_session.proofs.Quiet.Handles.{stays-makes}
 use Rattle.pg_session.proofs.Caused.Start.{of_grown}
-use Rattle.pg_turns.specs.Speeches.{Speech}
+use Rattle.pg_session.specs.Speeches.{Speech}
 
 -- ---- turns before the end
 

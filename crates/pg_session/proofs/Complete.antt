@@ -26,7 +26,7 @@ use Rattle.pg_spec.specs.RawMessages.{RawMessage, messages, bytes_left, has_bad_
 use Rattle.pg_spec.specs.Sent.{turns_given}
 use Rattle.pg_spec.specs.Startup.{Startup, Done, More, First, used_of, begun_by, dialogue, startup, session_part, plain_login}
 use Rattle.pg_spec.proofs.GroupLaws.{groups-AreFronts}
-use Rattle.pg_login.specs.Steps.{frame_of}
+use Rattle.pg_startup.specs.Steps.{frame_of}
 use Rattle.pg_session.specs.Course.{HoldsCourse}
 use Rattle.pg_session.proofs.Complete.Bytes.{IsWhole, IsFrontOf, all-behind, all-drop, all-front, all-holds, all-take, first-of-front, front-of, messages-behind, never-bad, place-low, split-concat, whole-concat}
 use Rattle.pg_session.proofs.Complete.Groups.{AreReplies, IsAside, are-replies, groups-behind}

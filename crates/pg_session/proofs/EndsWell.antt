@@ -1,26 +1,26 @@
 -- A session that was played ended well.
 use Rattle.std.proofs.Common.{◌≡◌, ℕ, ◌^◌, ◌<◌, List, length, map, Some, sym, ap, ◌∙◌, subst, arith, not}
 use Rattle.std.proofs.lemmas.List.{length-append}
-use Rattle.pg_headline.specs.Endings.{EndedWell, Report, Session, course_of, later_messages}
+use Rattle.pg_promises.specs.Endings.{EndedWell, Report, Session, course_of, later_messages}
 use Rattle.pg_spec.specs.Book as said
 use Rattle.pg_spec.specs.Links.{LinkView, added}
 use Rattle.pg_spec.specs.RawMessages.{RawMessage, groups, is_aside, messages, sync_of}
 use Rattle.pg_spec.specs.Settings.{Settings}
 use Rattle.pg_spec.specs.declared.stamps.TurnMark.{TurnMark}
 use Rattle.pg_connect.specs.Passed.{delivered_by}
-use Rattle.pg_course.specs.Meanings.{HasRun}
+use Rattle.pg_spec.specs.Meanings.{HasRun}
 use Rattle.pg_desk.specs.History.{IsFrontOf}
 use Rattle.pg_core.specs.Trails.{said_booking}
-use Rattle.pg_lives.proofs.Ran.{session-has-run}
+use Rattle.pg_session.proofs.Ran.{session-has-run}
 use Rattle.pg_session.proofs.Crossing.All.{all-crossed, fewer-messages, filter-short}
 use Rattle.pg_session.proofs.Crossing.End.{added-is, of-bytes}
 use Rattle.pg_session.proofs.LivesLink.{came-behind}
 use Rattle.pg_session.proofs.Opening.{done-of, is-started}
 use Rattle.pg_session.specs.Crossed.{session_of}
 use Rattle.pg_session.specs.WholeSession.{EndsWell}
-use Rattle.pg_turns.specs.Calls.{asked_of, calls_of}
-use Rattle.pg_turns.specs.Sessions.{HasPlayed}
-use Rattle.pg_turns.specs.Speeches.{AreCommands, Speech, meaning_of}
+use Rattle.pg_session.specs.Calls.{asked_of, calls_of}
+use Rattle.pg_session.specs.Sessions.{HasPlayed}
+use Rattle.pg_session.specs.Speeches.{AreCommands, Speech, meaning_of}
 
 -- ---- what came
 

@@ -1,7 +1,7 @@
 -- What the commands of a session that ended did, also where its link tells no bytes.
 use Rattle.std.proofs.Common.{◌≡◌, ℕ, ◌^◌, ◌<◌, ◌≤◌, List, [], ◌++◌, length, Bool, true, false, refl, sym, ap, ◌∙◌, subst, arith, not}
 use Rattle.std.proofs.lemmas.List.{append-nil, length-append, length-map}
-use Rattle.pg_headline.specs.Endings.{IsRun, Report}
+use Rattle.pg_promises.specs.Endings.{IsRun, Report}
 use Rattle.pg_spec.specs.Book as said
 use Rattle.pg_spec.specs.Links.{LinkView}
 use Rattle.pg_spec.specs.RawMessages.{RawMessage, cut_after, groups, is_aside, is_ready, messages, sync_of}
@@ -20,9 +20,9 @@ use Rattle.pg_session.proofs.Crossing.Hub.{Ran, ends_whole, ran-all, ran-start}
 use Rattle.pg_session.proofs.EndsWell.{has-run-by}
 use Rattle.pg_session.proofs.Histories.{at_end, came-all, counted-all, fits, legal, risen-small, whole}
 use Rattle.pg_session.proofs.LivesLink.{CameSo, came-last}
-use Rattle.pg_turns.specs.Calls.{asked_of, calls_of}
-use Rattle.pg_turns.specs.Sessions.{HasPlayed}
-use Rattle.pg_turns.specs.Speeches.{AreCommands, Speech, meaning_of}
+use Rattle.pg_session.specs.Calls.{asked_of, calls_of}
+use Rattle.pg_session.specs.Sessions.{HasPlayed}
+use Rattle.pg_session.specs.Speeches.{AreCommands, Speech, meaning_of}
 
 is-true : (b : Bool) → (b ≡ false → ⊥) → b ≡ true
 is-true true f = refl

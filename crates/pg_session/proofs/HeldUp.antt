@@ -13,14 +13,14 @@ use Rattle.pg_hub.specs.Becomes.{after-joined, fits-touched}
 use Rattle.pg_hub.specs.Fits.{Fits, HubBecomes}
 use Rattle.pg_hub.specs.Standing.{Standing}
 use Rattle.pg_query.specs.Meaning.{ForMessage, ForRoom, Place, WaitsAt}
-use Rattle.pg_turns.proofs.Takes.{took-empty}
-use Rattle.pg_turns.specs.declared.handle_turn.Polling.{Polling}
-use Rattle.pg_turns.specs.declared.handle_turn.Polling.TheVariants as polling
-use Rattle.pg_turns.specs.Handles.{HandleState}
-use Rattle.pg_turns.specs.HandleTurns.{Waits}
-use Rattle.pg_turns.specs.Speeches.{Speech}
-use Rattle.pg_turns.specs.States.{SessionState}
-use Rattle.pg_turns.specs.Turns.{ClosesBehind, HandleMade, HandleTurns, untouched}
+use Rattle.pg_session.proofs.Takes.{took-empty}
+use Rattle.pg_session.specs.declared.handle_turn.Polling.{Polling}
+use Rattle.pg_session.specs.declared.handle_turn.Polling.TheVariants as polling
+use Rattle.pg_session.specs.Handles.{HandleState}
+use Rattle.pg_session.specs.HandleTurns.{Waits}
+use Rattle.pg_session.specs.Speeches.{Speech}
+use Rattle.pg_session.specs.States.{SessionState}
+use Rattle.pg_session.specs.Turns.{ClosesBehind, HandleMade, HandleTurns, untouched}
 use Rattle.pg_session.proofs.Readers.HubStates.{exact-back}
 use Rattle.pg_session.specs.HeldUp.{ByMessage, ByRoom, IsHeldUp, LacksMessage, LacksRoom}
 

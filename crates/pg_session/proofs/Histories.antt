@@ -3,7 +3,7 @@ pub mod HubMoves
 use Rattle.std.proofs.Common.{◌≡◌, ℕ, zero, suc, ◌^◌, ◌<◌, ◌≤◌, List, [], ◌∷◌, ◌++◌, length, take, drop, Bool, true, false, Some, cond, unwrap_or, slice_get, refl, sym, ap, ◌∙◌, subst, arith, not}
 use Rattle.std.specs.Prelude.{filter}
 use Rattle.std.proofs.lemmas.List.{append-nil, append_assoc, length-append, take-append-drop, take_at}
-use Rattle.pg_headline.specs.Endings.{Report, Session, later_messages, replies}
+use Rattle.pg_promises.specs.Endings.{Report, Session, later_messages, replies}
 use Rattle.pg_spec.specs.Links.{LinkView, added}
 use Rattle.pg_spec.specs.RawMessages.{RawMessage, cut_after, is_aside, is_ready, sync_of}
 use Rattle.pg_spec.specs.Settings.{Settings}
@@ -23,12 +23,12 @@ use Rattle.pg_session.proofs.EndsWell.{came-so}
 use Rattle.pg_session.proofs.Histories.HubMoves.{Counts, Traced, close-moves, close-none, moves-then, traced-turns, turn-delivers, turn-marks, turn-moves, turns-deliver, turns-move}
 use Rattle.pg_session.specs.Crossed.{session_of}
 use Rattle.pg_session.specs.Events.{AreEvents, ReadsItsReply, events_by, events_in, events_in_close, events_in_turn, turn_events}
-use Rattle.pg_turns.proofs.Came.{counted-last}
-use Rattle.pg_turns.proofs.Takes.{taken-front}
-use Rattle.pg_turns.specs.Calls.{calls_in, calls_in_turn, calls_of}
-use Rattle.pg_turns.specs.Sessions.{HasPlayed}
-use Rattle.pg_turns.specs.Speeches.{Speech}
-use Rattle.pg_turns.specs.States.{commands_in}
+use Rattle.pg_session.proofs.Came.{counted-last}
+use Rattle.pg_session.proofs.Takes.{taken-front}
+use Rattle.pg_session.specs.Calls.{calls_in, calls_in_turn, calls_of}
+use Rattle.pg_session.specs.Sessions.{HasPlayed}
+use Rattle.pg_session.specs.Speeches.{Speech}
+use Rattle.pg_session.specs.States.{commands_in}
 
 -- ---- lists
 

@@ -6,23 +6,23 @@ use Rattle.pg_spec.specs.Links.{LinkView, Grew, OfBytes}
 use Rattle.pg_spec.specs.RawMessages.{RawMessage}
 use Rattle.pg_spec.specs.Settings.{Settings}
 use Rattle.pg_spec.specs.Startup.{plain_login}
-use Rattle.pg_faults.specs.declared.error.Error.{Error}
-use Rattle.pg_faults.specs.declared.error.Error.TheVariants as error
+use Rattle.pg_types.specs.declared.error.Error.{Error}
+use Rattle.pg_types.specs.declared.error.Error.TheVariants as error
 use Rattle.pg_connect.specs.Answers.{IsWithinPoll}
 use Rattle.pg_startup.specs.Startups.{Failed}
 use Rattle.pg_startup.specs.Transfers.{IsWithinLimit}
 use Rattle.pg_startup.specs.declared.startup.Startup.{Startup}
 use Rattle.pg_connect.specs.declared.streams.Streams.{Streams}
 use Rattle.pg_connect.proofs.Joining.{grew_same}
-use Rattle.pg_headline.specs.Endings.{Report}
+use Rattle.pg_promises.specs.Endings.{Report}
 use Rattle.pg_session.specs.Failures.{StopsOpening}
-use Rattle.pg_turns.specs.Sessions.{HasPlayed}
-use Rattle.pg_turns.specs.States.{SessionState}
+use Rattle.pg_session.specs.Sessions.{HasPlayed}
+use Rattle.pg_session.specs.States.{SessionState}
 use Rattle.pg_session.proofs.Crossing.Chain.{StoodIn}
 use Rattle.pg_session.proofs.Crossing.End.{finished}
 use Rattle.pg_session.proofs.Stalled.Start.{rests-so}
 use Rattle.pg_session.proofs.Caused.Start.{of_grown}
-use Rattle.pg_turns.specs.Speeches.{Speech}
+use Rattle.pg_session.specs.Speeches.{Speech}
 
 -- what is told of the bytes by an error: no more than the limit, unless it speaks of that or memory lacked
 abbrev pub HoldsLimit : Call → Error → Type 0

@@ -7,15 +7,15 @@ use Rattle.pg_connect.specs.Answers.{PollAnswers}
 use Rattle.pg_connect.specs.declared.streams.Streams.{Streams}
 use Rattle.pg_desk.specs.declared.event.Event.{Event}
 use Rattle.pg_errors.specs.declared.async_message.AsyncMessage.{AsyncMessage}
-use Rattle.pg_faults.specs.declared.error.Error.{Error}
+use Rattle.pg_types.specs.declared.error.Error.{Error}
 use Rattle.pg_hub.specs.Fits.{HubBecomes}
 use Rattle.pg_hub.specs.Standing.{Standing}
 use Rattle.pg_connect.specs.Passed.{AllEngineCalls}
-use Rattle.pg_turns.specs.Calls.{calls_in_poll, calls_in_turn, calls_in, calls_of}
-use Rattle.pg_turns.specs.Sessions.{MakesAll, Plays}
-use Rattle.pg_turns.specs.States.{SessionState}
-use Rattle.pg_turns.specs.Turns.{Makes}
-use Rattle.pg_turns.specs.Speeches.{Speech}
+use Rattle.pg_session.specs.Calls.{calls_in_poll, calls_in_turn, calls_in, calls_of}
+use Rattle.pg_session.specs.Sessions.{MakesAll, Plays}
+use Rattle.pg_session.specs.States.{SessionState}
+use Rattle.pg_session.specs.Turns.{Makes}
+use Rattle.pg_session.specs.Speeches.{Speech}
 
 -- each poll of a connection does so
 calls-poll : (a b : Standing) (old new : Streams) (before after : LinkView) (answer : Poll (Option (Result AsyncMessage Error)))

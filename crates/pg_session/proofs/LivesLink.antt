@@ -18,18 +18,18 @@ use Rattle.pg_startup.specs.declared.startup.Startup.{Startup}
 use Rattle.pg_connect.specs.declared.streams.Streams.{Streams}
 use Rattle.pg_desk.specs.declared.event.Event.{Event}
 use Rattle.pg_errors.specs.declared.async_message.AsyncMessage.{AsyncMessage}
-use Rattle.pg_faults.specs.declared.error.Error.{Error}
+use Rattle.pg_types.specs.declared.error.Error.{Error}
 use Rattle.pg_hub.specs.Fits.{HubBecomes}
 use Rattle.pg_hub.specs.Standing.{Standing}
-use Rattle.pg_headline.specs.Endings.{Report}
+use Rattle.pg_promises.specs.Endings.{Report}
 use Rattle.pg_wire.specs.declared.message.Message.{Message}
 use Rattle.std.specs.Prelude.{Result}
 use Rattle.pg_session.specs.Lives.{CameBehind}
-use Rattle.pg_turns.specs.Calls.{calls_in_poll, calls_in_turn, calls_in, calls_of}
-use Rattle.pg_turns.specs.Sessions.{MakesAll, HasPlayed, Rests}
-use Rattle.pg_turns.specs.States.{SessionState}
-use Rattle.pg_turns.specs.Turns.{HandsOn, Makes}
-use Rattle.pg_turns.specs.Speeches.{Speech}
+use Rattle.pg_session.specs.Calls.{calls_in_poll, calls_in_turn, calls_in, calls_of}
+use Rattle.pg_session.specs.Sessions.{MakesAll, HasPlayed, Rests}
+use Rattle.pg_session.specs.States.{SessionState}
+use Rattle.pg_session.specs.Turns.{HandsOn, Makes}
+use Rattle.pg_session.specs.Speeches.{Speech}
 
 -- what the link gave since the startup began was read, or lies there, and this was delivered of it
 pub record CameSo (first : List RawMessage) (base l : LinkView) (s : Streams) (all : List RawMessage) : Type 0 where

@@ -13,19 +13,19 @@ use Rattle.futures.specs.declared.task.Poll.{Poll}
 use Rattle.futures.specs.declared.task.Poll.TheVariants.{Ready, Pending}
 use Rattle.pg_spec.specs.Links.{LinkView}
 use Rattle.pg_errors.specs.declared.async_message.AsyncMessage.{AsyncMessage}
-use Rattle.pg_faults.specs.declared.error.Error.{Error}
+use Rattle.pg_types.specs.declared.error.Error.{Error}
 use Rattle.pg_connect.specs.declared.streams.Streams.{Streams}
 use Rattle.pg_connect.specs.Answers.{PollAnswers}
 use Rattle.pg_desk.specs.History.{start}
 use Rattle.pg_hub.specs.Fits.{HubBecomes}
 use Rattle.pg_hub.specs.Standing.{Standing}
 use Rattle.pg_session.specs.Measure.{AllMayPut, AllRead, AllWait, IsNearer, IsNearerWithin, IsUnderWay, IsUnderWayWith, IsUnderWayWithin, IsWithinLimit, LeavesLess, Left, Nears, PutNone, PutWithin, bounds_in, bounds_of, left_to_do, left_with, left_within, put_of, reading_left, scripts_left, still_to_put, unsent_left}
-use Rattle.pg_turns.specs.declared.handle_turn.Polling.{Polling}
-use Rattle.pg_turns.specs.Handles.{HandleState}
-use Rattle.pg_turns.specs.Sessions.{IsNewSession, MakesAll}
-use Rattle.pg_turns.specs.Speeches.{Speech}
-use Rattle.pg_turns.specs.States.{SessionState, new_handles, commands_in}
-use Rattle.pg_turns.specs.Turns.{HandsOn, HandleMade, ConnectionMade, Makes, Turns, moved_by, moved_in, moved_in_poll}
+use Rattle.pg_session.specs.declared.handle_turn.Polling.{Polling}
+use Rattle.pg_session.specs.Handles.{HandleState}
+use Rattle.pg_session.specs.Sessions.{IsNewSession, MakesAll}
+use Rattle.pg_session.specs.Speeches.{Speech}
+use Rattle.pg_session.specs.States.{SessionState, new_handles, commands_in}
+use Rattle.pg_session.specs.Turns.{HandsOn, HandleMade, ConnectionMade, Makes, Turns, moved_by, moved_in, moved_in_poll}
 use Rattle.pg_session.proofs.Nearer.Counted.{none-put-yet}
 use Rattle.pg_session.proofs.Nearer.Falling.{one_if, one-or, Falls, Unsent, falls-less, falls-no-more, less-falls, no-more-falls, falls-joined, falls-beside, falls-sent}
 use Rattle.pg_session.proofs.Nearer.Link.{poll-less, left_of_link}

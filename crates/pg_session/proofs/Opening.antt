@@ -12,7 +12,7 @@ use Rattle.pg_spec.specs.Links.{LinkView}
 use Rattle.pg_spec.specs.RawMessages.{RawMessage, messages}
 use Rattle.pg_spec.specs.Settings.{Settings}
 use Rattle.pg_spec.specs.Startup.{Login, Phase, First, Startup, Outcome, Done, Refused, More, after_one, begun_by, dialogue, startup, plain_login, used_of, startup_part, session_part}
-use Rattle.pg_login.specs.Steps.{frame_of}
+use Rattle.pg_startup.specs.Steps.{frame_of}
 use Rattle.pg_startup.specs.declared.startup.Startup.{Startup as StartupState}
 use Rattle.pg_startup.specs.Startups.{behind, bytes_of, Leads, Ends, Opened, IsAt}
 use Rattle.pg_startup.specs.StartupPolls.{IsFresh}

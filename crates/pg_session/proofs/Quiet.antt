@@ -16,7 +16,7 @@ use Rattle.pg_connect.specs.declared.ends.TurnEnd.TheVariants as turn_end
 use Rattle.pg_connect.specs.declared.streams.Streams.{Streams}
 use Rattle.pg_desk.specs.History.{State}
 use Rattle.pg_errors.specs.declared.async_message.AsyncMessage.{AsyncMessage}
-use Rattle.pg_faults.specs.declared.error.Error.{Error}
+use Rattle.pg_types.specs.declared.error.Error.{Error}
 use Rattle.pg_hub.specs.Fits.{Fits, HubBecomes}
 use Rattle.pg_hub.specs.Standing.{Standing}
 use Rattle.pg_session.proofs.Quiet.Handles.{IsQuiet, StillTurns, still-turns, stays-makes, LastStays, last-stays}
@@ -27,11 +27,11 @@ use Rattle.pg_session.specs.Measure.{PutNone}
 use Rattle.pg_session.proofs.Readers.{AllRead, read-new, read-turns}
 use Rattle.pg_session.proofs.Readers.Counted.{Counted, counted-new, counted-turns}
 use Rattle.pg_session.proofs.Readers.HubStates.{Reached, state_of}
-use Rattle.pg_turns.specs.Sessions.{IsNewSession, MakesAll, StaysAll, numbers}
-use Rattle.pg_turns.specs.Handles.{HandleState}
-use Rattle.pg_turns.specs.States.{SessionState}
-use Rattle.pg_turns.specs.Turns.{Makes, moved_in, moved_in_poll}
-use Rattle.pg_turns.specs.Speeches.{LetGo, Speech}
+use Rattle.pg_session.specs.Sessions.{IsNewSession, MakesAll, StaysAll, numbers}
+use Rattle.pg_session.specs.Handles.{HandleState}
+use Rattle.pg_session.specs.States.{SessionState}
+use Rattle.pg_session.specs.Turns.{Makes, moved_in, moved_in_poll}
+use Rattle.pg_session.specs.Speeches.{LetGo, Speech}
 
 -- the poll of a connection's turn in which nothing moved
 record StillPoll (a b : Standing) (old new : Streams) (l m : LinkView) : Type 0 where

@@ -16,7 +16,7 @@ use Rattle.pg_desk.specs.declared.event.Event.{Event}
 use Rattle.pg_desk.specs.declared.event.Event.TheVariants.{CloseRequests}
 use Rattle.pg_desk.specs.History.{State, start, after_all}
 use Rattle.pg_errors.specs.declared.async_message.AsyncMessage.{AsyncMessage}
-use Rattle.pg_faults.specs.declared.error.Error.{Error}
+use Rattle.pg_types.specs.declared.error.Error.{Error}
 use Rattle.pg_hub.specs.Fits.{HubBecomes}
 use Rattle.pg_hub.specs.Standing.{Standing}
 use Rattle.pg_query.specs.Leaving.{Nothing}
@@ -24,14 +24,14 @@ use Rattle.pg_session.proofs.Readers.Counted.{idle-there}
 use Rattle.pg_session.proofs.Readers.LetGo.{stays-let-go}
 use Rattle.pg_session.proofs.Readers.Polls.{AreRead, read-on, read-then, poll-tends}
 use Rattle.pg_session.proofs.Readers.HubStates.{Reached, state_of, state-more, reached-cut, reached-more, reached-untouched}
-use Rattle.pg_turns.proofs.Books.{engine-all}
-use Rattle.pg_turns.specs.declared.handle_turn.Polling.{Polling}
-use Rattle.pg_turns.specs.declared.handle_turn.Polling.TheVariants as polling
-use Rattle.pg_turns.specs.Handles.{HandleState}
-use Rattle.pg_turns.specs.Sessions.{MakesAll, IsNewSession}
-use Rattle.pg_turns.specs.Speeches.{LetGo as AllLetGo, Speech}
-use Rattle.pg_turns.specs.States.{SessionState, new_handles, commands_in}
-use Rattle.pg_turns.specs.Turns.{untouched, Closes, ClosesBehind, left_behind, HandleMade, ConnectionMade, HandsOn, Makes}
+use Rattle.pg_session.proofs.Books.{engine-all}
+use Rattle.pg_session.specs.declared.handle_turn.Polling.{Polling}
+use Rattle.pg_session.specs.declared.handle_turn.Polling.TheVariants as polling
+use Rattle.pg_session.specs.Handles.{HandleState}
+use Rattle.pg_session.specs.Sessions.{MakesAll, IsNewSession}
+use Rattle.pg_session.specs.Speeches.{LetGo as AllLetGo, Speech}
+use Rattle.pg_session.specs.States.{SessionState, new_handles, commands_in}
+use Rattle.pg_session.specs.Turns.{untouched, Closes, ClosesBehind, left_behind, HandleMade, ConnectionMade, HandsOn, Makes}
 
 -- what was closed stays closed
 closed-more : (a b : Standing) (es : List Event) (r : Reached a) → HubBecomes a es b → a.closed ≡ true → b.closed ≡ true

@@ -24,12 +24,12 @@ use Rattle.pg_spec.specs.Turns.{entry_at}
 use Rattle.pg_promises.specs.Causes.{NeedsNoTls, OfDialogue, startup_after}
 use Rattle.pg_promises.specs.ConnectionStrings.{Means}
 use Rattle.pg_promises.specs.Promises.{IsFront}
-use Rattle.pg_course.specs.Courses.{Asked, Course}
-use Rattle.pg_failed.specs.Calls.{Call, apart}
-use Rattle.pg_failed.specs.Sent as sent
-use Rattle.pg_failed.specs.Sent.{AskedInOrder, InScriptOrder, SentInOrder, is_ended}
-use Rattle.pg_faults.specs.declared.error.Error.{Error}
-use Rattle.pg_faults.specs.declared.error.Error.TheVariants as error
+use Rattle.pg_spec.specs.Courses.{Asked, Course}
+use Rattle.pg_promises.specs.Calls.{Call, apart}
+use Rattle.pg_promises.specs.Sent as sent
+use Rattle.pg_promises.specs.Sent.{AskedInOrder, InScriptOrder, SentInOrder, is_ended}
+use Rattle.pg_types.specs.declared.error.Error.{Error}
+use Rattle.pg_types.specs.declared.error.Error.TheVariants as error
 use Rattle.pg_desk.specs.declared.event.Booking.{Booking}
 use Rattle.pg_desk.specs.declared.event.Event.{Event}
 use Rattle.pg_desk.specs.History.{State, start, after_all, wire, joined, IsFrontOf, IsLegal}
@@ -47,14 +47,14 @@ use Rattle.pg_connect.specs.declared.streams.Streams.{Streams}
 use Rattle.pg_connect.proofs.Joining.{came_off_then, grew_same, grew_then, none_lost}
 use Rattle.pg_startup.specs.Startups.{Failed}
 use Rattle.pg_startup.specs.declared.startup.Startup.{Startup}
-use Rattle.pg_turns.specs.Calls.{asked_in_all, calls_in}
-use Rattle.pg_turns.specs.Sessions.{IsNewSession, MakesAll}
-use Rattle.pg_turns.specs.Speeches.{AreCommands, BookWhole, EndsAlone, Speech, meaning_of}
-use Rattle.pg_turns.specs.States.{SessionState}
-use Rattle.pg_lives.specs.Kept.{Now, book_of}
-use Rattle.pg_lives.specs.SessionKept.{SessionKept}
-use Rattle.pg_lives.proofs.Played.{new-kept, turns-keep}
-use Rattle.pg_lives.proofs.Ran.{course_at}
+use Rattle.pg_session.specs.Calls.{asked_in_all, calls_in}
+use Rattle.pg_session.specs.Sessions.{IsNewSession, MakesAll}
+use Rattle.pg_session.specs.Speeches.{AreCommands, BookWhole, EndsAlone, Speech, meaning_of}
+use Rattle.pg_session.specs.States.{SessionState}
+use Rattle.pg_session.specs.Kept.{Now, book_of}
+use Rattle.pg_session.specs.SessionKept.{SessionKept}
+use Rattle.pg_session.proofs.Played.{new-kept, turns-keep}
+use Rattle.pg_session.proofs.Ran.{course_at}
 use Rattle.pg_session.specs.Failures.{StopsOpening, WasOpened}
 use Rattle.pg_session.proofs.Caused.Asks.{AllAsk}
 use Rattle.pg_session.proofs.Caused.Frames.{ends-alone}

@@ -21,7 +21,7 @@ use Rattle.pg_desk.proofs.Outs.{AllEnded, Stands, Whole, Waits as WaitsHere, Par
 use Rattle.pg_desk.proofs.Parts.{all-began, started-most}
 use Rattle.pg_desk.specs.History.{State, start, after, after_all, finished, has_open, joined, last_out, out_answer, received, wire, Allows, IsExact, IsFrontOf}
 use Rattle.pg_desk.proofs.Soundness.{legal-sound}
-use Rattle.pg_faults.specs.declared.error.Error.TheVariants as error
+use Rattle.pg_types.specs.declared.error.Error.TheVariants as error
 use Rattle.pg_connect.specs.Answers.{fresh, left_open}
 use Rattle.pg_connect.specs.Ends.{WasBlocked, last_is, has_none, has_no_more}
 use Rattle.pg_connect.specs.Passed.{AllEngineCalls, bytes_out_by, delivered_by, moves_in}
@@ -33,7 +33,7 @@ use Rattle.pg_connect.specs.Reads.{is_full}
 use Rattle.pg_connect.specs.declared.streams.Streams.{Streams}
 use Rattle.pg_connect.proofs.Joining.{none_lost}
 use Rattle.pg_session.specs.Failures.{PauseFails}
-use Rattle.pg_turns.specs.States.{SessionState}
+use Rattle.pg_session.specs.States.{SessionState}
 use Rattle.pg_session.proofs.Caused.Asks.{AsksWhole, tame-in, wire-asks}
 use Rattle.pg_session.proofs.Caused.Frames.{AreRequests, front-requests}
 use Rattle.pg_session.proofs.Crossing.Chain.{StoodIn}
@@ -45,7 +45,7 @@ use Rattle.pg_session.proofs.Quiet.Polls.{IsAwaited, none-moved, still-all}
 use Rattle.pg_session.proofs.Quiet.{QuietRound}
 use Rattle.pg_session.proofs.Stalled.Groups.{groups-ended, units-sent}
 use Rattle.pg_session.proofs.Stalled.Start.{exact-so, last-so, lulls-so, rests-so}
-use Rattle.pg_turns.specs.Speeches.{Speech}
+use Rattle.pg_session.specs.Speeches.{Speech}
 
 -- ---- the connection's poll
 

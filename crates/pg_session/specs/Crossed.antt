@@ -4,7 +4,7 @@ use Rattle.std.specs.List.{concat, list_all}
 use Rattle.pg_spec.specs.Book.{wire}
 use Rattle.pg_spec.specs.Asides.{is_readable}
 use Rattle.pg_spec.specs.Settings.{Settings, Require}
-use Rattle.pg_headline.specs.Endings.{Report, Session, received, startup_of, startup_messages, later_messages, replies}
+use Rattle.pg_promises.specs.Endings.{Report, Session, received, startup_of, startup_messages, later_messages, replies}
 use Rattle.pg_spec.specs.Frames.{terminate_frame}
 use Rattle.pg_spec.specs.Parameters.{AreLastValues, parameter_reports}
 use Rattle.pg_spec.specs.RawMessages.{bytes_left, has_bad_header, is_whole_group, sync_of, async_of}

@@ -1,7 +1,7 @@
 -- The events of a session's one hub, turn by turn: the calls of its handles and of its connection.
 use Rattle.std.specs.Prelude.{◌≡◌, ℕ, zero, suc, ◌-◌, Bool, List, [], ◌∷◌, ◌++◌, length, take, Ok, EachIndex, unwrap_or, slice_get}
 use Rattle.std.proofs.Common.{inl, inr}
-use Rattle.pg_headline.specs.Endings.{Report, Session, later_messages, replies}
+use Rattle.pg_promises.specs.Endings.{Report, Session, later_messages, replies}
 use Rattle.pg_spec.specs.Links.{LinkView}
 use Rattle.pg_spec.specs.RawMessages.{sync_of}
 use Rattle.pg_spec.specs.Turns.{delivered_after}
@@ -11,14 +11,14 @@ use Rattle.pg_desk.specs.declared.event.Event.TheVariants.{CloseRequests}
 use Rattle.pg_spec.specs.declared.stamps.Stamp.{Stamp}
 use Rattle.pg_hub.specs.Fits.{HubBecomes}
 use Rattle.pg_hub.specs.Standing.{Standing}
-use Rattle.pg_turns.specs.Speeches.{Speech}
-use Rattle.pg_turns.specs.Calls.{calls_in_poll}
-use Rattle.pg_turns.specs.Sessions.{MakesAll, Plays}
-use Rattle.pg_turns.specs.Handles.{HandleState}
-use Rattle.pg_turns.specs.States.{SessionState, commands_in}
-use Rattle.pg_turns.specs.Turns.{HandleTurns, Makes, untouched}
-use Rattle.pg_turns.specs.declared.handle_turn.Polling.{Polling}
-use Rattle.pg_turns.specs.declared.handle_turn.Polling.TheVariants as polling
+use Rattle.pg_session.specs.Speeches.{Speech}
+use Rattle.pg_session.specs.Calls.{calls_in_poll}
+use Rattle.pg_session.specs.Sessions.{MakesAll, Plays}
+use Rattle.pg_session.specs.Handles.{HandleState}
+use Rattle.pg_session.specs.States.{SessionState, commands_in}
+use Rattle.pg_session.specs.Turns.{HandleTurns, Makes, untouched}
+use Rattle.pg_session.specs.declared.handle_turn.Polling.{Polling}
+use Rattle.pg_session.specs.declared.handle_turn.Polling.TheVariants as polling
 
 -- the calls by which a handle's command is polled
 abbrev pub events_in_handle : {C T A E : Type 0} → (speech : Speech C T A E) (script : List C) (stamp : Stamp) (a b : Standing) (old new : HandleState T A E) (did : Polling) →

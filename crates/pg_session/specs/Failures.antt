@@ -14,14 +14,14 @@ use Rattle.pg_startup.specs.StartupPolls.{IsFresh, GoesOn}
 use Rattle.pg_startup.specs.declared.startup.Startup.{Startup}
 use Rattle.pg_connect.specs.declared.streams.Streams.{Streams}
 use Rattle.pg_errors.specs.declared.async_message.AsyncMessage.{AsyncMessage}
-use Rattle.pg_faults.specs.declared.cause.Cause.TheVariants as cause
-use Rattle.pg_faults.specs.declared.error.Error.{Error}
-use Rattle.pg_faults.specs.declared.error.Error.TheVariants as error
+use Rattle.pg_types.specs.declared.cause.Cause.TheVariants as cause
+use Rattle.pg_types.specs.declared.error.Error.{Error}
+use Rattle.pg_types.specs.declared.error.Error.TheVariants as error
 use Rattle.pg_hub.specs.Fits.{HubBecomes}
 use Rattle.pg_hub.specs.Standing.{Standing}
-use Rattle.pg_turns.specs.Sessions.{IsNewSession, MakesAll, Plays, Rests, StaysAll, numbers}
-use Rattle.pg_turns.specs.Speeches.{Speech}
-use Rattle.pg_turns.specs.States.{SessionState}
+use Rattle.pg_session.specs.Sessions.{IsNewSession, MakesAll, Plays, Rests, StaysAll, numbers}
+use Rattle.pg_session.specs.Speeches.{Speech}
+use Rattle.pg_session.specs.States.{SessionState}
 
 -- a poll of the connection failed
 pub record PollFails {T A E : Type 0} (s : SessionState T A E) (before after : LinkView) (e : Error) : Type 0 where

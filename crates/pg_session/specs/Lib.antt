@@ -1,3 +1,13 @@
+pub mod Speeches
+pub mod Handles
+pub mod States
+pub mod HandleTurns
+pub mod Turns
+pub mod Sessions
+pub mod Reports
+pub mod Calls
+pub mod Kept
+pub mod SessionKept
 pub mod Measure
 pub mod Lives
 pub mod HeldUp

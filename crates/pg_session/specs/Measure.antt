@@ -1,6 +1,6 @@
 -- How much is left to do in a session: numbers of which the first that changes falls, in each turn in which something moves.
 use Rattle.std.specs.Prelude.{◌≡◌, ◌⊎◌, ◌<◌, ◌≤◌, ℕ, suc, ◌+◌, ◌-◌, ◌*◌, Bool, true, false, if◌then◌else◌, List, [], ◌∷◌, drop, length, Option, Some, None}
-use Rattle.pg_faults.specs.declared.error.Error.{Error}
+use Rattle.pg_types.specs.declared.error.Error.{Error}
 use Rattle.pg_spec.specs.RawMessages.{RawMessage}
 use Rattle.pg_connect.specs.declared.streams.Streams.{Streams}
 use Rattle.pg_connect.specs.Passes.{waiting, delayed_in, goodbye}
@@ -15,9 +15,9 @@ use Rattle.pg_query.specs.Dialogue.{Dialogue, Answer, Ask, Send, Leave, Read, Pu
 use Rattle.pg_query.specs.Meaning.{Place}
 use Rattle.pg_query.specs.Scripts.{IsRead}
 use Rattle.pg_query.specs.declared.desk_call.Reply.{Reply}
-use Rattle.pg_turns.specs.Handles.{HandleState}
-use Rattle.pg_turns.specs.Speeches.{Speech}
-use Rattle.pg_turns.specs.States.{SessionState}
+use Rattle.pg_session.specs.Handles.{HandleState}
+use Rattle.pg_session.specs.Speeches.{Speech}
+use Rattle.pg_session.specs.States.{SessionState}
 
 -- ---- commands
 

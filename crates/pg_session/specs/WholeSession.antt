@@ -1,12 +1,12 @@
 -- The main theorem, of a session that was played, and how sessions leave their link.
 use Rattle.std.specs.Prelude.{◌≡◌, ◌⊎◌, ℕ, IsFalse, IsTrue, List, ◌++◌}
-use Rattle.pg_faults.specs.declared.error.Error.{Error}
-use Rattle.pg_faults.specs.declared.error.Error.TheVariants.{OutOfMemory}
-use Rattle.pg_headline.specs.Endings.{EndedWell, Report}
+use Rattle.pg_types.specs.declared.error.Error.{Error}
+use Rattle.pg_types.specs.declared.error.Error.TheVariants.{OutOfMemory}
+use Rattle.pg_promises.specs.Endings.{EndedWell, Report}
 use Rattle.pg_spec.specs.Frames.{terminate_frame}
 use Rattle.pg_spec.specs.Links.{LinkView, OfBytes}
 use Rattle.pg_spec.specs.Settings.{Settings}
-use Rattle.pg_turns.specs.Speeches.{Speech, meaning_of}
+use Rattle.pg_session.specs.Speeches.{Speech, meaning_of}
 use Rattle.pg_session.specs.Crossed.{session_of}
 
 -- where the link tells its bytes, the session ended well

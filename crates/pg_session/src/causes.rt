@@ -7,8 +7,8 @@ ghost use Rattle.pg_promises.specs.ConnectionStrings.{Means};
 ghost use Rattle.pg_spec.specs.Startup.{plain_login};
 ghost use Rattle.pg_startup.specs.Startups.{Failed};
 ghost use Rattle.pg_startup.specs.declared.startup.Startup.{Startup};
-ghost use Rattle.pg_faults.specs.declared.error.Error.{Error};
-ghost use Rattle.pg_turns.specs.Speeches.{BookWhole, LetGo, Speech};
+ghost use Rattle.pg_types.specs.declared.error.Error.{Error};
+ghost use Rattle.pg_session.specs.Speeches.{BookWhole, LetGo, Speech};
 ghost use Rattle.pg_session.specs.Failures.{HasBroken, StopsOpening};
 
 /// Each failure of a session has its cause in the call, where it failed in its startup or behind it; and where a

@@ -1,16 +1,16 @@
 //! Where a session has nothing to fail for. The body does nothing.
 
 ghost use Rattle.std.specs.Prelude.{ℕ, List, Err, Result, ⊤, ◌≡◌};
-ghost use Rattle.pg_failed.specs.Calls as any;
-ghost use Rattle.pg_failed.specs.Completeness as any_commands;
-ghost use Rattle.pg_failed.specs.Sent.{SentInOrder};
+ghost use Rattle.pg_promises.specs.Calls as any;
+ghost use Rattle.pg_promises.specs.Completeness as any_commands;
+ghost use Rattle.pg_promises.specs.Sent.{SentInOrder};
 ghost use Rattle.pg_promises.specs.Causes.{Call, HasCause, OfDialogue, WithSettings};
 ghost use Rattle.pg_spec.specs.Settings.{Settings};
 ghost use Rattle.pg_promises.specs.ConnectionStrings.{Means};
 ghost use Rattle.pg_spec.specs.Faults.{Failure};
 ghost use Rattle.pg_spec.specs.Links.{Plan};
 ghost use Rattle.pg_promises.specs.Promises.{Conforms, EndsWell, IsValid};
-ghost use Rattle.pg_turns.specs.Speeches.{BookWhole, Speech, meaning_of};
+ghost use Rattle.pg_session.specs.Speeches.{BookWhole, Speech, meaning_of};
 ghost use Rattle.pg_wire.specs.LinkCalls.{Continues, Tells};
 ghost use Rattle.pg_session.specs.Course.{HoldsCourse};
 

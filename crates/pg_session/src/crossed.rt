@@ -1,11 +1,11 @@
 //! What crossed the link in a session that ended.
 
 ghost use Rattle.std.specs.Prelude.{ℕ, List};
-ghost use Rattle.pg_headline.specs.Endings.{Report};
+ghost use Rattle.pg_promises.specs.Endings.{Report};
 ghost use Rattle.pg_spec.specs.Links.{LinkView, OfBytes};
 ghost use Rattle.pg_spec.specs.Settings.{Settings};
-ghost use Rattle.pg_turns.specs.Sessions.{HasPlayed};
-ghost use Rattle.pg_turns.specs.Speeches.{Speech};
+ghost use Rattle.pg_session.specs.Sessions.{HasPlayed};
+ghost use Rattle.pg_session.specs.Speeches.{Speech};
 ghost use Rattle.pg_session.specs.Crossed.{session_of, Sent, Crossed};
 
 /// Where the link tells its bytes, a session that was played to its end was started, sent the startup's frame,

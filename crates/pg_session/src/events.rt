@@ -1,11 +1,11 @@
 //! Which messages the reader of a request took. The body does nothing.
 
 ghost use Rattle.std.specs.Prelude.{ℕ, List};
-ghost use Rattle.pg_headline.specs.Endings.{Report};
+ghost use Rattle.pg_promises.specs.Endings.{Report};
 ghost use Rattle.pg_spec.specs.Links.{LinkView, OfBytes};
 ghost use Rattle.pg_spec.specs.Settings.{Settings};
-ghost use Rattle.pg_turns.specs.Sessions.{HasPlayed};
-ghost use Rattle.pg_turns.specs.Speeches.{Speech};
+ghost use Rattle.pg_session.specs.Sessions.{HasPlayed};
+ghost use Rattle.pg_session.specs.Speeches.{Speech};
 ghost use Rattle.pg_session.specs.Crossed.{session_of};
 ghost use Rattle.pg_session.specs.Events.{turn_events, AreEvents, ReadsItsReply};
 

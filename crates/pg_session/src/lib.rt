@@ -1,3 +1,5 @@
+//! What a session does, turn by turn, whatever its commands are: the relation that every turn of the program meets.
+//! From the turns of a session to what its commands mean, whatever they are.
 //! What a session does, turn by turn, whatever its commands are: what follows from the relation that every turn meets.
 #![tactic(auto)]
 
@@ -5,18 +7,23 @@ mod causes;
 mod completeness;
 mod crossed;
 mod events;
+mod handle_turn;
 mod held_up;
+mod laws;
 mod lives;
 mod main_theorem;
 mod measure;
 mod sent;
+mod turn_order;
 mod turns_given;
 
 pub use causes::each_failure_has_its_cause;
 pub use completeness::{valid_input_ends_well, what_may_fail_over_a_link_that_conforms};
 pub use crossed::what_crossed;
 pub use events::each_request_reads_its_reply;
+pub use handle_turn::Polling;
 pub use held_up::none_pauses_where_it_could_go_on;
+pub use laws::{a_new_session_is_kept, a_session_has_run, a_turn_keeps_a_session};
 pub use lives::what_came;
 pub use main_theorem::every_session_ends_well;
 pub use measure::{
@@ -27,4 +34,5 @@ pub use sent::{
     the_link_stays_open_where_it_failed, what_was_asked_where_it_stalled,
     what_was_sent_where_it_failed,
 };
+pub use turn_order::turns_in_order;
 pub use turns_given::what_was_sent_gives_few_turns;

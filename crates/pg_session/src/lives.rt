@@ -1,13 +1,13 @@
 //! What came in a session. The body does nothing.
 
 ghost use Rattle.std.specs.Prelude.{ℕ, List};
-ghost use Rattle.pg_headline.specs.Endings.{Report};
+ghost use Rattle.pg_promises.specs.Endings.{Report};
 ghost use Rattle.pg_spec.specs.Links.{LinkView};
 ghost use Rattle.pg_spec.specs.Settings.{Settings};
 ghost use Rattle.pg_connect.specs.Passed.{delivered_by};
-ghost use Rattle.pg_turns.specs.Calls.{calls_of};
-ghost use Rattle.pg_turns.specs.Sessions.{HasPlayed};
-ghost use Rattle.pg_turns.specs.Speeches.{Speech};
+ghost use Rattle.pg_session.specs.Calls.{calls_of};
+ghost use Rattle.pg_session.specs.Sessions.{HasPlayed};
+ghost use Rattle.pg_session.specs.Speeches.{Speech};
 ghost use Rattle.pg_session.specs.Lives.{CameBehind};
 
 /// What came is a front of the synchronous messages that the link gave behind the startup.

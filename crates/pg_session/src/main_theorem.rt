@@ -1,11 +1,11 @@
 //! The main theorem, of every session that is played as the relation says.
 
 ghost use Rattle.std.specs.Prelude.{ℕ, List};
-ghost use Rattle.pg_headline.specs.Endings.{IsRun, Report};
+ghost use Rattle.pg_promises.specs.Endings.{IsRun, Report};
 ghost use Rattle.pg_spec.specs.Links.{LinkView};
 ghost use Rattle.pg_spec.specs.Settings.{Settings};
-ghost use Rattle.pg_turns.specs.Sessions.{HasPlayed};
-ghost use Rattle.pg_turns.specs.Speeches.{AreCommands, Speech, meaning_of};
+ghost use Rattle.pg_session.specs.Sessions.{HasPlayed};
+ghost use Rattle.pg_session.specs.Speeches.{AreCommands, Speech, meaning_of};
 ghost use Rattle.pg_query.specs.declared.desk_call.DeskCall.{DeskCall};
 ghost use Rattle.pg_query.specs.declared.desk_call.Reply.{Reply};
 ghost use Rattle.pg_session.specs.WholeSession.{EndsWell, IsClosed};

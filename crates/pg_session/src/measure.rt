@@ -3,14 +3,14 @@
 
 ghost use Rattle.std.specs.Prelude.{◌≡◌, ℕ, List, Option, Result, false, length};
 ghost use Rattle.pg_core.specs.Copying.{copies};
-ghost use Rattle.pg_faults.specs.declared.error.Error.{Error};
+ghost use Rattle.pg_types.specs.declared.error.Error.{Error};
 ghost use Rattle.pg_spec.specs.Links.{LinkView};
 ghost use Rattle.pg_spec.specs.RawMessages.{RawMessage};
 ghost use Rattle.pg_session.specs.Measure.{IsNearer, IsNearerWithin, IsUnderWay, IsUnderWayWith, IsUnderWayWithin, IsWithinLimit, LeavesLess, PutNone, PutWithin, PutsAtMost, bounds_in, left_to_do, left_with};
-ghost use Rattle.pg_turns.specs.Sessions.{IsNewSession, MakesAll};
-ghost use Rattle.pg_turns.specs.Speeches.{Speech};
-ghost use Rattle.pg_turns.specs.States.{SessionState};
-ghost use Rattle.pg_turns.specs.Turns.{Makes, moved_in};
+ghost use Rattle.pg_session.specs.Sessions.{IsNewSession, MakesAll};
+ghost use Rattle.pg_session.specs.Speeches.{Speech};
+ghost use Rattle.pg_session.specs.States.{SessionState};
+ghost use Rattle.pg_session.specs.Turns.{Makes, moved_in};
 
 /// A session whose commands put so many parts at most is under way from its beginning on, turn by turn. A turn
 /// in which something moved leaves less to do, and any other turn no more, where the connection isn't shut down

@@ -1,9 +1,9 @@
 //! What was sent where a session failed, and how the link stands then. Each body does nothing.
 
 ghost use Rattle.std.specs.Prelude.{◌≡◌, ℕ, List, Result, Err};
-ghost use Rattle.pg_failed.specs.Calls.{Call, apart};
-ghost use Rattle.pg_failed.specs.Kept.{NoneKeptBack};
-ghost use Rattle.pg_failed.specs.Sent.{SentInOrder};
+ghost use Rattle.pg_promises.specs.Calls.{Call, apart};
+ghost use Rattle.pg_promises.specs.Kept.{NoneKeptBack};
+ghost use Rattle.pg_promises.specs.Sent.{SentInOrder};
 ghost use Rattle.pg_promises.specs.Causes.{NeedsNoTls, OfDialogue};
 ghost use Rattle.pg_promises.specs.ConnectionStrings.{Means};
 ghost use Rattle.pg_spec.specs.Settings.{Settings};
@@ -12,8 +12,8 @@ ghost use Rattle.pg_spec.specs.Links.{LinkView};
 ghost use Rattle.pg_spec.specs.Startup.{plain_login};
 ghost use Rattle.pg_startup.specs.Startups.{Failed};
 ghost use Rattle.pg_startup.specs.declared.startup.Startup.{Startup};
-ghost use Rattle.pg_faults.specs.declared.error.Error.{Error};
-ghost use Rattle.pg_turns.specs.Speeches.{AreCommands, BookWhole, LetGo, Speech, meaning_of};
+ghost use Rattle.pg_types.specs.declared.error.Error.{Error};
+ghost use Rattle.pg_session.specs.Speeches.{AreCommands, BookWhole, LetGo, Speech, meaning_of};
 ghost use Rattle.pg_session.specs.Failures.{HasBroken, StopsOpening, WasOver};
 ghost use Rattle.pg_session.specs.WholeSession.{LeavesOpen, WasClosed};
 

@@ -12,8 +12,8 @@ use Rattle.std.specs.contracts.option.Option as option
 use Rattle.std.specs.contracts.result.Result as result
 use Rattle.pg_types.proofs.pg_type.Kind.TheLaws.TheKnot as kind
 use Rattle.pg_types.specs.contracts.pg_type.PgType as pg_type
-use Rattle.pg_statements.specs.contracts.statement.Lookup as lookup
-use Rattle.pg_statements.specs.contracts.statement.Statement as statement
+use Rattle.pg_desk.specs.contracts.statement.Lookup as lookup
+use Rattle.pg_desk.specs.contracts.statement.Statement as statement
 use Rattle.std.specs.contracts.alloc.Global as heap
 use Rattle.std.specs.contracts.impls.GlobalAllocator.TheImpl.{ghosts}
 use Rattle.bytes.proofs.shared.Bytes.TheSendSync as shared_bytes

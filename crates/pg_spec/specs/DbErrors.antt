@@ -3,11 +3,11 @@ use Rattle.std.specs.Prelude.{ℕ, Bool, ◌&&◌, ◌||◌, List, [], ◌∷◌
 use Rattle.std.specs.List.{list_all, last_or}
 use Rattle.std.specs.Str.{byte, bytes_eq}
 use Rattle.std.specs.Str.Lossy.{utf8_lossy}
-pub use Rattle.pg_faults.specs.declared.db_error.DbError.{DbError}
-pub use Rattle.pg_faults.specs.declared.db_error.ErrorPosition.{ErrorPosition as Position}
-pub use Rattle.pg_faults.specs.declared.db_error.ErrorPosition.TheVariants.{Original, Internal}
-pub use Rattle.pg_faults.specs.declared.severity.Severity.{Severity}
-pub use Rattle.pg_faults.specs.declared.severity.Severity.TheVariants.{Panic, Fatal, Error, Warning, Notice, Debug, Info, Log}
+pub use Rattle.pg_types.specs.declared.db_error.DbError.{DbError}
+pub use Rattle.pg_types.specs.declared.db_error.ErrorPosition.{ErrorPosition as Position}
+pub use Rattle.pg_types.specs.declared.db_error.ErrorPosition.TheVariants.{Original, Internal}
+pub use Rattle.pg_types.specs.declared.severity.Severity.{Severity}
+pub use Rattle.pg_types.specs.declared.severity.Severity.TheVariants.{Panic, Fatal, Error, Warning, Notice, Debug, Info, Log}
 use Rattle.pg_spec.specs.Bytes.{◌>>=◌, byte_at, text0_at, items_of}
 use Rattle.pg_spec.specs.Numerals.{number_in}
 

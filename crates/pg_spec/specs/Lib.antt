@@ -25,3 +25,9 @@ pub mod Links
 pub mod ReportText
 pub mod SessionText
 pub mod Examples
+pub mod Dialogues
+pub mod Copies
+pub mod Courses
+pub mod Meanings
+pub mod Isolation
+pub mod Simples

@@ -2,9 +2,9 @@
 use Rattle.std.proofs.Common.{◌≡◌, inl, inr, ℕ, ◌+◌, ◌<◌, ◌≤◌, Bool, true, false, List, [], ◌∷◌, ◌++◌, length, Option, Result, Ok, Err, append-nil, append_assoc, length-append, arith, refl, sym, ◌∙◌, ap, subst}
 use Rattle.pg_spec.specs.Frames.{ssl_request}
 use Rattle.pg_spec.specs.Links.{LinkView, Grew}
-use Rattle.pg_faults.specs.declared.cause.Cause.TheVariants as cause
-use Rattle.pg_faults.specs.declared.error.Error.{Error}
-use Rattle.pg_faults.specs.declared.error.Error.TheVariants as error
+use Rattle.pg_types.specs.declared.cause.Cause.TheVariants as cause
+use Rattle.pg_types.specs.declared.error.Error.{Error}
+use Rattle.pg_types.specs.declared.error.Error.TheVariants as error
 use Rattle.pg_wire.specs.LinkCalls.{Keeps}
 use Rattle.pg_connect.specs.Ends.{IsFlushedFrom}
 use Rattle.pg_connect.proofs.Joining.{grew_then, keeps_then, rose_later}

@@ -4,7 +4,7 @@ use Rattle.std.specs.declared.alloc.Global.{Global}
 use Rattle.bytes.specs.declared.unique.BytesMut.{BytesMut}
 use Rattle.pg_spec.specs.Links.{LinkView}
 use Rattle.pg_wire.specs.LinkCalls.{Gives, Keeps, SameBytes, SameWriting}
-use Rattle.pg_faults.specs.declared.error.Error.{Error}
+use Rattle.pg_types.specs.declared.error.Error.{Error}
 use Rattle.pg_connect.specs.Passes.{Untouched}
 use Rattle.pg_connect.proofs.Dues.{due_front, due_none}
 use Rattle.pg_connect.proofs.Joining.{grew_same}

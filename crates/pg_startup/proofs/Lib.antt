@@ -1,3 +1,4 @@
+mod Moves
 pub mod Batches
 pub mod Sending
 pub mod Getting

@@ -4,7 +4,7 @@ use Rattle.pg_spec.specs.Batches.{is_nothing}
 use Rattle.pg_spec.specs.Links.{LinkView}
 use Rattle.pg_spec.specs.RawMessages.{messages}
 use Rattle.pg_spec.specs.Startup.{Login}
-use Rattle.pg_faults.specs.declared.error.Error.{Error}
+use Rattle.pg_types.specs.declared.error.Error.{Error}
 use Rattle.pg_connect.specs.Passes.{Untouched}
 use Rattle.pg_connect.specs.Reads.{piece_size}
 use Rattle.pg_connect.proofs.Sends.{or_false}

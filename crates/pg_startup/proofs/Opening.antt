@@ -5,13 +5,13 @@ use Rattle.pg_spec.specs.Links.{LinkView, Grew}
 use Rattle.pg_spec.specs.RawMessages.{RawMessage, messages, bytes_left, has_bad_header}
 use Rattle.pg_spec.specs.Startup.{Login, Phase, First}
 use Rattle.pg_spec.proofs.MessageLaws.{messages-append, bytes_left-append}
-use Rattle.pg_faults.specs.declared.cause.Cause.TheVariants as cause
-use Rattle.pg_faults.specs.declared.error.Error.{Error}
-use Rattle.pg_faults.specs.declared.error.Error.TheVariants as error
-use Rattle.pg_faults.specs.declared.fault.WireFault.TheVariants as wire
+use Rattle.pg_types.specs.declared.cause.Cause.TheVariants as cause
+use Rattle.pg_types.specs.declared.error.Error.{Error}
+use Rattle.pg_types.specs.declared.error.Error.TheVariants as error
+use Rattle.pg_types.specs.declared.faults.WireFault.TheVariants as wire
 use Rattle.pg_wire.specs.LinkCalls.{Keeps}
-use Rattle.pg_login.specs.Stages.{Stage}
-use Rattle.pg_login.specs.Steps.{frame_of}
+use Rattle.pg_startup.specs.Stages.{Stage}
+use Rattle.pg_startup.specs.Steps.{frame_of}
 use Rattle.pg_connect.specs.Ends.{IsFlushedFrom}
 use Rattle.pg_connect.specs.Passes.{notice_of}
 use Rattle.pg_connect.specs.Reads.{piece_size}

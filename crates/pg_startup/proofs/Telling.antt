@@ -6,12 +6,12 @@ use Rattle.pg_spec.specs.Messages.{message_of}
 use Rattle.pg_spec.specs.RawMessages.{RawMessage}
 use Rattle.pg_spec.specs.Startup as startups
 use Rattle.pg_spec.specs.Startup.{Login, Phase, First, Continue, Final, Accepted, Info, Move, Writes, Refuses, startup_move, startup_message}
-use Rattle.pg_faults.specs.declared.cause.Cause.TheVariants as cause
-use Rattle.pg_faults.specs.declared.error.Error.{Error}
-use Rattle.pg_faults.specs.declared.error.Error.TheVariants as error
-use Rattle.pg_faults.specs.declared.fault.WireFault.TheVariants as wire
-use Rattle.pg_login.specs.Stages.{Stage}
-use Rattle.pg_login.specs.Steps.{Tells}
+use Rattle.pg_types.specs.declared.cause.Cause.TheVariants as cause
+use Rattle.pg_types.specs.declared.error.Error.{Error}
+use Rattle.pg_types.specs.declared.error.Error.TheVariants as error
+use Rattle.pg_types.specs.declared.faults.WireFault.TheVariants as wire
+use Rattle.pg_startup.specs.Stages.{Stage}
+use Rattle.pg_startup.specs.Steps.{Tells}
 use Rattle.pg_startup.specs.declared.startup.Heard.TheVariants as heard
 use Rattle.pg_startup.specs.declared.startup.Startup.{Startup}
 use Rattle.pg_startup.specs.Frames.{frames_left, frames_of}

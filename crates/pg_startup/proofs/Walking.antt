@@ -9,11 +9,11 @@ use Rattle.pg_spec.specs.Messages as said
 use Rattle.pg_spec.specs.Messages.{message_of}
 use Rattle.pg_spec.specs.RawMessages.{RawMessage, messages, bytes_left, has_bad_header, is_aside, is_ready}
 use Rattle.pg_spec.specs.Startup.{Login, Phase, Refuses, key_of, startup_message, startup_move}
-use Rattle.pg_faults.specs.declared.cause.Cause.TheVariants as cause
-use Rattle.pg_faults.specs.declared.error.Error.{Error}
-use Rattle.pg_faults.specs.declared.error.Error.TheVariants as error
-use Rattle.pg_faults.specs.declared.fault.WireFault as wire_faults
-use Rattle.pg_faults.specs.declared.fault.WireFault.TheVariants as wire
+use Rattle.pg_types.specs.declared.cause.Cause.TheVariants as cause
+use Rattle.pg_types.specs.declared.error.Error.{Error}
+use Rattle.pg_types.specs.declared.error.Error.TheVariants as error
+use Rattle.pg_types.specs.declared.faults.WireFault as wire_faults
+use Rattle.pg_types.specs.declared.faults.WireFault.TheVariants as wire
 use Rattle.pg_wire.specs.Backend.{RefusedBy}
 use Rattle.pg_wire.specs.Decode.{Decodes}
 use Rattle.pg_wire.specs.Faults.{wire_fault}

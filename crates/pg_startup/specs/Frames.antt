@@ -1,7 +1,7 @@
 -- How many frames a startup may still be asked for (PostgreSQL documentation, "Start-up"; "SASL Authentication").
 use Rattle.std.specs.Prelude.{ℕ, Option, Some, None}
 use Rattle.pg_spec.specs.Startup.{Phase, First, Continue}
-use Rattle.pg_login.specs.Stages.{Stage}
+use Rattle.pg_startup.specs.Stages.{Stage}
 
 -- by what it waits for
 abbrev pub frames_left : Phase → ℕ

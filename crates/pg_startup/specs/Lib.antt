@@ -1,3 +1,5 @@
+pub mod Stages
+pub mod Steps
 pub mod Transfers
 pub mod Frames
 pub mod Startups

@@ -5,9 +5,9 @@ use Rattle.pg_spec.specs.Links.{LinkView, Grew, Rose}
 use Rattle.futures.specs.declared.task.Poll.{Poll}
 use Rattle.futures.specs.declared.task.Poll.TheVariants.{Ready, Pending}
 use Rattle.pg_wire.specs.LinkCalls.{Keeps}
-use Rattle.pg_faults.specs.declared.cause.Cause.TheVariants as cause
-use Rattle.pg_faults.specs.declared.error.Error.{Error}
-use Rattle.pg_faults.specs.declared.error.Error.TheVariants as error
+use Rattle.pg_types.specs.declared.cause.Cause.TheVariants as cause
+use Rattle.pg_types.specs.declared.error.Error.{Error}
+use Rattle.pg_types.specs.declared.error.Error.TheVariants as error
 use Rattle.pg_connect.specs.Ends.{IsFlushedFrom}
 use Rattle.pg_connect.specs.Passes.{Untouched}
 use Rattle.pg_startup.specs.StartupPolls.{step_of}

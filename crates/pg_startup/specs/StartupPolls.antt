@@ -6,9 +6,9 @@ use Rattle.futures.specs.declared.task.Poll.TheVariants.{Ready, Pending}
 use Rattle.pg_wire.specs.LinkCalls.{Keeps}
 use Rattle.pg_spec.specs.RawMessages.{messages, has_bad_header}
 use Rattle.pg_spec.specs.Startup.{Login}
-use Rattle.pg_faults.specs.declared.cause.Cause.TheVariants as cause
-use Rattle.pg_faults.specs.declared.error.Error.{Error}
-use Rattle.pg_faults.specs.declared.error.Error.TheVariants as error
+use Rattle.pg_types.specs.declared.cause.Cause.TheVariants as cause
+use Rattle.pg_types.specs.declared.error.Error.{Error}
+use Rattle.pg_types.specs.declared.error.Error.TheVariants as error
 use Rattle.pg_connect.specs.Ends.{WasBlocked}
 use Rattle.pg_connect.specs.Passes.{Untouched}
 use Rattle.pg_connect.specs.declared.streams.Streams.{Streams}

@@ -3,9 +3,9 @@ use Rattle.std.specs.Prelude.{◌≡◌, ℕ, ◌+◌, ◌<◌, ◌≤◌, Bool,
 use Rattle.pg_spec.specs.Batches.{is_nothing}
 use Rattle.pg_spec.specs.Links.{LinkView, Grew, Rose}
 use Rattle.pg_wire.specs.LinkCalls.{Keeps}
-use Rattle.pg_faults.specs.declared.cause.Cause.TheVariants as cause
-use Rattle.pg_faults.specs.declared.error.Error.{Error}
-use Rattle.pg_faults.specs.declared.error.Error.TheVariants as error
+use Rattle.pg_types.specs.declared.cause.Cause.TheVariants as cause
+use Rattle.pg_types.specs.declared.error.Error.{Error}
+use Rattle.pg_types.specs.declared.error.Error.TheVariants as error
 use Rattle.pg_connect.specs.Ends.{IsFlushedFrom, WasBlocked}
 use Rattle.pg_connect.specs.Passes.{Untouched}
 use Rattle.pg_connect.specs.Reads.{GaveDue, WasDry}

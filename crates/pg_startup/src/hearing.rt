@@ -8,9 +8,8 @@ ghost use Rattle.pg_spec.specs.Startup.{Login};
 ghost use Rattle.pg_wire.specs.Messages.{message_view};
 ghost use Rattle.pg_startup.specs.Startups.{Adds, HasPlace, Hears, HearsAll, HearsBuffer, HearsOnly, IsTold, LeavesNone, MarksEnd, Queues, QueuesOnly, Speaks, StandsAt, TellsOnly, WasLast, refusal_of, sends_left};
 
-use crate::{Heard, Startup};
+use crate::{Dialogue, Heard, Startup, Told};
 use pg_errors::{Cause, Error};
-use pg_login::{Dialogue, Told};
 use pg_types::OutOfMemory;
 use pg_wire::{BackendMessage, BackendMessages, Message, PostgresCodec, WireFault};
 use std::alloc::Global;

@@ -30,7 +30,7 @@ impl SslRequest {
         ensures limit { IfOk result (λ s. s.bytes.max_bytes ≡ max_bytes) }
     {
         let mut bytes = Transfer::new(alloc, 0, max_bytes);
-        if pg_frames::ssl_request(&mut bytes.unsent).is_err() {
+        if pg_wire::ssl_request(&mut bytes.unsent).is_err() {
             return Err(OutOfMemory);
         }
         Ok(SslRequest { bytes })

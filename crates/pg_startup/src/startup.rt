@@ -3,16 +3,15 @@
 ghost use Rattle.std.specs.Prelude.{◌≡◌, IfOk, IsTrue, MatchResult, Ok, Err};
 ghost use Rattle.pg_spec.specs.Links.{LinkView};
 ghost use Rattle.pg_spec.specs.Passwords.{is_nonce};
-ghost use Rattle.pg_login.specs.Stages.{login_of};
-ghost use Rattle.pg_login.specs.Steps.{Made, frame_of};
+ghost use Rattle.pg_startup.specs.Stages.{login_of};
+ghost use Rattle.pg_startup.specs.Steps.{Made, frame_of};
 ghost use Rattle.pg_startup.specs.Startups.{Opening};
 ghost use Rattle.pg_startup.specs.StartupPolls.{IsFresh};
 
-use crate::Transfer;
+use crate::{Dialogue, Login, Transfer, opening_frame};
 use bytes::Bytes;
 use pg_connect::{Parameters, Streams};
 use pg_errors::Error;
-use pg_login::{Dialogue, Login, opening_frame};
 use pg_types::OutOfMemory;
 use pg_wire::ErrorResponseBody;
 use std::alloc::Global;

@@ -9,8 +9,8 @@ use Rattle.pg_spec.specs.declared.stamps.Stamp.{Stamp}
 use Rattle.pg_desk.specs.declared.event.DeskFault.{DeskFault}
 use Rattle.pg_desk.specs.declared.event.Event.{Event}
 use Rattle.pg_desk.specs.declared.event.Event.TheVariants as call
-use Rattle.pg_faults.specs.declared.error.Error.{Error}
-use Rattle.pg_faults.specs.declared.error.Error.TheVariants.{OutOfMemory}
+use Rattle.pg_types.specs.declared.error.Error.{Error}
+use Rattle.pg_types.specs.declared.error.Error.TheVariants.{OutOfMemory}
 use Rattle.pg_query.specs.Dialogue.{Dialogue, Answer, Ask, Read, Walks, cleaning}
 use Rattle.pg_query.specs.Faults.{of_fault}
 use Rattle.pg_query.specs.Meaning.{GoesToAnswer, MatchPoll}
@@ -18,7 +18,7 @@ use Rattle.pg_query.specs.Reading.{ends, reads}
 use Rattle.pg_query.specs.Scripts.{cleanup_of}
 use Rattle.pg_query.specs.declared.desk_call.Cleanup.TheVariants.{Release}
 use Rattle.pg_core.specs.Behind.{behind}
-use Rattle.pg_lookup.specs.Composing.{asks_for}
+use Rattle.pg_core.specs.Composing.{asks_for}
 use Rattle.pg_execute.specs.Executes.{closed_by, posts, posts_before}
 use Rattle.pg_streams.specs.Collecting.{Awaits, Gives, NoItemFirst, family_of, place_of, untold}
 use Rattle.pg_streams.specs.Families.{AnswersFor, Family, GoesFor, PausesFor}

@@ -5,9 +5,9 @@ use Rattle.futures.specs.declared.task.Poll.TheVariants.{Ready, Pending}
 use Rattle.pg_spec.specs.RawMessages.{RawMessage}
 use Rattle.pg_spec.specs.declared.stamps.Stamp.{Stamp}
 use Rattle.pg_desk.specs.declared.event.Event.{Event}
-use Rattle.pg_faults.specs.declared.error.Error.{Error}
-use Rattle.pg_faults.specs.declared.error.Error.TheVariants.{OutOfMemory, UnexpectedMessage}
-use Rattle.pg_statements.specs.declared.column.Column.{Column}
+use Rattle.pg_types.specs.declared.error.Error.{Error}
+use Rattle.pg_types.specs.declared.error.Error.TheVariants.{OutOfMemory, UnexpectedMessage}
+use Rattle.pg_desk.specs.declared.column.Column.{Column}
 use Rattle.pg_query.specs.Dialogue.{Dialogue, Answer, HangUp, Read, feed}
 use Rattle.pg_query.specs.Meaning.{GoesToAnswer, MatchPoll, Place}
 use Rattle.pg_query.specs.Reading.{ends, reads}

@@ -6,8 +6,8 @@ use Rattle.pg_desk.specs.declared.event.DeskFault.{DeskFault}
 use Rattle.pg_desk.specs.declared.event.Event.{Event}
 use Rattle.pg_desk.specs.declared.event.Event.TheVariants as call
 use Rattle.pg_desk.specs.declared.event.Take.TheVariants as taking
-use Rattle.pg_faults.specs.declared.error.Error.{Error}
-use Rattle.pg_faults.specs.declared.error.Error.TheVariants.{Closed, OutOfMemory}
+use Rattle.pg_types.specs.declared.error.Error.{Error}
+use Rattle.pg_types.specs.declared.error.Error.TheVariants.{Closed, OutOfMemory}
 use Rattle.pg_query.specs.Dialogue.{Dialogue, Answer, HangUp, feed, Walks}
 use Rattle.pg_query.specs.Faults.{of_fault}
 use Rattle.pg_query.specs.Meaning.{Place, Leaves, ForMessage, ForRoom, WaitsAt, left_by}

@@ -7,3 +7,12 @@ pub mod Rows
 pub mod Parts
 pub mod Brought
 pub mod Behind
+pub mod Later
+pub mod Texts
+mod Takes
+mod Heading
+mod Knowing
+mod Ending
+mod Streams
+mod Fresh
+mod Polling

@@ -4,8 +4,8 @@ use Rattle.futures.specs.declared.task.Poll.TheVariants.{Ready as Comes}
 use Rattle.pg_spec.specs.RawMessages.{RawMessage}
 use Rattle.pg_spec.specs.declared.stamps.Stamp.{Stamp}
 use Rattle.pg_desk.specs.declared.event.Event.{Event}
-use Rattle.pg_faults.specs.declared.error.Error.{Error}
-use Rattle.pg_lookup.specs.QueryReplies.{Said, Bound, Row, Complete, Empty, Suspended, Ready, Fails as Wrong, said_by}
+use Rattle.pg_types.specs.declared.error.Error.{Error}
+use Rattle.pg_core.specs.QueryReplies.{Said, Bound, Row, Complete, Empty, Suspended, Ready, Fails as Wrong, said_by}
 use Rattle.pg_streams.specs.Brought.{joined}
 use Rattle.pg_streams.specs.Collecting.{Gives, NoItemFirst, is_last, family_behind, family_of, place_of, untold, was_told}
 use Rattle.pg_streams.specs.Families.{AnswersFor, Family, GoesFor}

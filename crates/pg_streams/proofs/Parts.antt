@@ -3,7 +3,7 @@ use Rattle.std.proofs.Common.{◌≡◌, List, [], ◌∷◌, Option, Some, Resu
 use Rattle.pg_spec.specs.Faults as spec
 use Rattle.pg_spec.specs.Messages.{Message, message_of}
 use Rattle.pg_spec.specs.RawMessages.{RawMessage}
-use Rattle.pg_faults.specs.declared.error.Error.{Error}
+use Rattle.pg_types.specs.declared.error.Error.{Error}
 use Rattle.pg_rows.specs.declared.simple_column.SimpleColumn.{SimpleColumn}
 use Rattle.pg_streams.specs.PartTelling.{Shows, part_heard, parts_heard}
 use Rattle.pg_streams.specs.SimpleStreams.{Said, Part, Ready, Wrong, simple_said, said_by, told_by, parts_from}

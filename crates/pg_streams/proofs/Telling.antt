@@ -7,8 +7,8 @@ use Rattle.pg_wire.specs.Backend.{Nexts, RefusedBy, RefusesFirst, TakesFirst}
 use Rattle.pg_wire.specs.Faults.{wire_fault}
 use Rattle.pg_wire.specs.Messages.{message_view}
 use Rattle.pg_wire.specs.declared.message.Message.{Message}
-use Rattle.pg_faults.specs.declared.fault.WireFault.{WireFault}
-use Rattle.pg_faults.specs.declared.error.Error.{Error}
+use Rattle.pg_types.specs.declared.faults.WireFault.{WireFault}
+use Rattle.pg_types.specs.declared.error.Error.{Error}
 use Rattle.pg_query.specs.Dialogue.{Dialogue, Read, HangUp, feed, feed_one}
 use Rattle.pg_query.specs.Meaning.{Place}
 use Rattle.pg_query.specs.Reading.{ends, reads}

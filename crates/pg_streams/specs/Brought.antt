@@ -1,8 +1,8 @@
 -- Items of a reply that was taken whole before they are given, and whose request was hung up then.
 use Rattle.std.specs.Prelude.{ℕ, List, [], ◌∷◌, ◌++◌, Bool, true, false, Option, Some, None, Result, Err}
 use Rattle.pg_spec.specs.RawMessages.{RawMessage}
-use Rattle.pg_faults.specs.declared.error.Error.{Error}
-use Rattle.pg_faults.specs.declared.error.Error.TheVariants.{UnexpectedMessage}
+use Rattle.pg_types.specs.declared.error.Error.{Error}
+use Rattle.pg_types.specs.declared.error.Error.TheVariants.{UnexpectedMessage}
 use Rattle.pg_query.specs.Dialogue.{Dialogue, Answer, HangUp, Send, feed}
 use Rattle.pg_streams.specs.Families.{Family}
 use Rattle.pg_streams.specs.Hearing.{First}

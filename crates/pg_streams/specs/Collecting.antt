@@ -8,10 +8,10 @@ use Rattle.pg_spec.specs.declared.stamps.Stamp.{Stamp}
 use Rattle.pg_desk.specs.declared.event.DeskFault.{DeskFault}
 use Rattle.pg_desk.specs.declared.event.Event.{Event}
 use Rattle.pg_desk.specs.declared.event.Event.TheVariants as call
-use Rattle.pg_faults.specs.declared.error.Error.{Error}
-use Rattle.pg_faults.specs.declared.fault.WireFault.{WireFault}
+use Rattle.pg_types.specs.declared.error.Error.{Error}
+use Rattle.pg_types.specs.declared.faults.WireFault.{WireFault}
 use Rattle.pg_wire.specs.Faults.{wire_fault}
-use Rattle.pg_faults.specs.declared.error.Error.TheVariants.{OutOfMemory, UnexpectedMessage}
+use Rattle.pg_types.specs.declared.error.Error.TheVariants.{OutOfMemory, UnexpectedMessage}
 use Rattle.pg_query.specs.Dialogue.{Dialogue, Read, HangUp, feed, cleaning}
 use Rattle.pg_query.specs.Faults.{of_fault}
 use Rattle.pg_query.specs.Meaning.{Place}

@@ -12,3 +12,10 @@ pub mod SimpleStreams
 pub mod PartTelling
 pub mod PartLaws
 pub mod SimpleStates
+pub mod States
+pub mod TypedRaw
+pub mod Taking
+pub mod Heads
+pub mod Known
+pub mod Rests
+pub mod TypedRawStates

@@ -4,8 +4,8 @@ use Rattle.pg_spec.specs.RawMessages.{RawMessage}
 use Rattle.pg_spec.specs.Bodies.{Field, fields_of}
 use Rattle.pg_spec.specs.Faults.{WireFault}
 use Rattle.pg_spec.specs.SimpleQuery.{unreadable}
-use Rattle.pg_faults.specs.declared.error.Error.{Error}
-use Rattle.pg_faults.specs.declared.fault.WireFault as wire
+use Rattle.pg_types.specs.declared.error.Error.{Error}
+use Rattle.pg_types.specs.declared.faults.WireFault as wire
 use Rattle.pg_wire.specs.Faults.{wire_fault}
 use Rattle.pg_query.specs.Replies.{IsRefusedFor}
 use Rattle.pg_rows.specs.declared.simple_column.SimpleColumn.{SimpleColumn}

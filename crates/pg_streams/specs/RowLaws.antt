@@ -5,8 +5,8 @@ use Rattle.pg_spec.specs.Faults as spec
 use Rattle.pg_spec.specs.Messages.{Message, message_of}
 use Rattle.pg_spec.specs.RawMessages.{RawMessage}
 use Rattle.pg_spec.specs.Readings.{decided_by}
-use Rattle.pg_statements.specs.declared.statement.Described.{Described as Statement}
-use Rattle.pg_lookup.specs.QueryReplies.{Said, Fails, query_said}
+use Rattle.pg_desk.specs.declared.statement.Described.{Described as Statement}
+use Rattle.pg_core.specs.QueryReplies.{Said, Fails, query_said}
 use Rattle.pg_execute.specs.Rows.{rows_by}
 use Rattle.pg_execute.specs.declared.how_many.HowMany.TheVariants.{Any}
 use Rattle.pg_streams.specs.RowStreams.{rows_from, rows_given}

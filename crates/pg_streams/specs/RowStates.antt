@@ -3,13 +3,13 @@ use Rattle.std.specs.Prelude.{◌≡◌, ◌⊎◌, ℕ, List, [], ◌++◌, Boo
 use Rattle.pg_spec.specs.RawMessages.{RawMessage}
 use Rattle.pg_spec.specs.declared.stamps.Stamp.{Stamp}
 use Rattle.pg_desk.specs.declared.event.Event.{Event}
-use Rattle.pg_faults.specs.declared.error.Error.{Error}
-use Rattle.pg_faults.specs.declared.error.Error.TheVariants.{Closed, OutOfMemory}
-use Rattle.pg_statements.specs.declared.statement.Described.{Described as Statement}
+use Rattle.pg_types.specs.declared.error.Error.{Error}
+use Rattle.pg_types.specs.declared.error.Error.TheVariants.{Closed, OutOfMemory}
+use Rattle.pg_desk.specs.declared.statement.Described.{Described as Statement}
 use Rattle.pg_query.specs.Dialogue.{Answer}
 use Rattle.pg_query.specs.Meaning.{Place}
 use Rattle.pg_execute.specs.Executes.{closed_by}
-use Rattle.pg_statements.specs.declared.column.Column.{Column}
+use Rattle.pg_desk.specs.declared.column.Column.{Column}
 use Rattle.pg_rows.specs.Rows.{RowOf}
 use Rattle.pg_types.specs.declared.value.Value.{Value}
 use Rattle.pg_streams.specs.Brought.{brought_if, joined}

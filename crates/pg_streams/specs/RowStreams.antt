@@ -2,9 +2,9 @@
 use Rattle.std.specs.Prelude.{ℕ, List, [], ◌∷◌, length, map, Bool, false, Option, Result, Ok}
 use Rattle.pg_spec.specs.RawMessages.{RawMessage}
 use Rattle.pg_types.specs.declared.value.Value.{Value}
-use Rattle.pg_faults.specs.declared.error.Error.{Error}
-use Rattle.pg_statements.specs.declared.column.Column.{Column}
-use Rattle.pg_statements.specs.declared.statement.Described.{Described as Statement}
+use Rattle.pg_types.specs.declared.error.Error.{Error}
+use Rattle.pg_desk.specs.declared.column.Column.{Column}
+use Rattle.pg_desk.specs.declared.statement.Described.{Described as Statement}
 use Rattle.pg_query.specs.Dialogue.{Dialogue}
 use Rattle.pg_rows.specs.Rows.{RowOf}
 use Rattle.pg_execute.specs.Executes.{executes, queried}

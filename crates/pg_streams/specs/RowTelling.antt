@@ -2,9 +2,9 @@
 use Rattle.std.specs.Prelude.{◌≡◌, length, true, false, Option, Some, None, Result, Ok, Err}
 use Rattle.pg_spec.specs.Faults.{UnexpectedMessage}
 use Rattle.pg_spec.specs.RawMessages.{RawMessage}
-use Rattle.pg_faults.specs.declared.error.Error.{Error}
-use Rattle.pg_statements.specs.declared.column.Column.{Column}
-use Rattle.pg_lookup.specs.QueryReplies.{Said, Bound, Row, Complete, Empty, Suspended, Ready, Fails as Wrong, said_by}
+use Rattle.pg_types.specs.declared.error.Error.{Error}
+use Rattle.pg_desk.specs.declared.column.Column.{Column}
+use Rattle.pg_core.specs.QueryReplies.{Said, Bound, Row, Complete, Empty, Suspended, Ready, Fails as Wrong, said_by}
 use Rattle.pg_rows.specs.Rows.{RowOf}
 use Rattle.pg_streams.specs.Hearing.{Heard}
 use Rattle.pg_streams.specs.declared.giving.Told.{Told}

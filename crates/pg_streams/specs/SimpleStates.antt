@@ -1,8 +1,8 @@
 -- Where the stream of a simple query stands, and the state that hands it on.
 use Rattle.std.specs.Prelude.{◌∷◌, ◌++◌, ℕ, List, [], Bool, Option, Some, None, Result, Err}
 use Rattle.pg_spec.specs.RawMessages.{RawMessage}
-use Rattle.pg_faults.specs.declared.error.Error.{Error}
-use Rattle.pg_faults.specs.declared.error.Error.TheVariants.{Closed}
+use Rattle.pg_types.specs.declared.error.Error.{Error}
+use Rattle.pg_types.specs.declared.error.Error.TheVariants.{Closed}
 use Rattle.pg_query.specs.Dialogue.{Dialogue, Answer}
 use Rattle.pg_query.specs.Meaning.{Place}
 use Rattle.pg_streams.specs.Collecting.{family_of, place_of}

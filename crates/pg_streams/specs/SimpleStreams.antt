@@ -8,8 +8,8 @@ use Rattle.pg_spec.specs.Messages as message
 use Rattle.pg_spec.specs.Messages.{message_of}
 use Rattle.pg_spec.specs.RawMessages.{RawMessage}
 use Rattle.pg_spec.specs.SimpleQuery.{affected, server_error, unreadable}
-use Rattle.pg_faults.specs.declared.error.Error.{Error}
-use Rattle.pg_faults.specs.declared.error.Error.TheVariants.{OutOfMemory}
+use Rattle.pg_types.specs.declared.error.Error.{Error}
+use Rattle.pg_types.specs.declared.error.Error.TheVariants.{OutOfMemory}
 use Rattle.pg_query.specs.Dialogue.{Dialogue, Answer, Ask}
 use Rattle.pg_query.specs.Reading.{reads}
 use Rattle.pg_rows.specs.Rows.{RowOf, row_of}

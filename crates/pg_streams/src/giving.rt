@@ -4,7 +4,7 @@ ghost use Rattle.std.specs.Prelude.{◌≡◌, ◌∷◌, [], List, Option, Some
 ghost use Rattle.pg_spec.specs.Faults as spec;
 ghost use Rattle.pg_spec.specs.Messages.{message_of};
 ghost use Rattle.pg_spec.specs.RawMessages.{RawMessage};
-ghost use Rattle.pg_faults.specs.declared.error.Error.{Error};
+ghost use Rattle.pg_types.specs.declared.error.Error.{Error};
 ghost use Rattle.pg_wire.specs.Messages.{message_view};
 ghost use Rattle.pg_streams.specs.Hearing.{Heard};
 ghost use Rattle.pg_streams.specs.Telling.{GivesOn};

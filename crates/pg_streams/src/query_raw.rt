@@ -16,11 +16,10 @@ use crate::row_giving::RowOpening;
 use crate::row_stream::RowStream;
 use bytes::Bytes;
 use futures::task::Poll;
-use pg_desk::{Desk, Stamp};
+use pg_desk::{Desk, Stamp, Statement};
 use pg_errors::Error;
 use pg_execute::{close_bytes, execute_request};
 use pg_query::error_of;
-use pg_statements::Statement;
 use pg_types::{OutOfMemory, Value};
 use std::alloc::Global;
 use std::mem;
@@ -178,7 +177,7 @@ impl<'a> StatementRawState<'a> {
 }
 
 impl<'a> opens::Opens for StatementRawState<'a> {
-    ghost use Rattle.pg_statements.specs.declared.statement.Described as described;
+    ghost use Rattle.pg_desk.specs.declared.statement.Described as described;
     ghost use Rattle.pg_streams.specs.Handing.{never_whole, nothing_to_find};
     ghost use Rattle.pg_streams.specs.RowStates.{IsBegun, IsLiveAt, rows_opened, rows_place, stage_first, stage_place, stage_statement, statement_of};
     ghost use Rattle.pg_streams.specs.RowStreams as streams;

@@ -4,15 +4,15 @@ ghost use Rattle.std.specs.Prelude.{◌≡◌, length, Some, false, true, IfOk};
 ghost use Rattle.pg_spec.specs.Bodies.{cells_of};
 ghost use Rattle.pg_spec.specs.Messages as message;
 ghost use Rattle.pg_wire.specs.Messages.{message_view};
-ghost use Rattle.pg_lookup.specs.QueryReplies.{query_said};
+ghost use Rattle.pg_core.specs.QueryReplies.{query_said};
 ghost use Rattle.pg_rows.specs.Rows.{row_of};
 ghost use Rattle.pg_streams.specs.RowTelling.{Shows, ShowsOpening, told_of};
 
 use crate::giving::{Giving, Told};
+use pg_desk::Statement;
 use pg_errors::Error;
 use pg_query::{extract_row_affected, server_error};
 use pg_rows::Row;
-use pg_statements::Statement;
 use pg_wire::{CommandCompleteBody, DataRowBody, Message};
 use std::alloc::{AllocError, Global};
 
@@ -43,7 +43,7 @@ impl RowOpening {
 
 impl Giving for RowOpening {
     ghost use Rattle.std.specs.Prelude.{[], None};
-    ghost use Rattle.pg_statements.specs.declared.statement.Described as described;
+    ghost use Rattle.pg_desk.specs.declared.statement.Described as described;
     ghost use Rattle.pg_streams.specs.RowStreams as streams;
     ghost use Rattle.pg_streams.specs.RowStreams.{rows_from};
     ghost use Rattle.pg_streams.specs.RowTelling.{opening_heard};
@@ -135,7 +135,7 @@ impl RowGiving {
 
 impl Giving for RowGiving {
     ghost use Rattle.std.specs.Prelude.{[], true};
-    ghost use Rattle.pg_statements.specs.declared.statement.Described as described;
+    ghost use Rattle.pg_desk.specs.declared.statement.Described as described;
     ghost use Rattle.pg_streams.specs.RowStreams as streams;
     ghost use Rattle.pg_streams.specs.RowStreams.{rows_from, with_row};
     ghost use Rattle.pg_streams.specs.RowTelling.{rows_heard};

@@ -7,9 +7,9 @@ use Rattle.pg_spec.specs.Frames.{sync_frame}
 use Rattle.pg_spec.specs.RawMessages.{RawMessage, is_ready, ends_in, message_at, message_bytes, messages, bytes_left}
 use Rattle.pg_spec.proofs.MessageLaws.{messages-front, message_at_front, message_at-Shrinks}
 use Rattle.pg_spec.proofs.Readers.{items_of-some}
-use Rattle.pg_faults.specs.declared.error.Error.{Error}
+use Rattle.pg_types.specs.declared.error.Error.{Error}
 use Rattle.pg_client.specs.Done.{done_next, done_reading}
-use Rattle.pg_turns.specs.Speeches.{EndsAlone, IsWholeRequest}
+use Rattle.pg_session.specs.Speeches.{EndsAlone, IsWholeRequest}
 
 abbrev Told : Type 0
 Told = Option (Result (Unit {0}) Error)

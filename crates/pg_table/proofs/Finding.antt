@@ -1,13 +1,13 @@
 -- What is done with what a command names, once that is found.
 use Rattle.std.proofs.Common.{◌≡◌, ℕ, List, Some, None, Err, sym, ap}
-use Rattle.pg_faults.specs.declared.error.Error.TheVariants.{Missing}
+use Rattle.pg_types.specs.declared.error.Error.TheVariants.{Missing}
 use Rattle.pg_execute.specs.Executes.{on_text}
 use Rattle.pg_execute.specs.Targets as execution
 use Rattle.pg_execute.specs.declared.target.Target.{Target}
 use Rattle.pg_execute.specs.declared.target.Target.TheVariants.{Query, Owned, Statement}
-use Rattle.pg_executed.specs.Texts.{prepare_text}
+use Rattle.pg_states.specs.Texts.{prepare_text}
 use Rattle.pg_query.specs.Dialogue.{Dialogue, Answer}
-use Rattle.pg_statements.specs.declared.statement.Described.{Described}
+use Rattle.pg_desk.specs.declared.statement.Described.{Described}
 use Rattle.pg_text.specs.declared.command.CommandTarget.{CommandTarget}
 use Rattle.pg_text.specs.declared.command.CommandTarget.TheVariants.{Slot, Text}
 use Rattle.pg_table.specs.Slots.{Slots}

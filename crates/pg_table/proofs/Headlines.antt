@@ -17,21 +17,21 @@ use Rattle.pg_text.specs.Views.{as_answer, as_answers, as_command, as_message, a
 use Rattle.pg_text.specs.declared.command.Answer.{Answer}
 use Rattle.pg_text.specs.declared.command.Answer.TheVariants as answer
 use Rattle.pg_text.specs.declared.command.Command.{Command}
-use Rattle.pg_course.specs.Dialogues.{Answers, Asks, Dialogue, Reads, behind}
-use Rattle.pg_course.specs.Courses.{Course}
-use Rattle.pg_course.specs.Meanings.{Ending, HasRun}
-use Rattle.pg_course.specs.Simples.{AreSimple, asks_by, reads_unless, told_or}
-use Rattle.pg_failed.proofs.Kept.{kept}
-use Rattle.pg_failed.proofs.SentOrder.{sent}
-use Rattle.pg_failed.specs.Calls.{Call}
-use Rattle.pg_failed.specs.Kept.{NoneKeptBack}
-use Rattle.pg_failed.specs.Sent.{SentInOrder}
-use Rattle.pg_headline.proofs.Landed.{ended-well, has-run}
-use Rattle.pg_headline.specs.Endings.{EndedWell, IsRun, Report, Session, course_of, replies}
-use Rattle.pg_headline.specs.Landed.{simply as in_headline_words, report_of as landed_report, session_of as landed_session}
+use Rattle.pg_spec.specs.Dialogues.{Answers, Asks, Dialogue, Reads, behind}
+use Rattle.pg_spec.specs.Courses.{Course}
+use Rattle.pg_spec.specs.Meanings.{Ending, HasRun}
+use Rattle.pg_spec.specs.Simples.{AreSimple, asks_by, reads_unless, told_or}
+use Rattle.pg_promises.proofs.Kept.{kept}
+use Rattle.pg_promises.proofs.SentOrder.{sent}
+use Rattle.pg_promises.specs.Calls.{Call}
+use Rattle.pg_promises.specs.Kept.{NoneKeptBack}
+use Rattle.pg_promises.specs.Sent.{SentInOrder}
+use Rattle.pg_promises.proofs.Landed.{ended-well, has-run}
+use Rattle.pg_promises.specs.Endings.{EndedWell, IsRun, Report, Session, course_of, replies}
+use Rattle.pg_promises.specs.Landed.{simply as in_headline_words, report_of as landed_report, session_of as landed_session}
 use Rattle.pg_promises.specs.EndedWell as simple
 use Rattle.pg_promises.specs.Promises as promised
-use Rattle.pg_turns.specs.Speeches.{meaning_of}
+use Rattle.pg_session.specs.Speeches.{meaning_of}
 use Rattle.pg_table.specs.Headlines.{AnsweredSimply, asks_simple, simple_call, simple_meaning, simple_session, simple_words}
 use Rattle.pg_table.specs.Mapped.{mapped_answer}
 use Rattle.pg_table.specs.Slots.{Slots}

@@ -11,3 +11,8 @@ pub mod SimpleMeans
 pub mod Renamed
 pub mod RenamedSent
 pub mod Headlines
+pub mod Entries
+pub mod Isolated
+pub mod ByNames
+pub mod Told
+pub mod KeptApart

@@ -8,8 +8,8 @@ use Rattle.pg_desk.specs.declared.event.Put.TheVariants as putting
 use Rattle.pg_desk.specs.declared.event.Take.TheVariants as taking
 use Rattle.pg_desk.specs.declared.event.Event.{Event}
 use Rattle.pg_desk.specs.declared.event.Event.TheVariants as call
-use Rattle.pg_faults.specs.declared.error.Error.{Error}
-use Rattle.pg_faults.specs.declared.error.Error.TheVariants.{OutOfMemory}
+use Rattle.pg_types.specs.declared.error.Error.{Error}
+use Rattle.pg_types.specs.declared.error.Error.TheVariants.{OutOfMemory}
 use Rattle.pg_query.specs.declared.desk_call.Cleanup.{Cleanup}
 use Rattle.pg_query.specs.declared.desk_call.Cleanup.TheVariants.{Release}
 use Rattle.pg_query.specs.declared.desk_call.DeskCall.{DeskCall}
@@ -22,7 +22,7 @@ use Rattle.futures.specs.declared.task.Poll.TheVariants.{Ready, Pending}
 use Rattle.pg_query.specs.Reading.{ends}
 use Rattle.pg_query.specs.Requests.{asks, reads_unless}
 use Rattle.pg_query.specs.Scripts.{IsPut, IsRead, cleanup_of}
-use Rattle.pg_course.specs.Dialogues as course
+use Rattle.pg_spec.specs.Dialogues as course
 use Rattle.pg_core.specs.Outcomes.{asked}
 use Rattle.pg_table.specs.Mapped.{mapped, mapped_answer, mapped_place, mapped_poll}
 

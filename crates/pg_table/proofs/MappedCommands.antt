@@ -1,13 +1,13 @@
 -- A command whose answer is told in other words is one that a session takes.
 use Rattle.std.proofs.Common.{◌≡◌, [], Result, Err, refl, ap, subst, append-nil}
-use Rattle.pg_faults.specs.declared.error.Error.{Error}
-use Rattle.pg_faults.specs.declared.error.Error.TheVariants.{OutOfMemory}
+use Rattle.pg_types.specs.declared.error.Error.{Error}
+use Rattle.pg_types.specs.declared.error.Error.TheVariants.{OutOfMemory}
 use Rattle.pg_query.specs.Dialogue.{Dialogue, Answer, Ask, Send, Leave, Read, Put, Finish, Close, HangUp, Call, Hear}
 use Rattle.pg_core.specs.Behind.{behind}
 use Rattle.pg_core.specs.Times.{IsCommand, LacksMemory}
 use Rattle.pg_core.proofs.Behind.{command-behind}
-use Rattle.pg_lookup_laws.proofs.Behind.{whole-behind}
-use Rattle.pg_turns.specs.Speeches.{BooksWhole}
+use Rattle.pg_query_laws.proofs.Behind.{whole-behind}
+use Rattle.pg_session.specs.Speeches.{BooksWhole}
 use Rattle.pg_table.specs.Mapped.{mapped, mapped_answer}
 
 module _ {T U : Type 0} (f : T → U) where

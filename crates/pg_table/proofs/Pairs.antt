@@ -4,8 +4,8 @@ use Rattle.std.proofs.Common.{ℕ, List, Bool, true, false, Err}
 use Rattle.pg_spec.specs.Faults.{Parameters}
 use Rattle.pg_types.specs.declared.value.Value.{Value}
 use Rattle.pg_query.specs.Dialogue.{Dialogue, Answer}
-use Rattle.pg_lookup_laws.proofs.Commands.{IsTaken, answers}
-use Rattle.pg_typed_states.specs.Paired.{paired}
+use Rattle.pg_query_laws.proofs.Commands.{IsTaken, answers}
+use Rattle.pg_states.specs.Paired.{paired}
 
 -- as many values as types are taken, and others are refused
 pub paired-taken : {T : Type 0} (types : ℕ) (values : List Value) (d : Dialogue T) → IsTaken d → IsTaken (paired types values d)

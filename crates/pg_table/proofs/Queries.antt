@@ -9,7 +9,7 @@ use Rattle.pg_spec.specs.Frames.{has_zero, query_frame, tagged, unless_fault}
 use Rattle.pg_spec.specs.RawMessages.{RawMessage, message_at, message_bytes, messages, bytes_left}
 use Rattle.pg_spec.proofs.MessageLaws.{messages-front, message_at_front, message_at-Shrinks}
 use Rattle.pg_spec.proofs.Readers.{items_of-some}
-use Rattle.pg_turns.specs.Speeches.{EndsAlone, IsWholeRequest}
+use Rattle.pg_session.specs.Speeches.{EndsAlone, IsWholeRequest}
 
 -- the part is one Query
 pub record IsQuery (part : List ℕ) : Type 0 where

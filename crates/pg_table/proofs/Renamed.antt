@@ -6,10 +6,10 @@ use Rattle.std.proofs.lemmas.List.Elements.{All-weaker}
 use Rattle.std.proofs.lemmas.Option.{same_Some, slice_get-map}
 use Rattle.pg_spec.specs.Book.{Booking}
 use Rattle.pg_spec.specs.Turns.{IsTrace, Times, entry_at}
-use Rattle.pg_course.specs.Courses.{Asked, Course, Unfolds, begun_in, nowhere, questions_of, requests_of}
-use Rattle.pg_course.specs.Dialogues.{Answers, Dialogue, behind}
-use Rattle.pg_course.specs.Meanings.{Ending, HasRun, Meaning}
-use Rattle.pg_course.proofs.Headlines.{unmapped}
+use Rattle.pg_spec.specs.Courses.{Asked, Course, Unfolds, begun_in, nowhere, questions_of, requests_of}
+use Rattle.pg_spec.specs.Dialogues.{Answers, Dialogue, behind}
+use Rattle.pg_spec.specs.Meanings.{Ending, HasRun, Meaning}
+use Rattle.pg_spec.proofs.Headlines.{unmapped}
 
 -- ---- lists of lists
 

@@ -12,13 +12,13 @@ use Rattle.pg_spec.specs.Sent.{whole_units}
 use Rattle.pg_spec.specs.Settings.{Settings}
 use Rattle.pg_spec.specs.Startup.{Done}
 use Rattle.pg_spec.specs.Turns.{entry_at}
-use Rattle.pg_course.specs.Courses.{Asked, Course, Met, Outcome, met_in, nothing_yet, outcome, past_reply, first_reply, questions_of, requests_of, with_part, with_question, with_request, with_sent}
-use Rattle.pg_course.specs.Dialogues.{Answers, Asks, Calls, Closes, Dialogue, Puts, Reads, Sends, behind, decided_after}
-use Rattle.pg_course.specs.Meanings.{Ending, Meaning}
-use Rattle.pg_failed.specs.Calls.{Call, apart}
+use Rattle.pg_spec.specs.Courses.{Asked, Course, Met, Outcome, met_in, nothing_yet, outcome, past_reply, first_reply, questions_of, requests_of, with_part, with_question, with_request, with_sent}
+use Rattle.pg_spec.specs.Dialogues.{Answers, Asks, Calls, Closes, Dialogue, Puts, Reads, Sends, behind, decided_after}
+use Rattle.pg_spec.specs.Meanings.{Ending, Meaning}
+use Rattle.pg_promises.specs.Calls.{Call, apart}
 use Rattle.pg_promises.specs.Causes.{OfDialogue, startup_after}
-use Rattle.pg_failed.specs.Kept.{AsksAtOnce, BeginsWithRequest, HasNoCopy, NoneKeptBack}
-use Rattle.pg_failed.specs.Sent.{AreBegun, AskedInOrder, InScriptOrder, SentInOrder, course_so_far, outcome_in, parts_of}
+use Rattle.pg_promises.specs.Kept.{AsksAtOnce, BeginsWithRequest, HasNoCopy, NoneKeptBack}
+use Rattle.pg_promises.specs.Sent.{AreBegun, AskedInOrder, InScriptOrder, SentInOrder, course_so_far, outcome_in, parts_of}
 use Rattle.pg_table.proofs.Renamed.{some-back}
 
 -- the same outcome, whose answer is told so

@@ -9,18 +9,18 @@ use Rattle.pg_client.specs.Done.{batch_by, batch_execute, batch_reading, check_c
 use Rattle.pg_client.specs.Simple.{answer_from, asks_by as asks_of, simple_query, told}
 use Rattle.pg_client.proofs.Done.{batch-free, done-free}
 use Rattle.pg_client.proofs.Leaving.{query-free}
-use Rattle.pg_faults.specs.declared.error.Error.{Error}
-use Rattle.pg_lookup.specs.Lookups.{clear, find_all, prepare}
-use Rattle.pg_lookup_laws.proofs.Commands.{IsTaken, answers, clearing, preparing-text}
+use Rattle.pg_types.specs.declared.error.Error.{Error}
+use Rattle.pg_core.specs.Lookups.{clear, find_all, prepare}
+use Rattle.pg_query_laws.proofs.Commands.{IsTaken, answers, clearing, preparing-text}
 use Rattle.pg_execute.specs.Executes as execution
 use Rattle.pg_execute.specs.declared.how_many.HowMany.{HowMany}
 use Rattle.pg_execute.specs.declared.how_many.HowMany.TheVariants.{Any, AtMostOne, One}
-use Rattle.pg_execute_laws.proofs.Commands.{closes-taken, executes-taken, on-text, queries-taken, raw-queries-taken, scalars-taken}
+use Rattle.pg_query_laws.proofs.ExecutionCommands.{closes-taken, executes-taken, on-text, queries-taken, raw-queries-taken, scalars-taken}
 use Rattle.pg_execute.specs.Typed.{execute_typed, query_typed}
-use Rattle.pg_typed.specs.Types.{built_in_types}
-use Rattle.pg_typed_laws.proofs.Commands.{typed-executes-taken, typed-queries-taken}
-use Rattle.pg_typed_states.specs.Paired.{paired}
-use Rattle.pg_statements.specs.declared.statement.Described.{Described}
+use Rattle.pg_execute.specs.Types.{built_in_types}
+use Rattle.pg_query_laws.proofs.TypedCommands.{typed-executes-taken, typed-queries-taken}
+use Rattle.pg_states.specs.Paired.{paired}
+use Rattle.pg_desk.specs.declared.statement.Described.{Described}
 use Rattle.pg_types.specs.declared.value.Value.{Value}
 use Rattle.pg_text.specs.declared.command.CommandTarget.{CommandTarget}
 use Rattle.pg_text.specs.declared.command.CommandTarget.TheVariants as target
@@ -34,14 +34,14 @@ use Rattle.pg_query.specs.declared.desk_call.Reply.{Reply}
 use Rattle.pg_query.specs.declared.simple_message.SimpleMessage.{SimpleMessage}
 use Rattle.pg_text.specs.declared.command.Answer.{Answer}
 use Rattle.pg_text.specs.declared.command.Command.TheVariants as command
-use Rattle.pg_course.specs.Dialogues.{Answers, Asks, Dialogue, Reads, behind}
-use Rattle.pg_course.specs.Meanings.{Ending}
-use Rattle.pg_course.specs.Simples.{AreSimple, asks_by, told_or}
-use Rattle.pg_course.specs.Simples as simples
+use Rattle.pg_spec.specs.Dialogues.{Answers, Asks, Dialogue, Reads, behind}
+use Rattle.pg_spec.specs.Meanings.{Ending}
+use Rattle.pg_spec.specs.Simples.{AreSimple, asks_by, told_or}
+use Rattle.pg_spec.specs.Simples as simples
 use Rattle.pg_core.specs.Outcomes.{asked}
 use Rattle.pg_core.specs.Times.{IsCommand}
 use Rattle.pg_core.proofs.Requests.{request-so}
-use Rattle.pg_turns.specs.Speeches.{AreCommands, BookWhole, BooksWhole, IsWholeRequest, LetGo, meaning_of}
+use Rattle.pg_session.specs.Speeches.{AreCommands, BookWhole, BooksWhole, IsWholeRequest, LetGo, meaning_of}
 use Rattle.pg_table.specs.Mapped.{mapped, mapped_answer}
 use Rattle.pg_table.specs.Slots.{Slots, statement_in}
 use Rattle.pg_table.specs.Table.{in_count, in_done, in_messages, in_rows, in_scalars, in_statement, kept_answer, says_close, says_execute, says_execute_typed, says_query, says_query_raw, says_query_scalar, says_query_typed, table, simply}

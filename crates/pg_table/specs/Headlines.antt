@@ -9,14 +9,14 @@ use Rattle.pg_text.specs.declared.command.Answer.{Answer}
 use Rattle.pg_text.specs.declared.command.Command.{Command}
 use Rattle.pg_text.specs.declared.report.Report.{Report}
 use Rattle.pg_errors.specs.Views.{async_of}
-use Rattle.pg_course.specs.Dialogues.{Answers, Dialogue, behind}
-use Rattle.pg_course.specs.Meanings.{Ending, Meaning}
-use Rattle.pg_course.specs.Simples.{simple_query}
+use Rattle.pg_spec.specs.Dialogues.{Answers, Dialogue, behind}
+use Rattle.pg_spec.specs.Meanings.{Ending, Meaning}
+use Rattle.pg_spec.specs.Simples.{simple_query}
 use Rattle.pg_core.specs.Counters.{tells}
 use Rattle.pg_core.specs.Trails.{said_booking}
-use Rattle.pg_headline.specs.Endings as ending
-use Rattle.pg_headline.specs.Endings.{Session}
-use Rattle.pg_failed.specs.Calls.{Call}
+use Rattle.pg_promises.specs.Endings as ending
+use Rattle.pg_promises.specs.Endings.{Session}
+use Rattle.pg_promises.specs.Calls.{Call}
 use Rattle.pg_promises.specs.Causes as landed
 use Rattle.pg_table.specs.Slots.{Slots}
 use Rattle.pg_table.specs.Table.{table}

@@ -4,3 +4,7 @@ pub mod Targets
 pub mod Table
 pub mod States
 pub mod Headlines
+pub mod Reads
+pub mod Names
+pub mod Told
+pub mod KeptApart

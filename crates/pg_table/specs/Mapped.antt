@@ -1,6 +1,6 @@
 -- A command whose answer is told in other words.
 use Rattle.std.specs.Prelude.{Result, Ok, Err}
-use Rattle.pg_faults.specs.declared.error.Error.{Error}
+use Rattle.pg_types.specs.declared.error.Error.{Error}
 use Rattle.pg_query.specs.Dialogue.{Dialogue, Answer, Ask, Send, Leave, Read, Put, Finish, Close, HangUp, Call, Hear}
 use Rattle.pg_query.specs.Meaning.{Place}
 use Rattle.futures.specs.declared.task.Poll.{Poll}

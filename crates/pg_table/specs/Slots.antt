@@ -1,6 +1,6 @@
 -- What a script keeps between its commands: its prepared statements, by the numbers of their slots.
 use Rattle.std.specs.Prelude.{ℕ, ◌==◌, List, [], ◌∷◌, ◌++◌, filter, not, if◌then◌else◌, Option, Some, None}
-use Rattle.pg_statements.specs.declared.statement.Described.{Described as Statement}
+use Rattle.pg_desk.specs.declared.statement.Described.{Described as Statement}
 use Rattle.pg_table.specs.declared.slots.Slot.{Slot}
 
 -- the slots of a script that hold a statement

@@ -1,30 +1,30 @@
 -- The commands of a script: what each asks, and what is kept of its answer.
 use Rattle.std.specs.Prelude.{ℕ, List, [], length, Option, Some, None, Result, Ok, Err}
-use Rattle.pg_faults.specs.declared.error.Error.{Error}
+use Rattle.pg_types.specs.declared.error.Error.{Error}
 use Rattle.pg_client.specs.Done.{batch_execute, check_connection}
 use Rattle.pg_client.specs.Simple.{answer_from, simple_query}
-use Rattle.pg_course.specs.Simples.{Simply}
+use Rattle.pg_spec.specs.Simples.{Simply}
 use Rattle.pg_execute.specs.Executes as execution
 use Rattle.pg_execute.specs.Typed.{execute_typed, query_typed}
 use Rattle.pg_execute.specs.declared.how_many.HowMany.{HowMany}
 use Rattle.pg_execute.specs.declared.how_many.HowMany.TheVariants.{Any, AtMostOne, One}
 use Rattle.pg_execute.specs.declared.result_set.ResultSet.{ResultSet}
-use Rattle.pg_lookup.specs.Lookups.{clear, find_all, prepare}
+use Rattle.pg_core.specs.Lookups.{clear, find_all, prepare}
 use Rattle.pg_query.specs.Dialogue.{Dialogue}
 use Rattle.pg_query.specs.declared.simple_message.SimpleMessage.{SimpleMessage}
-use Rattle.pg_statements.specs.declared.statement.Described.{Described}
+use Rattle.pg_desk.specs.declared.statement.Described.{Described}
 use Rattle.pg_text.specs.declared.command.Answer.{Answer}
 use Rattle.pg_text.specs.declared.command.Answer.TheVariants as answer
 use Rattle.pg_text.specs.declared.command.Command.{Command}
 use Rattle.pg_text.specs.declared.command.Command.TheVariants as command
 use Rattle.pg_text.specs.declared.command.CommandTarget.{CommandTarget}
 use Rattle.pg_text.specs.declared.command.TypedText.{TypedText}
-use Rattle.pg_typed.specs.Types.{built_in_types}
-use Rattle.pg_typed_states.specs.Paired.{paired}
+use Rattle.pg_execute.specs.Types.{built_in_types}
+use Rattle.pg_states.specs.Paired.{paired}
 use Rattle.pg_types.specs.declared.value.Value.{Value}
-use Rattle.pg_turns.specs.Handles.{HandleState}
-use Rattle.pg_turns.specs.Speeches.{Speech}
-use Rattle.pg_turns.specs.States.{SessionState}
+use Rattle.pg_session.specs.Handles.{HandleState}
+use Rattle.pg_session.specs.Speeches.{Speech}
+use Rattle.pg_session.specs.States.{SessionState}
 use Rattle.pg_table.specs.Mapped.{mapped, mapped_answer}
 use Rattle.pg_table.specs.Slots.{Slots, statement_in, with_statement, without}
 use Rattle.pg_table.specs.Targets.{on_target, or_missing}

@@ -1,12 +1,12 @@
 -- What a command executes: the statement in a slot of its script, or a text.
 use Rattle.std.specs.Prelude.{◌≡◌, Option, Some, None, Err}
-use Rattle.pg_faults.specs.declared.error.Error.TheVariants.{Missing}
+use Rattle.pg_types.specs.declared.error.Error.TheVariants.{Missing}
 use Rattle.pg_execute.specs.Executes.{on_text}
 use Rattle.pg_execute.specs.declared.target.Target.{Target}
 use Rattle.pg_execute.specs.declared.target.Target.TheVariants.{Query, Owned}
-use Rattle.pg_executed.specs.Texts.{prepare_text}
+use Rattle.pg_states.specs.Texts.{prepare_text}
 use Rattle.pg_query.specs.Dialogue.{Dialogue, Answer}
-use Rattle.pg_statements.specs.declared.statement.Described.{Described}
+use Rattle.pg_desk.specs.declared.statement.Described.{Described}
 use Rattle.pg_text.specs.declared.command.CommandTarget.{CommandTarget}
 use Rattle.pg_text.specs.declared.command.CommandTarget.TheVariants.{Slot, Text}
 use Rattle.pg_table.specs.Slots.{Slots, statement_in}

@@ -1,12 +1,12 @@
 //! What is promised over any commands, of those of the table. Each body does nothing.
 
 ghost use Rattle.std.specs.Prelude.{◌≡◌, ◌≢◌, ℕ, List, Result, None, Some};
-ghost use Rattle.pg_course.specs.Simples.{AreSimple, Headline};
-ghost use Rattle.pg_failed.specs.Calls.{Call};
-ghost use Rattle.pg_failed.specs.Kept.{NoneKeptBack};
-ghost use Rattle.pg_failed.specs.Sent.{SentInOrder};
-ghost use Rattle.pg_headline.specs.Endings.{EndedWell, IsRun, Report, Session, course_of, replies};
-ghost use Rattle.pg_headline.specs.Landed.{report_of, session_of};
+ghost use Rattle.pg_spec.specs.Simples.{AreSimple, Headline};
+ghost use Rattle.pg_promises.specs.Calls.{Call};
+ghost use Rattle.pg_promises.specs.Kept.{NoneKeptBack};
+ghost use Rattle.pg_promises.specs.Sent.{SentInOrder};
+ghost use Rattle.pg_promises.specs.Endings.{EndedWell, IsRun, Report, Session, course_of, replies};
+ghost use Rattle.pg_promises.specs.Landed.{report_of, session_of};
 ghost use Rattle.pg_promises.specs.EndedWell as simple;
 ghost use Rattle.pg_promises.specs.Promises as promised;
 ghost use Rattle.pg_spec.specs.Faults.{Failure};
@@ -16,8 +16,8 @@ ghost use Rattle.pg_spec.specs.Turns.{Times};
 ghost use Rattle.pg_text.specs.Views.{as_scripts};
 ghost use Rattle.pg_text.specs.declared.command.Answer.{Answer};
 ghost use Rattle.pg_text.specs.declared.command.Command.{Command};
-ghost use Rattle.pg_statements.specs.declared.statement.Described.{Described as Statement};
-ghost use Rattle.pg_turns.specs.Speeches.{AreCommands, BookWhole, LetGo, meaning_of};
+ghost use Rattle.pg_desk.specs.declared.statement.Described.{Described as Statement};
+ghost use Rattle.pg_session.specs.Speeches.{AreCommands, BookWhole, LetGo, meaning_of};
 ghost use Rattle.pg_table.specs.Headlines.{AnsweredSimply, simple_call, simple_meaning, simple_session, simple_words};
 ghost use Rattle.pg_table.specs.Slots.{Slots, statement_in, with_statement, without};
 ghost use Rattle.pg_table.specs.Table.{simply, table};

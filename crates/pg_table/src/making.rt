@@ -3,7 +3,7 @@
 ghost use Rattle.std.specs.Prelude.{◌≡◌, Err, IfErr, IfOk, MatchResult};
 ghost use Rattle.pg_client.specs.Done as done;
 ghost use Rattle.pg_client.specs.Simple as simple;
-ghost use Rattle.pg_lookup.specs.Lookups as lookups;
+ghost use Rattle.pg_core.specs.Lookups as lookups;
 ghost use Rattle.pg_query.specs.Dialogue.{Answer};
 ghost use Rattle.pg_table.specs.Mapped.{mapped};
 ghost use Rattle.pg_table.specs.States.{IsLive, place_of};
@@ -15,12 +15,11 @@ use crate::state::AnyState;
 use pg_client::{BatchExecuteState, CheckConnectionState, SimpleQueryState};
 use pg_errors::Error;
 use pg_execute::{HowMany, Target};
-use pg_executed::{
-    CloseState, ExecuteState, FirstRowsState, MissingState, QueryScalarState, QueryState,
+use pg_states::{
+    ClearState, CloseState, ExecuteState, ExecuteTypedState, FirstRowsState, MissingState,
+    PrepareState, QueryScalarState, QueryState, QueryTypedState,
 };
-use pg_prepared::{ClearState, PrepareState};
 use pg_text::{Command, CommandTarget, TypedText};
-use pg_typed_states::{ExecuteTypedState, QueryTypedState};
 use pg_types::{List, Oid, Text, Value};
 use std::alloc::Global;
 

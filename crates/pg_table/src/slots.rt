@@ -3,7 +3,7 @@
 ghost use Rattle.std.specs.Prelude.{◌≡◌, [], MatchResult, option_map};
 ghost use Rattle.pg_table.specs.Slots.{statement_in, with_statement, without};
 
-use pg_statements::Statement;
+use pg_desk::Statement;
 use pg_types::OutOfMemory;
 use std::alloc::Global;
 use std::marker::Model;

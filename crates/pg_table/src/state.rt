@@ -7,17 +7,15 @@ ghost use Rattle.pg_table.specs.Table.{in_count, in_done, in_messages, in_rows, 
 use crate::slots::Slots;
 use futures::task::Poll;
 use pg_client::{BatchExecuteState, CheckConnectionState, SimpleQueryState};
-use pg_desk::{Desk, Stamp};
+use pg_desk::{Desk, Stamp, Statement};
 use pg_errors::Error;
 use pg_execute::ResultSet;
-use pg_executed::{
-    CloseState, ExecuteState, FirstRowsState, MissingState, QueryScalarState, QueryState,
-};
-use pg_prepared::{ClearState, PrepareState};
 use pg_query::{Polled, SimpleMessage};
-use pg_statements::Statement;
+use pg_states::{
+    ClearState, CloseState, ExecuteState, ExecuteTypedState, FirstRowsState, MissingState,
+    PrepareState, QueryScalarState, QueryState, QueryTypedState,
+};
 use pg_text::{Answer, Command};
-use pg_typed_states::{ExecuteTypedState, QueryTypedState};
 use pg_types::{List, Value};
 use std::alloc::Global;
 

@@ -3,7 +3,7 @@ use Rattle.std.proofs.Common.{◌≡◌, ℕ, List, [], ◌∷◌, ◌++◌, map
 use Rattle.std.specs.List.{join_with_byte}
 use Rattle.std.proofs.lemmas.Grind.{common_steps}
 use Rattle.hex.specs.Hex.{encode_with}
-use Rattle.pg_statements.specs.declared.statement.Described.{Described}
+use Rattle.pg_desk.specs.declared.statement.Described.{Described}
 use Rattle.pg_text.specs.ReportText.{answer_lines, answer_words, further_lines}
 use Rattle.pg_text.specs.Written.{Adds, answered, behind_spaces}
 use Rattle.pg_text.specs.declared.command.Answer.{Answer}

@@ -8,7 +8,7 @@ use Rattle.pg_errors.specs.Views.{async_of}
 use Rattle.pg_types.specs.declared.pg_type.PgType.{PgType}
 use Rattle.pg_types.specs.declared.value.Value.{Value}
 use Rattle.pg_types.specs.declared.value.Value.TheVariants.{Bool, Bytes, Int, Null, Text}
-use Rattle.pg_statements.specs.declared.column.Column.{Column}
+use Rattle.pg_desk.specs.declared.column.Column.{Column}
 use Rattle.pg_text.specs.declared.command.Answer.{Answer}
 use Rattle.pg_text.specs.declared.command.Answer.TheVariants.{Count, Done, Failed, Messages, Rows, Scalars, Statement}
 use Rattle.pg_text.specs.declared.report.Report.{Report}

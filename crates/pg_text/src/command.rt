@@ -1,9 +1,9 @@
 //! Commands of a script, and what they answer.
 
+use pg_desk::Statement;
 use pg_errors::Error;
 use pg_query::SimpleMessage;
 use pg_rows::RowCells;
-use pg_statements::Statement;
 use pg_types::{List, Oid, Text, Value};
 
 /// What a command executes.

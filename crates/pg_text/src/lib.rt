@@ -23,10 +23,10 @@ pub use laws::{
     simple_texts_stay,
 };
 pub use parse::session_text;
+pub use pg_desk::Statement;
 pub use pg_query::{Cells, SimpleMessage};
 pub use pg_rows::RowCells;
 pub use pg_spec::TurnMark;
-pub use pg_statements::Statement;
 pub use print::{error_text, report_text};
 pub use report::{Pair, Report};
 pub use scripts::Scripts;

@@ -14,12 +14,11 @@ ghost use Rattle.pg_text.specs.Written.{Adds};
 use crate::command::Answer;
 use crate::put::{put, put_hex, put_int, put_number, put_quoted, put_signed};
 use crate::report::{Pair, Report};
-use pg_desk::{Booking, Stamp};
+use pg_desk::{Booking, Column, Stamp, Statement};
 use pg_errors::{AsyncMessage, DbError, Error, Notification};
 use pg_query::SimpleMessage;
 use pg_rows::RowCells;
 use pg_spec::TurnMark;
-use pg_statements::{Column, Statement};
 use pg_types::{Blob, List, OutOfMemory, Text, Type, Value};
 use std::alloc::Global;
 

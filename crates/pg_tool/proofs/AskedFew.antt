@@ -11,7 +11,7 @@ use Rattle.pg_promises.specs.Promises.{IsFront, SentInOrder, requests_in}
 use Rattle.pg_spec.specs.RawMessages.{messages}
 use Rattle.pg_spec.specs.Sent.{turns_given}
 use Rattle.pg_spec.specs.Startup.{Startup, Done, First, begun_by, dialogue, plain_login}
-use Rattle.pg_login.specs.Steps.{frame_of}
+use Rattle.pg_startup.specs.Steps.{frame_of}
 use Rattle.pg_session.proofs.Complete.Bytes.{none-front}
 use Rattle.pg_session.proofs.Opening.Passwords.{ArePasswords, dialogue-passwords}
 use Rattle.pg_session.proofs.Opening.Sent.{cut-front}

@@ -2,14 +2,14 @@
 use Rattle.std.proofs.Common.{◌≡◌, ◌≤◌, ℕ, inl, List, [], ◌∷◌, length, Result, Err, refl, sym, arith}
 use Rattle.std.specs.Prelude.{IsFalse, IsSome, ⊤}
 use Rattle.std.proofs.lemmas.List.Elements.{All-nil}
-use Rattle.pg_failed.specs.Calls.{Call, apart}
-use Rattle.pg_failed.specs.Completeness.{MustEndWell}
-use Rattle.pg_failed.specs.Kept.{NoneKeptBack}
-use Rattle.pg_failed.specs.Landed.{has_flush}
-use Rattle.pg_failed.specs.Sent.{AskedInOrder, InScriptOrder, SentInOrder, course_so_far}
-use Rattle.pg_faults.specs.declared.error.Error.{Error}
-use Rattle.pg_faults.specs.declared.error.Error.TheVariants as error
-use Rattle.pg_headline.specs.Endings.{IsRun, Report}
+use Rattle.pg_promises.specs.Calls.{Call, apart}
+use Rattle.pg_promises.specs.Completeness.{MustEndWell}
+use Rattle.pg_promises.specs.Kept.{NoneKeptBack}
+use Rattle.pg_promises.specs.FailedLanded.{has_flush}
+use Rattle.pg_promises.specs.Sent.{AskedInOrder, InScriptOrder, SentInOrder, course_so_far}
+use Rattle.pg_types.specs.declared.error.Error.{Error}
+use Rattle.pg_types.specs.declared.error.Error.TheVariants as error
+use Rattle.pg_promises.specs.Endings.{IsRun, Report}
 use Rattle.pg_promises.specs.Causes as landed
 use Rattle.pg_promises.specs.Causes.{HasCause, NeedsNoTls, OfDialogue, WithSettings}
 use Rattle.pg_promises.specs.ConnectionStrings.{Means}
@@ -18,15 +18,15 @@ use Rattle.pg_spec.specs.Links.{LinkView, OfBytes}
 use Rattle.pg_spec.specs.Settings.{Settings}
 use Rattle.pg_spec.specs.Startup.{plain_login}
 use Rattle.pg_spec.specs.Turns.{entry_at}
-use Rattle.pg_course.specs.Courses.{Course}
+use Rattle.pg_spec.specs.Courses.{Course}
 use Rattle.pg_query.specs.declared.desk_call.DeskCall.{DeskCall}
 use Rattle.pg_query.specs.declared.desk_call.Reply.{Reply}
 use Rattle.pg_startup.specs.Startups.{Failed}
 use Rattle.pg_startup.specs.declared.startup.Startup.{Startup}
 use Rattle.pg_text.specs.declared.command.Answer.{Answer}
 use Rattle.pg_text.specs.declared.command.Command.{Command}
-use Rattle.pg_turns.specs.Sessions.{HasPlayed}
-use Rattle.pg_turns.specs.Speeches.{meaning_of}
+use Rattle.pg_session.specs.Sessions.{HasPlayed}
+use Rattle.pg_session.specs.Speeches.{meaning_of}
 use Rattle.pg_wire.specs.LinkCalls.{Continues, Tells}
 use Rattle.pg_session.specs.Failures.{HasBroken, StopsOpening, WasOpened, WasOver}
 use Rattle.pg_session.specs.WholeSession.{EndsWell, IsClosed, LeavesOpen, WasClosed}

@@ -4,8 +4,8 @@ use Rattle.pg_promises.specs.Causes.{Call, HasCause, NeedsNoTls}
 use Rattle.pg_promises.specs.ConnectionStrings.{Means}
 use Rattle.pg_spec.specs.Settings.{Settings}
 use Rattle.pg_startup.specs.declared.startup.Startup.{Startup}
-use Rattle.pg_faults.specs.declared.error.Error.{Error}
-use Rattle.pg_faults.specs.declared.error.Error.TheVariants as error
+use Rattle.pg_types.specs.declared.error.Error.{Error}
+use Rattle.pg_types.specs.declared.error.Error.TheVariants as error
 use Rattle.pg_session.proofs.Stalled.Start.{stalled-start}
 use Rattle.pg_session.proofs.Caused.Start.{made_cause, start_cause}
 use Rattle.pg_text.specs.declared.command.Command.{Command}

@@ -2,12 +2,12 @@
 use Rattle.std.proofs.Common.{◌≡◌, ℕ, suc, ◌+◌, ◌<◌, ◌≤◌, ◌||◌, Bool, false, true, Some, refl, List, [], ◌∷◌, ◌++◌, length, take, drop, sym, ◌∙◌, ap, subst, append-nil, append_assoc, take-append-drop, take_all, Result, Ok, Err, OnOk, arith, inl, inr}
 use Rattle.std.proofs.Math.ListN.{get_or}
 use Rattle.std.proofs.Math.Seq.{take-suc}
-use Rattle.pg_faults.specs.declared.error.Error.{Error}
+use Rattle.pg_types.specs.declared.error.Error.{Error}
 use Rattle.pg_spec.specs.Links.{LinkView}
-use Rattle.pg_turns.specs.Sessions.{EndsWith, MakesAll, Plays, Rests, StaysAll, numbers, rounds}
+use Rattle.pg_session.specs.Sessions.{EndsWith, MakesAll, Plays, Rests, StaysAll, numbers, rounds}
 use Rattle.pg_table.specs.Table.{TableSession, table}
-use Rattle.pg_turns.specs.Turns.{Makes, Turns}
-use Rattle.pg_turns.proofs.Order.{makes_all_one, makes_all_then, makes_none, rests_none}
+use Rattle.pg_session.specs.Turns.{Makes, Turns}
+use Rattle.pg_session.proofs.Order.{makes_all_one, makes_all_then, makes_none, rests_none}
 use Rattle.pg_text.specs.declared.command.Command.{Command}
 use Rattle.pg_tool.specs.Plays.{RoundsEnd, RoundsMade}
 

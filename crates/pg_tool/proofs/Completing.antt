@@ -11,7 +11,7 @@ use Rattle.pg_spec.specs.Settings.{Settings}
 use Rattle.pg_promises.proofs.Strings.{means_one}
 use Rattle.pg_wire.specs.LinkCalls.{Continues, Tells}
 use Rattle.pg_wire.specs.Streams.{SinkView}
-use Rattle.pg_faults.specs.declared.error.Error.{Error}
+use Rattle.pg_types.specs.declared.error.Error.{Error}
 use Rattle.pg_text.specs.ReportText.{report_text}
 use Rattle.pg_text.specs.Sessions.{as_session}
 use Rattle.pg_text.specs.SessionText.{IsSessionText, SessionText}
@@ -20,12 +20,12 @@ use Rattle.pg_text.proofs.ReadLaws.{one_session, refused_is_none}
 use Rattle.pg_text.proofs.SimpleReports.{prints-simply}
 use Rattle.pg_text.proofs.SimpleTexts.{text-as}
 use Rattle.pg_session.proofs.Complete.Course.{in-plan, of-some}
-use Rattle.pg_failed.specs.Calls as any
-use Rattle.pg_failed.specs.Completeness as must
-use Rattle.pg_failed.specs.Sent.{SentInOrder}
-use Rattle.pg_headline.specs.Endings.{Report as Told}
+use Rattle.pg_promises.specs.Calls as any
+use Rattle.pg_promises.specs.Completeness as must
+use Rattle.pg_promises.specs.Sent.{SentInOrder}
+use Rattle.pg_promises.specs.Endings.{Report as Told}
 use Rattle.pg_table.specs.Table.{table}
-use Rattle.pg_turns.specs.Speeches.{meaning_of}
+use Rattle.pg_session.specs.Speeches.{meaning_of}
 use Rattle.pg_text.specs.declared.command.Answer.{Answer}
 use Rattle.pg_text.specs.declared.command.Command.{Command}
 use Rattle.pg_tool.proofs.AtTable.{must-end-well}

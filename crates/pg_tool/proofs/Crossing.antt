@@ -5,8 +5,8 @@ use Rattle.pg_spec.specs.Links.{LinkView}
 use Rattle.pg_wire.specs.LinkCalls.{Continues}
 use Rattle.pg_connect.specs.Calm.{StaysCalm}
 use Rattle.pg_connect.proofs.Calm.{calm_same}
-use Rattle.pg_faults.specs.declared.error.Error.{Error}
-use Rattle.pg_faults.specs.declared.error.Error.TheVariants as error
+use Rattle.pg_types.specs.declared.error.Error.{Error}
+use Rattle.pg_types.specs.declared.error.Error.TheVariants as error
 use Rattle.pg_session.specs.Failures.{PauseFails}
 use Rattle.pg_tool.specs.Plays.{Crosses, IsLater}
 use Rattle.pg_tool.proofs.Following.{continues_same}

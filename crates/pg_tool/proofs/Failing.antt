@@ -4,17 +4,17 @@ use Rattle.std.specs.Prelude.{IsTrue}
 use Rattle.futures.specs.declared.task.Poll.{Poll}
 use Rattle.futures.specs.declared.task.Poll.TheVariants.{Ready, Pending}
 use Rattle.pg_errors.specs.declared.async_message.AsyncMessage.{AsyncMessage}
-use Rattle.pg_faults.specs.declared.error.Error.{Error}
-use Rattle.pg_faults.specs.declared.error.Error.TheVariants as error
+use Rattle.pg_types.specs.declared.error.Error.{Error}
+use Rattle.pg_types.specs.declared.error.Error.TheVariants as error
 use Rattle.pg_spec.specs.Links.{LinkView}
 use Rattle.pg_wire.specs.LinkCalls.{SameBytes, SameWriting}
 use Rattle.pg_connect.proofs.Calm.{calm_then}
 use Rattle.pg_connect.specs.Calm.{StaysCalm}
 use Rattle.pg_session.specs.Failures.{BreaksOff, GivesOut, HasFailed, IsFine, PauseFails, RunsShort, TurnFails}
-use Rattle.pg_turns.specs.Sessions.{MakesAll, rounds}
+use Rattle.pg_session.specs.Sessions.{MakesAll, rounds}
 use Rattle.pg_table.specs.Table.{TableSession, table}
-use Rattle.pg_turns.specs.Turns.{HandsOn}
-use Rattle.pg_turns.proofs.Order.{makes_all_then}
+use Rattle.pg_session.specs.Turns.{HandsOn}
+use Rattle.pg_session.proofs.Order.{makes_all_then}
 use Rattle.pg_text.specs.declared.command.Command.{Command}
 use Rattle.pg_tool.specs.Plays.{ConnectionPolled, RoundFails, RoundWhole, RoundsMade, is_over}
 

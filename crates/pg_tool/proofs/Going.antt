@@ -7,13 +7,13 @@ use Rattle.pg_spec.specs.Links.{LinkView}
 use Rattle.pg_connect.specs.Answers.{IsWithinPoll, PollAnswers}
 use Rattle.pg_connect.specs.declared.streams.Streams.{Streams}
 use Rattle.pg_errors.specs.declared.async_message.AsyncMessage.{AsyncMessage}
-use Rattle.pg_faults.specs.declared.error.Error.{Error}
+use Rattle.pg_types.specs.declared.error.Error.{Error}
 use Rattle.pg_hub.specs.Fits.{HubBecomes}
 use Rattle.pg_hub.specs.Standing.{Standing}
 use Rattle.pg_text.specs.declared.command.Command.{Command}
 use Rattle.pg_session.specs.Measure.{IsNearer}
 use Rattle.pg_table.specs.Table.{TableSession, table}
-use Rattle.pg_turns.specs.Turns.{HandsOn, Makes, Turns}
+use Rattle.pg_session.specs.Turns.{HandsOn, Makes, Turns}
 use Rattle.pg_session.proofs.Nearer.{answered-nearer, nearer-so}
 use Rattle.pg_session.proofs.Nearer.Puts.{whole-put-none}
 use Rattle.pg_table.proofs.SimpleMeans.{book-whole}

@@ -6,12 +6,12 @@ use Rattle.pg_promises.specs.ConnectionStrings.{Means}
 use Rattle.pg_spec.specs.Settings.{Settings}
 use Rattle.pg_spec.specs.Faults.{LimitReached}
 use Rattle.pg_spec.specs.Links.{LinkView, OfBytes, added}
-use Rattle.pg_failed.specs.Calls as any
-use Rattle.pg_failed.specs.Calls.{apart}
-use Rattle.pg_headline.specs.Endings as ending
+use Rattle.pg_promises.specs.Calls as any
+use Rattle.pg_promises.specs.Calls.{apart}
+use Rattle.pg_promises.specs.Endings as ending
 use Rattle.pg_text.specs.declared.command.Answer.{Answer}
-use Rattle.pg_faults.specs.declared.error.Error.{Error}
-use Rattle.pg_faults.specs.declared.error.Error.TheVariants as error
+use Rattle.pg_types.specs.declared.error.Error.{Error}
+use Rattle.pg_types.specs.declared.error.Error.TheVariants as error
 use Rattle.pg_startup.specs.declared.startup.Startup.{Startup}
 use Rattle.pg_session.proofs.LimitsKept.{HoldsLimit, holds-failed, holds-stopped, holds-untouched}
 use Rattle.pg_text.specs.declared.command.Command.{Command}

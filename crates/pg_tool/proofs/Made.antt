@@ -2,20 +2,20 @@
 use Rattle.std.proofs.Common.{◌≡◌, ◌≤◌, ◌<◌, ℕ, suc, inl, inr, List, take, None, option_map, arith, [], ◌∷◌, ◌++◌, length, map, Bool, Option, Some, IfOk, OnOk, Result, Ok, Err, slice_get, slice_set, refl, sym, ◌∙◌, ap, subst}
 use Rattle.std.proofs.Math.Seq.{take-append_seam}
 use Rattle.std.specs.List.{All}
-use Rattle.pg_faults.specs.declared.error.Error.{Error}
+use Rattle.pg_types.specs.declared.error.Error.{Error}
 use Rattle.pg_hub.specs.Fits.{HubBecomes}
 use Rattle.pg_hub.specs.Standing.{Standing}
-use Rattle.pg_turns.specs.Turns.{HandleTurns}
+use Rattle.pg_session.specs.Turns.{HandleTurns}
 use Rattle.pg_connect.specs.Answers.{PollAnswers}
 use Rattle.pg_spec.specs.Links.{LinkView}
-use Rattle.pg_turns.specs.Turns.{ClosesBehind, ConnectionTurn, HandsOn, Turns, left_behind, moved_by, moved_in_poll, untouched}
-use Rattle.pg_turns.specs.declared.handle_turn.Polling.{Polling}
+use Rattle.pg_session.specs.Turns.{ClosesBehind, ConnectionTurn, HandsOn, Turns, left_behind, moved_by, moved_in_poll, untouched}
+use Rattle.pg_session.specs.declared.handle_turn.Polling.{Polling}
 use Rattle.pg_text.specs.declared.command.Command.{Command}
 use Rattle.pg_tool.specs.declared.handle.Handle.{Handle}
 use Rattle.pg_tool.specs.declared.play.Play.{Play}
 use Rattle.pg_table.specs.States.{place_of}
-use Rattle.pg_turns.specs.States.{new_handles}
-use Rattle.pg_turns.specs.Handles.{idle_handle}
+use Rattle.pg_session.specs.States.{new_handles}
+use Rattle.pg_session.specs.Handles.{idle_handle}
 use Rattle.pg_table.specs.Table.{TableSession, table}
 use Rattle.pg_tool.specs.Handles.{IsIdleHandle, OneTurned, view_of}
 use Rattle.pg_tool.specs.Plays.{ConnectionPolled, HandlePolled, is_over, state_of}

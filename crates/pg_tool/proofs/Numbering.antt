@@ -4,8 +4,8 @@ use Rattle.std.specs.Prelude.{not}
 use Rattle.pg_connect.specs.Passes.{goodbye}
 use Rattle.pg_query.specs.Meaning.{Place}
 use Rattle.pg_session.specs.Measure.{Left, IsLess, LessUnread, FewerCommands, LessUnsent, IsNearer, left_to_do, script_left, scripts_left}
-use Rattle.pg_turns.specs.Handles.{HandleState}
-use Rattle.pg_turns.specs.States.{SessionState}
+use Rattle.pg_session.specs.Handles.{HandleState}
+use Rattle.pg_session.specs.States.{SessionState}
 use Rattle.pg_text.specs.Scripts.{AreScripts, AreShort}
 use Rattle.pg_text.specs.declared.command.Command.{Command}
 use Rattle.pg_tool.specs.declared.play.Play.{Play}

@@ -5,12 +5,12 @@ use Rattle.pg_hub.specs.Fits.{HubBecomes}
 use Rattle.pg_spec.specs.Links.{LinkView}
 use Rattle.pg_spec.specs.declared.stamps.Stamp.{Stamp}
 use Rattle.pg_text.specs.declared.command.Command.{Command}
-use Rattle.pg_turns.specs.Handles.{idle_handle}
-use Rattle.pg_turns.specs.Sessions.{IsNewSession}
-use Rattle.pg_turns.specs.States.{new_handles}
-use Rattle.pg_turns.specs.Turns.{HandleTurns, Makes, untouched}
-use Rattle.pg_turns.specs.declared.handle_turn.Polling.{Polling}
-use Rattle.pg_turns.specs.declared.handle_turn.Polling.TheVariants as polling
+use Rattle.pg_session.specs.Handles.{idle_handle}
+use Rattle.pg_session.specs.Sessions.{IsNewSession}
+use Rattle.pg_session.specs.States.{new_handles}
+use Rattle.pg_session.specs.Turns.{HandleTurns, Makes, untouched}
+use Rattle.pg_session.specs.declared.handle_turn.Polling.{Polling}
+use Rattle.pg_session.specs.declared.handle_turn.Polling.TheVariants as polling
 use Rattle.pg_table.specs.Table.{TableHandle, TableSession, table}
 use Rattle.pg_tool.specs.declared.handle.Handle.{Handle}
 use Rattle.pg_tool.specs.Handles.{AreOnScripts, IsOnScript, view_of}

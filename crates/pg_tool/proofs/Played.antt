@@ -5,11 +5,11 @@ use Rattle.pg_startup.specs.Startups.{Opened}
 use Rattle.pg_startup.specs.StartupPolls.{IsFresh}
 use Rattle.pg_startup.specs.declared.startup.Startup.{Startup}
 use Rattle.pg_connect.specs.declared.streams.Streams.{Streams}
-use Rattle.pg_faults.specs.declared.error.Error.{Error}
-use Rattle.pg_faults.specs.declared.error.Error.TheVariants as error
+use Rattle.pg_types.specs.declared.error.Error.{Error}
+use Rattle.pg_types.specs.declared.error.Error.TheVariants as error
 use Rattle.pg_session.specs.Failures.{HasFailed}
-use Rattle.pg_turns.specs.Reports.{Reports}
-use Rattle.pg_turns.specs.Sessions.{HasPlayed, IsNewSession, Plays}
+use Rattle.pg_session.specs.Reports.{Reports}
+use Rattle.pg_session.specs.Sessions.{HasPlayed, IsNewSession, Plays}
 use Rattle.pg_promises.specs.ConnectionStrings.{Means}
 use Rattle.pg_promises.specs.Causes.{NeedsNoTls}
 use Rattle.pg_spec.specs.Settings.{Settings}
@@ -18,12 +18,12 @@ use Rattle.pg_spec.specs.Links.{LinkView}
 use Rattle.pg_text.specs.declared.command.Command.{Command}
 use Rattle.pg_text.specs.declared.report.Report.{Report}
 use Rattle.pg_tool.specs.declared.play.Play.{Play}
-use Rattle.pg_failed.specs.Calls.{Call}
-use Rattle.pg_headline.specs.Endings.{EndedWell, IsRun, course_of, replies}
-use Rattle.pg_isolation.specs.KeptApart.{AreKeptApart}
-use Rattle.pg_isolation.proofs.KeptApart.{kept-apart}
+use Rattle.pg_promises.specs.Calls.{Call}
+use Rattle.pg_promises.specs.Endings.{EndedWell, IsRun, course_of, replies}
+use Rattle.pg_table.specs.KeptApart.{AreKeptApart}
+use Rattle.pg_table.proofs.KeptApart.{kept-apart}
 use Rattle.pg_spec.specs.RawMessages.{groups}
-use Rattle.pg_turns.specs.Speeches.{meaning_of}
+use Rattle.pg_session.specs.Speeches.{meaning_of}
 use Rattle.pg_table.specs.Headlines.{told_in}
 use Rattle.pg_table.specs.Table.{table}
 use Rattle.pg_tool.specs.Fails.{BreaksLater, PlaysWithin, SessionFails}

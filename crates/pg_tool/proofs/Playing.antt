@@ -8,9 +8,9 @@ use Rattle.pg_wire.specs.Memory.{Memory, as_count, link_of, tells}
 use Rattle.pg_wire.specs.MemoryLinks.{memory_of}
 use Rattle.pg_text.specs.declared.session.Session.{Session}
 use Rattle.pg_text.specs.Sessions.{IsNew, session_of}
-use Rattle.pg_faults.specs.declared.error.Error.{Error}
+use Rattle.pg_types.specs.declared.error.Error.{Error}
 use Rattle.pg_promises.specs.ConnectionStrings.{Means}
-use Rattle.pg_turns.specs.Sessions.{HasPlayed}
+use Rattle.pg_session.specs.Sessions.{HasPlayed}
 use Rattle.pg_spec.specs.Settings.{Settings}
 use Rattle.pg_text.specs.declared.report.Report.{Report}
 use Rattle.pg_tool.specs.RunContract.{IsPiped, IsPlayed, WasPlayed, call_of, call_over, new_link}

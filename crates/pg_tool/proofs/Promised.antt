@@ -3,10 +3,10 @@ use Rattle.std.proofs.Common.{◌≡◌, ◌<◌, ℕ, List, length, Option, Som
 use Rattle.std.specs.Prelude.{OnOk, IsSome}
 use Rattle.std.proofs.lemmas.Bool.{true≢false}
 use Rattle.std.proofs.lemmas.List.{length-drop}
-use Rattle.pg_headline.specs.Endings as ending
+use Rattle.pg_promises.specs.Endings as ending
 use Rattle.pg_text.specs.declared.command.Answer.{Answer}
-use Rattle.pg_failed.specs.Calls as any
-use Rattle.pg_failed.specs.Kept.{NoneKeptBack}
+use Rattle.pg_promises.specs.Calls as any
+use Rattle.pg_promises.specs.Kept.{NoneKeptBack}
 use Rattle.pg_promises.specs.Causes.{Call, HasCause, MustAskForTls, MustRefuse, NeedsNoTls, RefusedFor}
 use Rattle.pg_promises.proofs.Strings.{means_one, no_fault}
 use Rattle.pg_config.specs.ConnectionStrings.{ConnectionStringMeans}
@@ -20,12 +20,12 @@ use Rattle.pg_spec.specs.Faults.{Cause, ConfigParse, OutOfMemory}
 use Rattle.pg_spec.specs.Links.{LinkView, added}
 use Rattle.pg_wire.specs.LinkCalls.{Continues, Tells}
 use Rattle.pg_connect.specs.Calm.{StaysCalm}
-use Rattle.pg_faults.specs.declared.cause.Cause.TheVariants as cause
-use Rattle.pg_faults.specs.declared.error.Error.{Error}
-use Rattle.pg_faults.specs.declared.error.Error.TheVariants as error
+use Rattle.pg_types.specs.declared.cause.Cause.TheVariants as cause
+use Rattle.pg_types.specs.declared.error.Error.{Error}
+use Rattle.pg_types.specs.declared.error.Error.TheVariants as error
 use Rattle.pg_text.specs.declared.command.Command.{Command}
 use Rattle.pg_text.specs.declared.report.Report.{Report}
-use Rattle.pg_turns.specs.Speeches.{meaning_of}
+use Rattle.pg_session.specs.Speeches.{meaning_of}
 use Rattle.pg_session.specs.WholeSession.{IsClosed, LeavesOpen}
 use Rattle.pg_spec.specs.Report as said
 use Rattle.pg_table.specs.Headlines.{simple_call, told_in}
@@ -34,10 +34,10 @@ use Rattle.pg_text.specs.Views.{as_scripts}
 use Rattle.pg_tool.specs.Asked.{MayStart}
 use Rattle.pg_tool.specs.Fails.{PlaysWithin, SessionFails}
 use Rattle.pg_startup.specs.declared.ssl_request.SslRequest.{SslRequest}
-use Rattle.pg_tls.specs.declared.choice.TlsChoice.TheVariants.{Asks, Shakes}
+use Rattle.pg_open.specs.declared.choice.TlsChoice.TheVariants.{Asks, Shakes}
 use Rattle.pg_tool.specs.Required.{AsksInVain, AsksWithin, choice_of}
 use Rattle.pg_tool.specs.SessionContract.{SessionContract, ToldSimply}
-use Rattle.pg_headline.specs.Endings.{IsRun}
+use Rattle.pg_promises.specs.Endings.{IsRun}
 use Rattle.pg_tool.specs.TableContract.{IsEndedWell, KeepsLimit, SendsInOrder, TableContract, table_call, table_result}
 use Rattle.pg_tool.proofs.AtTable.{is-closed, sent-untouched}
 use Rattle.pg_tool.proofs.Causing.{caused}

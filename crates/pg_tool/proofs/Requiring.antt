@@ -2,15 +2,15 @@
 use Rattle.std.proofs.Common.{◌≡◌, ◌≢◌, ◌==◌, ◌<◌, ◌≤◌, ℕ, Bool, true, false, if◌then◌else◌, List, [], ◌∷◌, ◌++◌, length, Result, Ok, Err, inl, inr, append-nil, refl, sym, ap, subst, ◌∙◌, arith}
 use Rattle.std.specs.Prelude.{IsTrue}
 use Rattle.std.specs.Str.{byte}
-use Rattle.pg_headline.specs.Endings as ending
+use Rattle.pg_promises.specs.Endings as ending
 use Rattle.pg_text.specs.declared.command.Answer.{Answer}
 use Rattle.pg_config.specs.Views.{settings_of, ssl_mode, ssl_negotiation}
 use Rattle.pg_config.specs.declared.config.Config.{Config}
 use Rattle.pg_config.specs.declared.modes.SslMode.{SslMode}
 use Rattle.pg_config.specs.declared.modes.SslNegotiation.{SslNegotiation}
-use Rattle.pg_failed.specs.Calls as any
-use Rattle.pg_failed.specs.Kept.{NoneKeptBack}
-use Rattle.pg_failed.specs.Sent.{SentInOrder}
+use Rattle.pg_promises.specs.Calls as any
+use Rattle.pg_promises.specs.Kept.{NoneKeptBack}
+use Rattle.pg_promises.specs.Sent.{SentInOrder}
 use Rattle.pg_promises.specs.Causes.{Call, HasCause, IsAwaited, IsOfTls, IsStalled, MustAskForTls, NeedsNoTls, NoTlsFor}
 use Rattle.pg_promises.specs.ConnectionStrings.{Means}
 use Rattle.pg_promises.specs.Promises.{IsFront}
@@ -20,17 +20,17 @@ use Rattle.pg_spec.specs.Links.{LinkView, Grew, OfBytes, Rose, next_count}
 use Rattle.pg_spec.specs.RawMessages.{messages}
 use Rattle.pg_spec.specs.Settings.{Settings, Mode, Negotiation, Disable, Prefer, Require, Postgres, Direct, startup_parameters}
 use Rattle.pg_spec.specs.Startup.{Done, First, More, Startup, begun_by, dialogue, plain_login}
-use Rattle.pg_faults.specs.declared.cause.Cause.TheVariants as cause
-use Rattle.pg_faults.specs.declared.error.Error.{Error}
-use Rattle.pg_faults.specs.declared.error.Error.TheVariants as error
+use Rattle.pg_types.specs.declared.cause.Cause.TheVariants as cause
+use Rattle.pg_types.specs.declared.error.Error.{Error}
+use Rattle.pg_types.specs.declared.error.Error.TheVariants as error
 use Rattle.futures.specs.declared.task.Poll.TheVariants.{Ready}
 use Rattle.pg_wire.specs.LinkCalls.{Continues, Keeps, SameBytes, SameWriting}
 use Rattle.pg_connect.specs.Calm.{MissesOne, StaysCalm}
 use Rattle.pg_startup.specs.SslRequests.{AskAnswers, AskFailed, Asked, Asking, AsksOn}
 use Rattle.pg_startup.specs.declared.ssl_request.SslRequest.{SslRequest}
-use Rattle.pg_tls.specs.Choices.{first_choice}
-use Rattle.pg_tls.specs.declared.choice.TlsChoice.{TlsChoice}
-use Rattle.pg_tls.specs.declared.choice.TlsChoice.TheVariants.{Raw, Shakes, Fails, Asks}
+use Rattle.pg_open.specs.Choices.{first_choice}
+use Rattle.pg_open.specs.declared.choice.TlsChoice.{TlsChoice}
+use Rattle.pg_open.specs.declared.choice.TlsChoice.TheVariants.{Raw, Shakes, Fails, Asks}
 use Rattle.pg_connect.proofs.Joining.{grew_same, keeps_then, rose_later}
 use Rattle.pg_session.specs.Failures.{PauseFails}
 use Rattle.pg_session.specs.WholeSession.{LeavesOpen}
@@ -38,7 +38,7 @@ use Rattle.pg_session.proofs.Caused.Start.{of_grown}
 use Rattle.pg_session.proofs.LimitsKept.{HoldsLimit}
 use Rattle.pg_session.proofs.Stalled.Start.{exact-so, last-so, lulls-so, rests-so}
 use Rattle.pg_text.specs.declared.command.Command.{Command}
-use Rattle.pg_turns.specs.Speeches.{meaning_of}
+use Rattle.pg_session.specs.Speeches.{meaning_of}
 use Rattle.pg_table.specs.Table.{table}
 use Rattle.pg_tool.proofs.AtTable.{IsInOrder, none-in-order}
 use Rattle.pg_tool.specs.Required.{AskEnds, AsksInVain, StopsAsking, choice_behind, choice_of, tls_error}

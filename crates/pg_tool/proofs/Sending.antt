@@ -1,10 +1,10 @@
 -- What was sent where a session failed, and how the link stands then.
 use Rattle.std.proofs.Common.{◌≡◌, ℕ, List, IfErr, Result, Ok, Err, inl, inr, ap, ◌∙◌}
 use Rattle.std.specs.Prelude.{OnOk}
-use Rattle.pg_headline.specs.Endings as ending
+use Rattle.pg_promises.specs.Endings as ending
 use Rattle.pg_text.specs.declared.command.Answer.{Answer}
-use Rattle.pg_failed.specs.Calls.{Call, apart}
-use Rattle.pg_failed.specs.Kept as any
+use Rattle.pg_promises.specs.Calls.{Call, apart}
+use Rattle.pg_promises.specs.Kept as any
 use Rattle.pg_promises.specs.Causes.{HasCause, NeedsNoTls}
 use Rattle.pg_promises.specs.ConnectionStrings.{Means}
 use Rattle.pg_promises.proofs.Strings.{means_one}
@@ -13,13 +13,13 @@ use Rattle.pg_spec.specs.Settings.{Settings}
 use Rattle.pg_spec.specs.Links.{LinkView}
 use Rattle.pg_connect.specs.Calm.{StaysCalm}
 use Rattle.pg_startup.specs.declared.startup.Startup.{Startup}
-use Rattle.pg_faults.specs.declared.error.Error.{Error}
-use Rattle.pg_faults.specs.declared.error.Error.TheVariants as error
+use Rattle.pg_types.specs.declared.error.Error.{Error}
+use Rattle.pg_types.specs.declared.error.Error.TheVariants as error
 use Rattle.pg_session.proofs.Stalled.Start.{rests-so}
 use Rattle.pg_session.specs.WholeSession.{LeavesOpen}
 use Rattle.pg_text.specs.declared.command.Command.{Command}
 use Rattle.pg_text.specs.declared.report.Report.{Report}
-use Rattle.pg_turns.specs.Speeches.{meaning_of}
+use Rattle.pg_session.specs.Speeches.{meaning_of}
 use Rattle.pg_table.specs.Table.{table}
 use Rattle.pg_tool.specs.Fails.{SessionFails}
 use Rattle.pg_tool.specs.Openings.{OpenEnds}

@@ -1,15 +1,15 @@
 -- What a session of simple queries alone promises in the words of these, by what it promises over any commands.
 use Rattle.std.proofs.Common.{◌≡◌, ◌<◌, ℕ, List, [], length, Option, Some, Result, Ok, Err, inl, inr, refl, sym, ap, subst, ◌∙◌}
 use Rattle.std.specs.Prelude.{IfSome, OnOk}
-use Rattle.pg_failed.specs.Calls.{Call, apart}
-use Rattle.pg_failed.specs.Completeness as must
-use Rattle.pg_failed.specs.Kept as any
-use Rattle.pg_failed.specs.Sent as orders
-use Rattle.pg_failed.proofs.NoFlush.{answers}
-use Rattle.pg_faults.specs.declared.error.Error.{Error}
-use Rattle.pg_faults.specs.declared.error.Error.TheVariants as error
-use Rattle.pg_headline.specs.Endings as ending
-use Rattle.pg_headline.specs.Endings.{EndedWell, IsRun}
+use Rattle.pg_promises.specs.Calls.{Call, apart}
+use Rattle.pg_promises.specs.Completeness as must
+use Rattle.pg_promises.specs.Kept as any
+use Rattle.pg_promises.specs.Sent as orders
+use Rattle.pg_promises.proofs.NoFlush.{answers}
+use Rattle.pg_types.specs.declared.error.Error.{Error}
+use Rattle.pg_types.specs.declared.error.Error.TheVariants as error
+use Rattle.pg_promises.specs.Endings as ending
+use Rattle.pg_promises.specs.Endings.{EndedWell, IsRun}
 use Rattle.pg_promises.proofs.Strings.{means_one}
 use Rattle.pg_promises.specs.Causes.{HasCause, MustRefuse, RefusedFor, Unless}
 use Rattle.pg_promises.specs.EndedWell as landed
@@ -26,7 +26,7 @@ use Rattle.pg_text.specs.Views.{as_answers, as_scripts, simple_report}
 use Rattle.pg_text.specs.declared.command.Answer.{Answer}
 use Rattle.pg_text.specs.declared.command.Command.{Command}
 use Rattle.pg_text.specs.declared.report.Report.{Report}
-use Rattle.pg_turns.specs.Speeches.{meaning_of}
+use Rattle.pg_session.specs.Speeches.{meaning_of}
 use Rattle.pg_wire.specs.LinkCalls.{Continues, Extends}
 use Rattle.pg_tool.specs.SessionContract.{KeepsLimit, SendsInOrder, SessionContract, ToldSimply}
 use Rattle.pg_tool.specs.SessionContract as simple

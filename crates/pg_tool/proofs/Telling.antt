@@ -8,8 +8,8 @@ use Rattle.pg_text.specs.ReportText.{report_text}
 use Rattle.pg_text.specs.SessionText.{SessionText, IsRefusedAt}
 use Rattle.pg_text.specs.declared.report.Report.{Report}
 use Rattle.pg_wire.specs.Streams.{SinkView}
-use Rattle.pg_faults.specs.declared.error.Error.{Error}
-use Rattle.pg_faults.specs.declared.error.Error.TheVariants as error
+use Rattle.pg_types.specs.declared.error.Error.{Error}
+use Rattle.pg_types.specs.declared.error.Error.TheVariants as error
 use Rattle.pg_gen.specs.Generated.{generated}
 use Rattle.pg_tool.specs.Reading.{longest_text, ReadWhole}
 use Rattle.pg_tool.proofs.Completing.{must_text, played_simply, simply_text}

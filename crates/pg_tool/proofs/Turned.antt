@@ -6,10 +6,10 @@ use Rattle.pg_desk.specs.declared.event.Event.{Event}
 use Rattle.pg_spec.specs.declared.stamps.Stamp.{Stamp}
 use Rattle.pg_query.specs.Meaning.{Place}
 use Rattle.pg_table.specs.declared.state.AnyAnswer.{AnyAnswer}
-use Rattle.pg_turns.specs.HandleTurns.{AsksCommand}
-use Rattle.pg_turns.specs.Turns.{HandleTurns}
-use Rattle.pg_turns.specs.declared.handle_turn.Polling.{Polling}
-use Rattle.pg_turns.specs.declared.handle_turn.Polling.TheVariants as polling
+use Rattle.pg_session.specs.HandleTurns.{AsksCommand}
+use Rattle.pg_session.specs.Turns.{HandleTurns}
+use Rattle.pg_session.specs.declared.handle_turn.Polling.{Polling}
+use Rattle.pg_session.specs.declared.handle_turn.Polling.TheVariants as polling
 use Rattle.pg_text.specs.declared.command.Command.{Command}
 use Rattle.pg_table.specs.Table.{TableHandle, says_of, table}
 use Rattle.pg_tool.specs.declared.handle.Handle.{Handle}

@@ -8,9 +8,9 @@ use Rattle.pg_spec.specs.Settings.{Settings}
 use Rattle.pg_spec.specs.Startup.{Login, Phase, plain_login}
 use Rattle.pg_wire.specs.LinkCalls.{Keeps, SameBytes, SameWriting, Continues}
 use Rattle.pg_connect.specs.Calm.{MissesOne, StaysCalm}
-use Rattle.pg_faults.specs.declared.cause.Cause.TheVariants as cause
-use Rattle.pg_faults.specs.declared.error.Error.{Error}
-use Rattle.pg_faults.specs.declared.error.Error.TheVariants as error
+use Rattle.pg_types.specs.declared.cause.Cause.TheVariants as cause
+use Rattle.pg_types.specs.declared.error.Error.{Error}
+use Rattle.pg_types.specs.declared.error.Error.TheVariants as error
 use Rattle.pg_startup.specs.declared.startup.Startup.{Startup}
 use Rattle.pg_startup.specs.StartupPolls.{GoesOn, SameStart}
 use Rattle.pg_startup.specs.Startups.{IsRefusedNext, Opening, Opened, Failed}

@@ -15,11 +15,11 @@ use Rattle.pg_promises.proofs.WorkedPlans.{only_first, replies_all}
 use Rattle.pg_promises.proofs.WorkedStrings.{means_a}
 use Rattle.pg_text.specs.Sessions.{as_session}
 use Rattle.pg_text.specs.declared.command.Command.{Command}
-use Rattle.pg_failed.specs.Calls.{Call, apart}
-use Rattle.pg_failed.specs.Sent as any
-use Rattle.pg_failed.proofs.NoFlush.{answers}
+use Rattle.pg_promises.specs.Calls.{Call, apart}
+use Rattle.pg_promises.specs.Sent as any
+use Rattle.pg_promises.proofs.NoFlush.{answers}
 use Rattle.pg_session.proofs.Complete.Course.{few-frames}
-use Rattle.pg_turns.specs.Speeches.{meaning_of}
+use Rattle.pg_session.specs.Speeches.{meaning_of}
 use Rattle.pg_table.specs.Table.{table}
 use Rattle.pg_table.proofs.Headlines.{sent-as-before}
 use Rattle.pg_gen.specs.Laws.{plan_of}

@@ -5,8 +5,8 @@ use Rattle.pg_spec.specs.Passwords.{is_nonce}
 use Rattle.pg_spec.specs.Report.{Command}
 use Rattle.pg_spec.specs.Settings.{Settings}
 use Rattle.pg_spec.specs.Links.{LinkView}
-use Rattle.pg_faults.specs.declared.cause.Cause.{Cause}
-use Rattle.pg_faults.specs.declared.cause.Cause.TheVariants as cause
+use Rattle.pg_types.specs.declared.cause.Cause.{Cause}
+use Rattle.pg_types.specs.declared.cause.Cause.TheVariants as cause
 
 -- whether a session starts up with these settings and this nonce; or the first reason why it doesn't: no user, or a nonce
 -- out of form

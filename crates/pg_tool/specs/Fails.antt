@@ -2,14 +2,14 @@
 use Rattle.std.specs.Prelude.{◌≡◌, ◌⊎◌, ℕ, List, Err}
 use Rattle.pg_spec.specs.Links.{LinkView}
 use Rattle.pg_spec.specs.Settings.{Settings}
-use Rattle.pg_login.specs.Steps.{Made, frame_of}
+use Rattle.pg_startup.specs.Steps.{Made, frame_of}
 use Rattle.pg_startup.specs.declared.startup.Startup.{Startup}
-use Rattle.pg_faults.specs.declared.error.Error.{Error}
-use Rattle.pg_faults.specs.declared.error.Error.TheVariants.{OutOfMemory}
+use Rattle.pg_types.specs.declared.error.Error.{Error}
+use Rattle.pg_types.specs.declared.error.Error.TheVariants.{OutOfMemory}
 use Rattle.pg_session.specs.Failures.{HasBroken, WasOpened, WasOver}
 use Rattle.pg_text.specs.declared.command.Command.{Command}
 use Rattle.pg_text.specs.declared.report.Report.{Report}
-use Rattle.pg_turns.specs.Sessions.{HasPlayed}
+use Rattle.pg_session.specs.Sessions.{HasPlayed}
 use Rattle.pg_table.specs.Headlines.{told_in}
 use Rattle.pg_table.specs.Table.{table}
 use Rattle.pg_tool.specs.Openings.{OpenEnds}

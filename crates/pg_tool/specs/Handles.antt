@@ -2,16 +2,16 @@
 use Rattle.std.specs.Prelude.{◌≡◌, ◌≢◌, ◌⊎◌, ℕ, List, [], ◌∷◌, ◌++◌, length, Some, None, IfSome, option_map, slice_get, slice_set, Result, Err}
 use Rattle.pg_desk.specs.declared.event.Event.{Event}
 use Rattle.pg_spec.specs.declared.stamps.Stamp.{Stamp}
-use Rattle.pg_faults.specs.declared.error.Error.{Error}
-use Rattle.pg_faults.specs.declared.error.Error.TheVariants.{OutOfMemory}
+use Rattle.pg_types.specs.declared.error.Error.{Error}
+use Rattle.pg_types.specs.declared.error.Error.TheVariants.{OutOfMemory}
 use Rattle.pg_query.specs.Meaning.{Place, Pauses, GoesToAnswer}
 use Rattle.pg_table.specs.States.{IsLive, place_of}
 use Rattle.pg_table.specs.Slots.{Slots}
 use Rattle.pg_table.specs.Table.{TableHandle, kept_answer, slots_behind, table}
 use Rattle.pg_table.specs.declared.state.AnyAnswer.{AnyAnswer}
-use Rattle.pg_turns.specs.Turns.{HandleTurns}
-use Rattle.pg_turns.specs.declared.handle_turn.Polling.{Polling}
-use Rattle.pg_turns.specs.declared.handle_turn.Polling.TheVariants as polling
+use Rattle.pg_session.specs.Turns.{HandleTurns}
+use Rattle.pg_session.specs.declared.handle_turn.Polling.{Polling}
+use Rattle.pg_session.specs.declared.handle_turn.Polling.TheVariants as polling
 use Rattle.pg_text.specs.declared.command.Answer.{Answer}
 use Rattle.pg_text.specs.declared.command.Command.{Command}
 use Rattle.pg_tool.specs.declared.handle.Handle.{Handle}

@@ -1,8 +1,8 @@
 -- What stands between two turns of a session, and what its steps do.
 use Rattle.std.specs.Prelude.{◌≡◌, ◌⊎◌, ℕ, ◌^◌, ◌<◌, ◌≤◌, Bool, true, false, List, ◌++◌, ◌+◌, ◌*◌, if◌then◌else◌, length, map, Option, Some, None, IfErr, IfSome, OnOk, Result}
 use Rattle.std.specs.List.{All}
-use Rattle.pg_faults.specs.declared.error.Error.{Error}
-use Rattle.pg_faults.specs.declared.error.Error.TheVariants as error
+use Rattle.pg_types.specs.declared.error.Error.{Error}
+use Rattle.pg_types.specs.declared.error.Error.TheVariants as error
 use Rattle.pg_spec.specs.Links.{LinkView}
 use Rattle.pg_wire.specs.LinkCalls.{Continues}
 use Rattle.pg_connect.specs.Calm.{MissesFew, StaysCalm}
@@ -11,11 +11,11 @@ use Rattle.pg_hub.specs.Fits.{HubBecomes}
 use Rattle.futures.specs.declared.task.Poll.{Poll}
 use Rattle.pg_errors.specs.declared.async_message.AsyncMessage.{AsyncMessage}
 use Rattle.pg_session.specs.Failures.{BreaksOff, RunsShort}
-use Rattle.pg_turns.specs.Sessions.{EndsWith, MakesAll, StaysAll, numbers, rounds}
+use Rattle.pg_session.specs.Sessions.{EndsWith, MakesAll, StaysAll, numbers, rounds}
 use Rattle.pg_session.specs.Measure.{IsNearer, IsUnderWay, Left, left_to_do}
 use Rattle.pg_table.specs.Table.{TableSession, table}
-use Rattle.pg_turns.specs.Turns.{HandleMade, HandsOn, moved_by, moved_in_poll}
-use Rattle.pg_turns.specs.declared.handle_turn.Polling.{Polling}
+use Rattle.pg_session.specs.Turns.{HandleMade, HandsOn, moved_by, moved_in_poll}
+use Rattle.pg_session.specs.declared.handle_turn.Polling.{Polling}
 use Rattle.pg_text.specs.declared.command.Command.{Command}
 use Rattle.pg_tool.specs.declared.play.Play.{Play}
 use Rattle.pg_tool.specs.Handles.{AreOnScripts, IsLiveHandle, view_of}

@@ -5,15 +5,15 @@ use Rattle.pg_spec.specs.Links.{LinkView}
 use Rattle.pg_spec.specs.Settings.{Require, Settings}
 use Rattle.pg_connect.specs.Calm.{MissesOne, StaysCalm}
 use Rattle.pg_wire.specs.LinkCalls.{Keeps}
-use Rattle.pg_faults.specs.declared.cause.Cause.TheVariants as cause
-use Rattle.pg_faults.specs.declared.error.Error.{Error}
-use Rattle.pg_faults.specs.declared.error.Error.TheVariants as error
+use Rattle.pg_types.specs.declared.cause.Cause.TheVariants as cause
+use Rattle.pg_types.specs.declared.error.Error.{Error}
+use Rattle.pg_types.specs.declared.error.Error.TheVariants as error
 use Rattle.pg_session.specs.Failures.{PauseFails}
 use Rattle.pg_startup.specs.SslRequests.{AskFailed, Asked, Asking, AsksOn}
 use Rattle.pg_startup.specs.declared.ssl_request.SslRequest.{SslRequest}
-use Rattle.pg_tls.specs.Choices.{after_byte, first_choice}
-use Rattle.pg_tls.specs.declared.choice.TlsChoice.{TlsChoice}
-use Rattle.pg_tls.specs.declared.choice.TlsChoice.TheVariants.{Fails}
+use Rattle.pg_open.specs.Choices.{after_byte, first_choice}
+use Rattle.pg_open.specs.declared.choice.TlsChoice.{TlsChoice}
+use Rattle.pg_open.specs.declared.choice.TlsChoice.TheVariants.{Fails}
 
 -- the error of a choice of TLS: its own, or that the handshake failed
 abbrev pub tls_error : TlsChoice → Error

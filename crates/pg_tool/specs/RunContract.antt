@@ -1,9 +1,9 @@
 -- The contract of the program: what it writes, and its exit status.
 use Rattle.std.specs.Prelude.{◌≡◌, ◌≢◌, ℕ, ◌<◌, ◌≤◌, ◌⊎◌, true, false, List, [], ◌++◌, length, take, Ok, Err, Option, Some, None, IfSome, codes, decimal, Result, ⊤}
 use Rattle.std.specs.List.{concat}
-use Rattle.pg_failed.specs.Calls.{Call, apart}
-use Rattle.pg_failed.specs.Completeness.{AnswersRequests}
-use Rattle.pg_failed.specs.Sent.{SentInOrder}
+use Rattle.pg_promises.specs.Calls.{Call, apart}
+use Rattle.pg_promises.specs.Completeness.{AnswersRequests}
+use Rattle.pg_promises.specs.Sent.{SentInOrder}
 use Rattle.pg_promises.specs.Causes as landed
 use Rattle.pg_promises.specs.ConnectionStrings.{Means}
 use Rattle.pg_promises.specs.Promises.{AnswersStartup, IsFront, IsValid}
@@ -15,10 +15,10 @@ use Rattle.pg_spec.specs.ReportText as simply
 use Rattle.pg_spec.specs.SessionText as said
 use Rattle.pg_wire.specs.LinkCalls.{Tells}
 use Rattle.pg_wire.specs.Streams.{SourceView, SinkView}
-use Rattle.pg_turns.specs.Sessions.{HasPlayed}
-use Rattle.pg_turns.specs.Speeches.{meaning_of}
-use Rattle.pg_faults.specs.declared.error.Error.{Error}
-use Rattle.pg_faults.specs.declared.error.Error.TheVariants.{OutOfMemory}
+use Rattle.pg_session.specs.Sessions.{HasPlayed}
+use Rattle.pg_session.specs.Speeches.{meaning_of}
+use Rattle.pg_types.specs.declared.error.Error.{Error}
+use Rattle.pg_types.specs.declared.error.Error.TheVariants.{OutOfMemory}
 use Rattle.pg_table.specs.Headlines.{told_in}
 use Rattle.pg_table.specs.Table.{table}
 use Rattle.pg_text.specs.ReportText.{report_text}

@@ -2,7 +2,7 @@
 use Rattle.std.specs.Prelude.{◌≡◌, ◌<◌, ℕ, List, length, Result, Ok, Err, IfOk, IfErr, ⊤}
 use Rattle.pg_promises.specs.Causes.{Call, HasCause, MustRefuse, OfDialogue, Unless, WithSettings}
 use Rattle.pg_spec.specs.Links.{OfBytes}
-use Rattle.pg_faults.specs.declared.error.Error.{Error}
+use Rattle.pg_types.specs.declared.error.Error.{Error}
 use Rattle.pg_text.specs.Views.{as_answers, simple_report}
 use Rattle.pg_text.specs.declared.report.Report as told
 use Rattle.pg_promises.specs.EndedWell.{Session, HasRun, EndedWell}

@@ -1,12 +1,12 @@
 -- What a session promises, by what the commands of the table mean.
 use Rattle.std.specs.Prelude.{◌≡◌, ◌<◌, ℕ, List, length, Result, Ok, Err, IfOk, IfErr, ⊤}
-use Rattle.pg_failed.specs.Calls.{Call, apart}
-use Rattle.pg_failed.specs.Completeness.{MustEndWell}
-use Rattle.pg_failed.specs.Kept.{NoneKeptBack}
-use Rattle.pg_failed.specs.Sent.{SentInOrder}
-use Rattle.pg_faults.specs.declared.error.Error.{Error}
-use Rattle.pg_headline.specs.Endings.{EndedWell, IsRun, Report, Session}
-use Rattle.pg_isolation.specs.KeptApart.{AreKeptApart}
+use Rattle.pg_promises.specs.Calls.{Call, apart}
+use Rattle.pg_promises.specs.Completeness.{MustEndWell}
+use Rattle.pg_promises.specs.Kept.{NoneKeptBack}
+use Rattle.pg_promises.specs.Sent.{SentInOrder}
+use Rattle.pg_types.specs.declared.error.Error.{Error}
+use Rattle.pg_promises.specs.Endings.{EndedWell, IsRun, Report, Session}
+use Rattle.pg_table.specs.KeptApart.{AreKeptApart}
 use Rattle.pg_promises.specs.Causes.{HasCause, MustRefuse, OfDialogue, Unless, WithSettings}
 use Rattle.pg_spec.specs.Faults.{Failure, LimitReached}
 use Rattle.pg_spec.specs.Links.{LinkView, OfBytes}
@@ -14,7 +14,7 @@ use Rattle.pg_spec.specs.Settings.{Settings}
 use Rattle.pg_text.specs.declared.command.Answer.{Answer}
 use Rattle.pg_text.specs.declared.command.Command.{Command}
 use Rattle.pg_text.specs.declared.report.Report as told
-use Rattle.pg_turns.specs.Speeches.{meaning_of}
+use Rattle.pg_session.specs.Speeches.{meaning_of}
 use Rattle.pg_table.specs.Headlines.{told_in}
 use Rattle.pg_table.specs.Table.{table}
 use Rattle.pg_wire.specs.LinkCalls.{Continues}

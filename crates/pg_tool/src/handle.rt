@@ -2,7 +2,7 @@
 
 ghost use Rattle.std.specs.Prelude.{◌≡◌, ◌≢◌, ◌<◌, ◌++◌, ◌∷◌, IfOk, IfSome, OnOk, Err, MatchResult, length, map, true, None, is_some, option_map, slice_get, []};
 ghost use Rattle.std.specs.List.{All};
-ghost use Rattle.pg_turns.specs.Turns.{HandleTurns};
+ghost use Rattle.pg_session.specs.Turns.{HandleTurns};
 ghost use Rattle.pg_table.specs.Table.{kept_answer, slots_behind, table};
 ghost use Rattle.pg_tool.specs.Handles.{IsIdleHandle, IsLiveHandle, IsOnScript, OneTurned, PollsRunning, view_of};
 
@@ -10,9 +10,9 @@ use futures::task::Poll;
 use pg_desk::{Desk, Stamp};
 use pg_errors::Error;
 use pg_query::Polled;
+use pg_session::Polling;
 use pg_table::{AnyAnswer, AnyState, Slots, begin, keep};
 use pg_text::{Answer, Command};
-use pg_turns::Polling;
 use pg_types::{List, OutOfMemory};
 use std::alloc::Global;
 

@@ -1,8 +1,8 @@
 //! Laws over the program's contract, which show what it means. Each body does nothing.
 
 ghost use Rattle.std.specs.Prelude.{◌≡◌, ℕ, List, Result};
-ghost use Rattle.pg_failed.specs.Calls.{Call};
-ghost use Rattle.pg_faults.specs.declared.error.Error.{Error};
+ghost use Rattle.pg_promises.specs.Calls.{Call};
+ghost use Rattle.pg_types.specs.declared.error.Error.{Error};
 ghost use Rattle.pg_promises.specs.Examples.{good_text};
 ghost use Rattle.pg_spec.specs.Report as said;
 ghost use Rattle.pg_spec.specs.SessionText as said_text;

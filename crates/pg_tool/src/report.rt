@@ -6,7 +6,7 @@ ghost use Rattle.pg_spec.specs.Book.{wire};
 ghost use Rattle.pg_spec.specs.Frames.{terminate_frame};
 ghost use Rattle.pg_core.specs.Trails.{said_booking};
 ghost use Rattle.pg_table.specs.Headlines.{told_in};
-ghost use Rattle.pg_turns.specs.Reports.{Reports};
+ghost use Rattle.pg_session.specs.Reports.{Reports};
 ghost use Rattle.pg_tool.specs.Parameters.{pair_view};
 ghost use Rattle.pg_tool.specs.Plays.{state_of};
 

@@ -10,8 +10,8 @@ use crate::opening::pause;
 use futures::task::Poll;
 use pg_config::SslMode;
 use pg_errors::{Cause, Error};
+use pg_open::TlsChoice;
 use pg_startup::SslRequest;
-use pg_tls::TlsChoice;
 use pg_wire::Link;
 use std::alloc::Global;
 

@@ -5,3 +5,5 @@ pub mod Laws
 pub mod Oids
 pub mod Values
 pub mod formers
+pub mod Getters
+pub mod Sources

@@ -16,7 +16,7 @@ use Rattle.pg_wire.specs.Fronts.{is_aside_tag, IsWhole, message_of_bytes}
 use Rattle.pg_wire.specs.Decode.{RefusesAside, CutsAside, CutsOff}
 use Rattle.pg_wire.proofs.Cuts.{messages_of_one, cuts_one}
 use Rattle.pg_wire.specs.declared.message.Message as wire
-use Rattle.pg_faults.specs.declared.fault.WireFault as wire_faults
+use Rattle.pg_types.specs.declared.faults.WireFault as wire_faults
 use Rattle.pg_wire.specs.Messages.{message_view}
 use Rattle.pg_wire.specs.Layouts.{Means}
 

@@ -8,8 +8,8 @@ use Rattle.pg_wire.specs.Decode.{Decodes, CutsOff, CutsBatch}
 use Rattle.pg_wire.specs.Cuttings.{Event, Came, Gave, came, Becomes, GivesOne, Gives, GaveAllBut, GaveAll, TellsItsEnd}
 use Rattle.pg_wire.specs.declared.codec.BackendMessage.{BackendMessage}
 use Rattle.pg_wire.specs.declared.codec.BackendMessage.TheVariants as cut
-use Rattle.pg_faults.specs.declared.fault.WireFault.{WireFault}
-use Rattle.pg_faults.specs.declared.fault.WireFault.TheVariants as fault
+use Rattle.pg_types.specs.declared.faults.WireFault.{WireFault}
+use Rattle.pg_types.specs.declared.faults.WireFault.TheVariants as fault
 
 -- these messages were taken off the front, whatever comes behind
 record TookOff (old left : List ℕ) (first : List RawMessage) : Type 0 where

@@ -19,3 +19,7 @@ pub mod Cuttings
 mod Empties
 pub mod BatchLaws
 pub mod SaslNames
+pub mod Written
+pub mod Numbers
+pub mod ReadBack
+pub mod Opening

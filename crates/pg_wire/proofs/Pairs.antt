@@ -8,8 +8,8 @@ use Rattle.std.proofs.lemmas.List.Folds.{list_any-append, length-flat_map-take}
 use Rattle.pg_spec.specs.Bytes.{text0}
 use Rattle.pg_spec.specs.Faults as spec
 use Rattle.pg_spec.specs.Frames.{has_zero, startup_body, startup_frame, unless_fault, untagged}
-use Rattle.pg_faults.specs.declared.fault.FrameFault.{FrameFault}
-use Rattle.pg_faults.specs.declared.fault.FrameFault.TheVariants as frame
+use Rattle.pg_types.specs.declared.faults.FrameFault.{FrameFault}
+use Rattle.pg_types.specs.declared.faults.FrameFault.TheVariants as frame
 use Rattle.pg_wire.specs.Faults as faults
 use Rattle.pg_wire.specs.Writes.{IsRefusal, pair_bytes, pairs_bytes, pair_has_zero}
 

@@ -10,8 +10,8 @@ use Rattle.pg_spec.specs.RawMessages.{RawMessage, is_length, message_at}
 use Rattle.pg_spec.proofs.Readers.{bytes_at_front}
 use Rattle.pg_wire.specs.Header.{length_field, StandsAtFront, HasBadLength, len_of}
 use Rattle.pg_wire.specs.declared.header.Header.{Header}
-use Rattle.pg_faults.specs.declared.fault.WireFault.{WireFault}
-use Rattle.pg_faults.specs.declared.fault.WireFault.TheVariants.{BadLength}
+use Rattle.pg_types.specs.declared.faults.WireFault.{WireFault}
+use Rattle.pg_types.specs.declared.faults.WireFault.TheVariants.{BadLength}
 use Rattle.pg_wire.specs.Fronts.{IsWhole}
 use lib.IntN.{nat_abs, negsuc}
 use mir.Val.{sel}

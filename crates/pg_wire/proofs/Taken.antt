@@ -12,8 +12,8 @@ use Rattle.pg_wire.specs.Layouts.{Means}
 use Rattle.pg_wire.specs.Parse.{Parses, RefusesFront, TakesFront}
 use Rattle.pg_wire.specs.Backend.{HoldsBatch, Nexts, RefusesFirst}
 use Rattle.pg_wire.specs.declared.message.Message.{Message}
-use Rattle.pg_faults.specs.declared.fault.WireFault.{WireFault}
-use Rattle.pg_faults.specs.declared.fault.WireFault.TheVariants.{BadLength, UnknownTag, Layout, NotUtf8, OutOfMemory}
+use Rattle.pg_types.specs.declared.faults.WireFault.{WireFault}
+use Rattle.pg_types.specs.declared.faults.WireFault.TheVariants.{BadLength, UnknownTag, Layout, NotUtf8, OutOfMemory}
 use Rattle.pg_wire.proofs.Cuts.{messages_of_one, left_of_one, messages_of_none, left_of_none}
 
 refused : (s : List ℕ) (n : ℕ) (raw : RawMessage) (fault : spec.WireFault) → IsWhole s n → raw ≡ message_of_bytes n s →

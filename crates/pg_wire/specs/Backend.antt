@@ -5,7 +5,7 @@ use Rattle.pg_spec.specs.Faults as spec
 use Rattle.pg_spec.specs.Batches.{IsBatch}
 use Rattle.pg_spec.specs.RawMessages.{RawMessage, messages, bytes_left}
 use Rattle.pg_spec.specs.Messages.{message_of}
-use Rattle.pg_faults.specs.declared.fault.WireFault.{WireFault}
+use Rattle.pg_types.specs.declared.faults.WireFault.{WireFault}
 use Rattle.pg_wire.specs.declared.message.Message.{Message}
 use Rattle.pg_wire.specs.Messages.{message_view}
 use Rattle.pg_wire.specs.Faults.{wire_fault}

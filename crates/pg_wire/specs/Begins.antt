@@ -1,8 +1,8 @@
 -- The front of a tagged frame.
 use Rattle.std.specs.Prelude.{◌≡◌, ℕ, ◌+◌, ◌<◌, ◌≤◌, List, ◌∷◌, ◌++◌}
 use Rattle.std.specs.Int.{w32, to_be_bytes}
-use Rattle.pg_faults.specs.declared.fault.FrameFault.{FrameFault}
-use Rattle.pg_faults.specs.declared.fault.FrameFault.TheVariants as frame
+use Rattle.pg_types.specs.declared.faults.FrameFault.{FrameFault}
+use Rattle.pg_types.specs.declared.faults.FrameFault.TheVariants as frame
 
 -- tag and length are appended, and there is room for the body
 pub record Begins (tag body : ℕ) (old new : List ℕ) (spare : ℕ) : Type 0 where

@@ -7,7 +7,7 @@ use Rattle.pg_wire.specs.Decode.{Decodes}
 use Rattle.pg_wire.specs.Messages.{message_view}
 use Rattle.pg_wire.specs.declared.codec.BackendMessage.{BackendMessage}
 use Rattle.pg_wire.specs.declared.codec.BackendMessage.TheVariants as cut
-use Rattle.pg_faults.specs.declared.fault.WireFault.{WireFault}
+use Rattle.pg_types.specs.declared.faults.WireFault.{WireFault}
 
 -- what happens to the buffer of received bytes
 pub data Event : Type 0 where

@@ -8,8 +8,8 @@ use Rattle.pg_wire.specs.Messages.{message_view}
 use Rattle.pg_wire.specs.declared.message.Message.{Message}
 use Rattle.pg_wire.specs.declared.codec.BackendMessage.{BackendMessage}
 use Rattle.pg_wire.specs.declared.codec.BackendMessage.TheVariants as cut
-use Rattle.pg_faults.specs.declared.fault.WireFault.{WireFault}
-use Rattle.pg_faults.specs.declared.fault.WireFault.TheVariants as fault
+use Rattle.pg_types.specs.declared.faults.WireFault.{WireFault}
+use Rattle.pg_types.specs.declared.faults.WireFault.TheVariants as fault
 
 -- these messages came off the front, and the buffer is shorter
 pub record CutsOff (old new : List ℕ) (front : List RawMessage) : Type 0 where

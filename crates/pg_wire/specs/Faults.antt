@@ -1,9 +1,9 @@
 -- What a fault says of the bytes or the arguments: want of memory says nothing.
 use Rattle.std.specs.Prelude.{Option, Some, None}
-use Rattle.pg_faults.specs.declared.fault.WireFault.{WireFault}
-use Rattle.pg_faults.specs.declared.fault.WireFault.TheVariants as wire
-use Rattle.pg_faults.specs.declared.fault.FrameFault.{FrameFault}
-use Rattle.pg_faults.specs.declared.fault.FrameFault.TheVariants as frame
+use Rattle.pg_types.specs.declared.faults.WireFault.{WireFault}
+use Rattle.pg_types.specs.declared.faults.WireFault.TheVariants as wire
+use Rattle.pg_types.specs.declared.faults.FrameFault.{FrameFault}
+use Rattle.pg_types.specs.declared.faults.FrameFault.TheVariants as frame
 
 -- what is wrong with the bytes, None for want of memory
 abbrev pub wire_fault : WireFault → Option WireFault

@@ -19,3 +19,4 @@ pub mod Memory
 pub mod MemoryLinks
 pub mod MemoryStreams
 pub mod Cuttings
+pub mod Items

@@ -9,7 +9,7 @@ use Rattle.pg_spec.specs.Faults.{◌>>=◌}
 use Rattle.pg_spec.specs.DbErrors.{ErrorField, error_field_at, error_fields}
 use Rattle.pg_spec.specs.Bytes.{number_at}
 use Rattle.pg_spec.specs.Bodies.{Field, or_layout, field_at, cell_at, exactly, name_at, mechanisms_of}
-use Rattle.pg_faults.specs.declared.fault.WireFault.{WireFault}
+use Rattle.pg_types.specs.declared.faults.WireFault.{WireFault}
 use Rattle.pg_wire.specs.Faults.{wire_fault}
 
 -- what a step of a reader gives: an item and what is left, or none at the end

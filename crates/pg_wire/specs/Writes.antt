@@ -3,7 +3,7 @@ use Rattle.std.specs.Prelude.{◌≡◌, ℕ, Bool, ◌||◌, List, ◌++◌, fl
 use Rattle.pg_spec.specs.Bytes.{text0}
 use Rattle.pg_spec.specs.Faults as spec
 use Rattle.pg_spec.specs.Frames.{has_zero}
-use Rattle.pg_faults.specs.declared.fault.FrameFault.{FrameFault}
+use Rattle.pg_types.specs.declared.faults.FrameFault.{FrameFault}
 use Rattle.pg_wire.specs.Faults.{frame_fault}
 
 -- the refusal is the frame's own, or want of memory

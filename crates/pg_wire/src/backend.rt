@@ -8,8 +8,7 @@ ghost use Rattle.pg_wire.specs.Backend.{HoldsBatch, Nexts};
 use crate::front::count;
 use crate::message::Message;
 use bytes::Bytes;
-use pg_faults::WireFault;
-use pg_types::OutOfMemory;
+use pg_types::{OutOfMemory, WireFault};
 use std::marker::Model;
 
 /// Whole messages, seen as their list: none of them is aside, and a ReadyForQuery, if one is there, is the

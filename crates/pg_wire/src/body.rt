@@ -5,7 +5,7 @@ ghost use Rattle.std.specs.Str.{is_utf8};
 
 use crate::texts::{TextPair, utf8};
 use bytes::Bytes;
-use pg_faults::WireFault;
+use pg_types::WireFault;
 use std::marker::Model;
 use std::str;
 

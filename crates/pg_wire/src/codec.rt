@@ -12,7 +12,7 @@ use crate::frontend::copy_data;
 use crate::layout::{is_laid_out, message_of};
 use crate::message::Message;
 use bytes::{Bytes, BytesMut};
-use pg_faults::{FrameFault, WireFault};
+use pg_types::{FrameFault, WireFault};
 
 /// What is written to the server.
 #[derive(Drop)]

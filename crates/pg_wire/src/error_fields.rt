@@ -5,7 +5,7 @@ ghost use Rattle.pg_wire.specs.Steps.{Steps, error_step};
 
 use crate::body::ErrorResponseBody;
 use crate::texts::text_end;
-use pg_faults::WireFault;
+use pg_types::WireFault;
 use std::marker::Model;
 
 /// A field: the byte that says what it is, and its text.

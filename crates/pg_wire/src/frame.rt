@@ -6,7 +6,7 @@ ghost use Rattle.pg_spec.specs.Frames.{has_zero as spec_has_zero};
 ghost use Rattle.pg_wire.specs.Begins.{Begins, RefusesLength};
 
 use bytes::BytesMut;
-use pg_faults::FrameFault;
+use pg_types::FrameFault;
 
 /// The largest number that a length field holds, in bytes.
 const MAX_LEN: usize = 2_147_483_647;

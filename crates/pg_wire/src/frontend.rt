@@ -7,8 +7,7 @@ ghost use Rattle.pg_wire.specs.Writes.{Writes, pair_has_zero, pairs_bytes};
 
 use crate::frame::{begin, frame_len, has_zero, put_text};
 use bytes::BytesMut;
-use pg_faults::FrameFault;
-use pg_types::{List, OutOfMemory, Text};
+use pg_types::{FrameFault, List, OutOfMemory, Text};
 use std::alloc::Global;
 use std::marker::Model;
 

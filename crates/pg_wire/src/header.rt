@@ -3,7 +3,7 @@
 ghost use Rattle.std.specs.Prelude.{◌≡◌, ◌<◌, ◌↔◌, Ok, Err, length, IfOk, IfSome, IfErr};
 ghost use Rattle.pg_wire.specs.Header.{StandsAtFront, HasBadLength, tag_of, len_of};
 
-use pg_faults::WireFault;
+use pg_types::WireFault;
 
 /// A tag, and the length behind it (PostgreSQL documentation, "Message Formats").
 #[derive(Clone, Copy, Debug, PartialEq, Eq, Drop)]

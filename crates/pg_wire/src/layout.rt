@@ -16,7 +16,7 @@ use crate::body::{
 use crate::message::Message;
 use crate::texts::{TextPair, pair_end, text_end};
 use bytes::{Buf, Bytes};
-use pg_faults::WireFault;
+use pg_types::WireFault;
 
 /// The message of a tag and a body, or what is wrong with them: UnknownTag or Layout.
 pub(crate) fn message_of(tag: u8, body: Bytes) -> Result<Message, WireFault>

@@ -6,7 +6,7 @@ ghost use Rattle.pg_wire.specs.Steps.{Refuses, mechanism_step};
 
 use crate::body::AuthenticationSaslBody;
 use crate::texts::{text_end, utf8};
-use pg_faults::WireFault;
+use pg_types::WireFault;
 use std::marker::Model;
 
 /// The mechanisms not yet read, seen as the bytes that hold them.

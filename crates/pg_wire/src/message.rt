@@ -14,7 +14,7 @@ use crate::body::{
 use crate::front::{Found, front};
 use crate::layout::message_of;
 use bytes::Bytes;
-use pg_faults::WireFault;
+use pg_types::WireFault;
 
 /// A message of the server, its parts not yet read (PostgreSQL documentation, "Message Formats").
 pub enum Message {

@@ -6,7 +6,7 @@ ghost use Rattle.pg_wire.specs.Steps.{Steps, Refuses, oid_at, parameter_step};
 
 use crate::body::ParameterDescriptionBody;
 use bytes::Buf;
-use pg_faults::WireFault;
+use pg_types::WireFault;
 use std::marker::Model;
 
 /// The types not yet read.

@@ -6,8 +6,7 @@ ghost use Rattle.pg_wire.specs.Steps.{CellSteps, Refuses, IsWithin, cell_in};
 
 use crate::body::DataRowBody;
 use bytes::Buf;
-use pg_faults::WireFault;
-use pg_types::OutOfMemory;
+use pg_types::{OutOfMemory, WireFault};
 use std::marker::Model;
 use std::ops::Range;
 

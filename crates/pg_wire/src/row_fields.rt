@@ -7,7 +7,7 @@ ghost use Rattle.pg_wire.specs.Steps.{Steps, Refuses, field_step};
 use crate::body::RowDescriptionBody;
 use crate::texts::{text_end, utf8};
 use bytes::Buf;
-use pg_faults::WireFault;
+use pg_types::WireFault;
 use std::marker::Model;
 
 /// A column of a result.

@@ -5,7 +5,7 @@ ghost use Rattle.std.specs.Str.{is_utf8};
 ghost use Rattle.pg_wire.specs.Bodies.{TextEnds, PairEnds, text_pair};
 
 use bytes::Bytes;
-use pg_faults::WireFault;
+use pg_types::WireFault;
 use std::marker::Model;
 
 /// Two texts, one behind the other. They share the bytes that were received.

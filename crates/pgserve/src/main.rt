@@ -3,8 +3,8 @@
 
 ghost use Rattle.std.specs.Prelude.{◌≡◌, ◌<◌};
 
-use pg_machine_file::{FileFault, machine_of};
-use pg_rehearse::{
+use pg_machine::{FileFault, machine_of};
+use pg_served::{
     Outcome, Pieces, echo_link, machine_link, pieces_of, rehearse_echo, rehearse_machine,
 };
 use pg_wire::{ReadSource, WriteSink};

@@ -7,7 +7,7 @@ use Rattle.pg_spec.specs.RawMessages.{RawMessage}
 use Rattle.futures.specs.declared.task.Poll.{Poll}
 use Rattle.futures.specs.declared.task.Poll.TheVariants.{Ready, Pending}
 use Rattle.pg_errors.specs.declared.async_message.AsyncMessage.{AsyncMessage}
-use Rattle.pg_faults.specs.declared.error.Error.{Error}
+use Rattle.pg_types.specs.declared.error.Error.{Error}
 use Rattle.pg_desk.specs.declared.event.Booking.{Booking}
 use Rattle.pg_desk.specs.Asking.{IsAsking}
 use Rattle.pg_desk.specs.declared.event.DeskFault.{DeskFault}
@@ -38,15 +38,15 @@ use Rattle.pg_query.specs.Faults.{of_fault}
 use Rattle.pg_query.specs.Dialogue.{Dialogue, Answer, Ask, Send, Leave, Read, Put, Finish, Close, HangUp, Call, Hear, Steps, Told, Walks, feed_one, feed, fits, after_reply}
 use Rattle.pg_query.specs.Meaning.{Place}
 use Rattle.pg_query.specs.Meaning as meaning
-use Rattle.pg_turns.specs.declared.handle_turn.Polling.{Polling}
-use Rattle.pg_turns.specs.declared.handle_turn.Polling.TheVariants as polling
-use Rattle.pg_turns.specs.HandleTurns.{AsksCommand, StartsAt}
-use Rattle.pg_turns.specs.Sessions.{IsNewSession, MakesAll}
-use Rattle.pg_turns.specs.Handles.{HandleState}
-use Rattle.pg_turns.specs.States.{SessionState, new_handles, commands_in}
-use Rattle.pg_turns.specs.Turns.{untouched, Closes, ClosesBehind, HandleTurns, HandsOn, Makes}
+use Rattle.pg_session.specs.declared.handle_turn.Polling.{Polling}
+use Rattle.pg_session.specs.declared.handle_turn.Polling.TheVariants as polling
+use Rattle.pg_session.specs.HandleTurns.{AsksCommand, StartsAt}
+use Rattle.pg_session.specs.Sessions.{IsNewSession, MakesAll}
+use Rattle.pg_session.specs.Handles.{HandleState}
+use Rattle.pg_session.specs.States.{SessionState, new_handles, commands_in}
+use Rattle.pg_session.specs.Turns.{untouched, Closes, ClosesBehind, HandleTurns, HandsOn, Makes}
 use Rattle.pg_session.proofs.Caused.Frames.{AreRequests}
-use Rattle.pg_turns.specs.Speeches.{BookWhole, BooksWhole, IsWholeRequest, Speech}
+use Rattle.pg_session.specs.Speeches.{BookWhole, BooksWhole, IsWholeRequest, Speech}
 
 -- ---- the hub's bookings
 

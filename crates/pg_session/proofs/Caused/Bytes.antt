@@ -20,8 +20,8 @@ use Rattle.pg_wire.specs.LinkCalls.{Keeps}
 use Rattle.pg_wire.specs.Messages.{message_view}
 use Rattle.pg_wire.specs.declared.body.ErrorResponseBody.{ErrorResponseBody}
 use Rattle.pg_wire.specs.declared.message.Message.{Message as WireMessage}
-use Rattle.pg_faults.specs.declared.cause.Cause.{Cause}
-use Rattle.pg_faults.specs.declared.error.Error.{Error}
+use Rattle.pg_types.specs.declared.cause.Cause.{Cause}
+use Rattle.pg_types.specs.declared.error.Error.{Error}
 use Rattle.pg_desk.specs.declared.event.Event.{Event}
 use Rattle.pg_desk.specs.History.{State, start, started_of, after_all, finished, wire, joined, IsFrontOf, has_open}
 use Rattle.pg_desk.specs.Kept.{legal-joined}

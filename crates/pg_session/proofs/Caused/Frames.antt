@@ -16,9 +16,9 @@ use Rattle.pg_spec.specs.Settings.{startup_parameters, Settings}
 use Rattle.pg_spec.proofs.MessageLaws.{messages-append}
 use Rattle.pg_spec.proofs.SentLaws.{after_startup_frame-front}
 use Rattle.pg_desk.specs.History.{joined}
-use Rattle.pg_login.specs.Steps.{frame_of}
+use Rattle.pg_startup.specs.Steps.{frame_of}
 use Rattle.pg_session.proofs.Crossing.Groups.{both-true}
-use Rattle.pg_turns.specs.Speeches.{EndsAlone, EndsInSync, IsWholeRequest}
+use Rattle.pg_session.specs.Speeches.{EndsAlone, EndsInSync, IsWholeRequest}
 
 -- ---- frames that were written
 

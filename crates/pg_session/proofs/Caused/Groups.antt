@@ -13,7 +13,7 @@ use Rattle.pg_connect.specs.Passed.{delivered_by}
 use Rattle.pg_connect.specs.Reads.{has_no_request}
 use Rattle.pg_session.proofs.Crossing.Groups.{both-true, AreWhole, all-whole}
 use Rattle.pg_session.proofs.Crossing.Hub.{Ran, ran-all, ran-start, received-all, ends_whole}
-use Rattle.pg_turns.proofs.Order.Traces.{stands_next}
+use Rattle.pg_session.proofs.Order.Traces.{stands_next}
 
 -- ---- no request is open
 

@@ -9,7 +9,7 @@ use Rattle.pg_spec.specs.Bodies.{mechanisms_of, name_at}
 use Rattle.pg_spec.specs.Bytes.{items_of}
 use Rattle.pg_spec.specs.DbErrors.{DbError, db_error_of}
 use Rattle.pg_spec.specs.Faults.{◌>>=◌, Failure, FrameFault, WireFault, ScramFault, ZeroByte, TooMany, TooLong, Frame, Encode, Config, NoPassword, Authentication, NotAscii, Scram, Parse, NotText, NotUtf8, Io, Wire, Layout, UnknownTag, Fields, Db, UnexpectedMessage, BadMessage, BadNonce, BadSalt, BadIterations, BadSignature, ServerError}
-use Rattle.pg_faults.specs.declared.fault.FrameFault.TheVariants as frame
+use Rattle.pg_types.specs.declared.faults.FrameFault.TheVariants as frame
 use Rattle.pg_spec.specs.Frames.{frame_fault, has_zero, unless_fault, password_frame, sasl_frame, sasl_initial_frame}
 use Rattle.pg_spec.specs.Messages as said
 use Rattle.pg_spec.specs.Messages.{Message, layouts}

@@ -9,12 +9,12 @@ use Rattle.pg_spec.specs.Faults.{FrameFault, ZeroByte, TooMany, TooLong, Frame, 
 use Rattle.pg_spec.specs.Links.{LinkView, Grew, added, OfBytes}
 use Rattle.pg_spec.specs.RawMessages.{RawMessage, messages}
 use Rattle.pg_spec.specs.Startup.{Refused, Move, begun_by, dialogue, First, moved_by, startup, plain_login}
-use Rattle.pg_faults.specs.declared.fault.FrameFault.TheVariants as frame
-use Rattle.pg_faults.specs.declared.fault.WireFault.TheVariants as wire
-use Rattle.pg_faults.specs.declared.cause.Cause.TheVariants as cause
-use Rattle.pg_faults.specs.declared.error.Error.{Error}
-use Rattle.pg_faults.specs.declared.error.Error.TheVariants as error
-use Rattle.pg_login.specs.Steps.{Made, frame_of}
+use Rattle.pg_types.specs.declared.faults.FrameFault.TheVariants as frame
+use Rattle.pg_types.specs.declared.faults.WireFault.TheVariants as wire
+use Rattle.pg_types.specs.declared.cause.Cause.TheVariants as cause
+use Rattle.pg_types.specs.declared.error.Error.{Error}
+use Rattle.pg_types.specs.declared.error.Error.TheVariants as error
+use Rattle.pg_startup.specs.Steps.{Made, frame_of}
 use Rattle.pg_startup.specs.declared.startup.Startup.{Startup}
 use Rattle.pg_startup.specs.Startups.{IsAt, IsRefusedNext, Leads, Failed}
 use Rattle.pg_session.proofs.Caused.Refusals.{IsOfStartup, startup-failure}

@@ -12,7 +12,7 @@ use Rattle.pg_spec.specs.Frames.{has_zero, frame_fault, startup_body, untagged, 
 use Rattle.pg_spec.specs.RawMessages.{messages, ends_in}
 use Rattle.pg_spec.specs.Sent.{asked_for_tls, behind_length, messages_if, is_terminate, said_terminate}
 use Rattle.pg_spec.proofs.Readers.{number_at_front}
-use Rattle.pg_login.specs.Steps.{frame_of}
+use Rattle.pg_startup.specs.Steps.{frame_of}
 
 -- ---- a front of two lists
 

@@ -7,7 +7,7 @@ use Rattle.pg_spec.specs.Links.{LinkView, Grew}
 use Rattle.pg_spec.specs.RawMessages.{RawMessage, messages, bytes_left, sync_of, async_of}
 use Rattle.pg_wire.specs.LinkCalls.{Keeps}
 use Rattle.pg_errors.specs.declared.async_message.AsyncMessage.{AsyncMessage}
-use Rattle.pg_faults.specs.declared.error.Error.{Error}
+use Rattle.pg_types.specs.declared.error.Error.{Error}
 use Rattle.pg_desk.specs.declared.event.Event.{Event}
 use Rattle.pg_desk.specs.History.{start, after_all, IsLegal}
 use Rattle.pg_hub.specs.Standing.{Standing}
@@ -17,11 +17,11 @@ use Rattle.pg_connect.specs.Answers.{PollAnswers, is_over, fresh, left_open}
 use Rattle.pg_connect.specs.Passed.{delivered_by, bytes_out_by}
 use Rattle.pg_connect.specs.Passes.{Passes, waiting, delayed_in, IsUnread, goodbye}
 use Rattle.pg_connect.proofs.Joining.{relay, grew_then, came_off_then, rest_then, out_then, delivered_by-append, bytes_out_by-append, none_lost, keeps_then}
-use Rattle.pg_turns.specs.Sessions.{MakesAll, Rests}
-use Rattle.pg_turns.specs.States.{SessionState}
-use Rattle.pg_turns.specs.Turns.{HandsOn, Makes}
+use Rattle.pg_session.specs.Sessions.{MakesAll, Rests}
+use Rattle.pg_session.specs.States.{SessionState}
+use Rattle.pg_session.specs.Turns.{HandsOn, Makes}
 use Rattle.pg_session.proofs.Crossing.{Moves, Stood}
-use Rattle.pg_turns.specs.Speeches.{Speech}
+use Rattle.pg_session.specs.Speeches.{Speech}
 
 -- ---- between two turns
 

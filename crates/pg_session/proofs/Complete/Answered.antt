@@ -2,10 +2,10 @@
 use Rattle.std.proofs.Common.{◌≡◌, ◌≤◌, ◌-◌, ℕ, zero, suc, List, [], ◌∷◌, length, take, drop, Bool, true, false, refl, sym, ap, subst, ◌∙◌, arith}
 use Rattle.std.specs.List.{AllByRecursion}
 use Rattle.std.proofs.lemmas.List.{length-drop}
-use Rattle.pg_failed.specs.Calls.{Call, apart}
-use Rattle.pg_failed.specs.Completeness.{AreReplies, Conforms, flushes}
-use Rattle.pg_failed.specs.Landed.{has_flush}
-use Rattle.pg_failed.proofs.NoFlush.{NoneIs, flushes-many, flushes-none}
+use Rattle.pg_promises.specs.Calls.{Call, apart}
+use Rattle.pg_promises.specs.Completeness.{AreReplies, Conforms, flushes}
+use Rattle.pg_promises.specs.FailedLanded.{has_flush}
+use Rattle.pg_promises.proofs.NoFlush.{NoneIs, flushes-many, flushes-none}
 use Rattle.pg_promises.specs.Promises.{IsOneReply}
 use Rattle.pg_spec.specs.Links.{Plan}
 use Rattle.pg_spec.specs.Sent.{turns_given}

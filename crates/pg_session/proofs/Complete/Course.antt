@@ -9,15 +9,15 @@ use Rattle.pg_spec.specs.Faults.{Failure, OutOfMemory}
 use Rattle.pg_spec.specs.Links.{Plan, Rose, added, due_by}
 use Rattle.pg_promises.proofs.Strings.{means_one}
 use Rattle.pg_promises.specs.Promises.{AnswersStartup, EndsWell}
-use Rattle.pg_failed.specs.Calls as any_calls
-use Rattle.pg_failed.specs.Calls.{apart}
-use Rattle.pg_failed.specs.Completeness as any
-use Rattle.pg_failed.specs.Sent.{SentInOrder}
+use Rattle.pg_promises.specs.Calls as any_calls
+use Rattle.pg_promises.specs.Calls.{apart}
+use Rattle.pg_promises.specs.Completeness as any
+use Rattle.pg_promises.specs.Sent.{SentInOrder}
 use Rattle.pg_spec.specs.RawMessages.{RawMessage, messages}
 use Rattle.pg_spec.specs.Sent.{turns_given}
 use Rattle.pg_spec.specs.Startup.{Startup, startup}
 use Rattle.pg_wire.specs.LinkCalls.{Continues, Extends, Tells}
-use Rattle.pg_turns.specs.Speeches.{BookWhole, Speech, meaning_of}
+use Rattle.pg_session.specs.Speeches.{BookWhole, Speech, meaning_of}
 use Rattle.pg_session.specs.Course.{HoldsCourse}
 use Rattle.std.proofs.lemmas.List.Elements.{recursion_from_All}
 use Rattle.pg_session.proofs.Complete.Bytes.{IsWhole, all-take, front-of, messages-behind, split-concat, whole-concat}

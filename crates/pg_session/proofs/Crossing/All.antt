@@ -28,10 +28,10 @@ use Rattle.pg_connect.specs.Passes.{risen}
 use Rattle.pg_connect.proofs.Joining.{none_lost}
 use Rattle.pg_connect.proofs.Sizes.{sizes, sized}
 use Rattle.pg_core.specs.Trails.{said_booking}
-use Rattle.pg_headline.specs.Endings.{Report}
+use Rattle.pg_promises.specs.Endings.{Report}
 use Rattle.pg_spec.specs.declared.stamps.TurnMark.{TurnMark}
 use Rattle.pg_session.specs.Crossed.{session_of, Crossed}
-use Rattle.pg_turns.specs.Sessions.{HasPlayed}
+use Rattle.pg_session.specs.Sessions.{HasPlayed}
 use Rattle.pg_session.proofs.Caused.Lists.{all-left}
 use Rattle.pg_session.proofs.Crossing.Hub.{received-all, ends_whole, Ran, ran-all, ran-start}
 use Rattle.pg_session.proofs.Crossing.{Emptied, Stood, shown}
@@ -40,7 +40,7 @@ use Rattle.pg_session.proofs.Crossing.End.{finished as finish, added-is, all-out
 use Rattle.pg_session.proofs.Crossing.Groups.{AreWhole, all-whole, both-true}
 use Rattle.pg_startup.specs.Startups.{Ends}
 use Rattle.pg_connect.proofs.LastValues.{last-values}
-use Rattle.pg_turns.specs.Speeches.{Speech}
+use Rattle.pg_session.specs.Speeches.{Speech}
 
 -- ---- lists
 

@@ -7,7 +7,7 @@ use Rattle.pg_spec.specs.Links.{LinkView}
 use Rattle.pg_spec.specs.RawMessages.{RawMessage}
 use Rattle.pg_spec.specs.Report as said
 use Rattle.pg_errors.specs.declared.async_message.AsyncMessage.{AsyncMessage}
-use Rattle.pg_faults.specs.declared.error.Error.{Error}
+use Rattle.pg_types.specs.declared.error.Error.{Error}
 use Rattle.pg_errors.specs.Views.{async_of as aside_of}
 use Rattle.pg_spec.specs.declared.stamps.Stamp.{Stamp}
 use Rattle.pg_desk.specs.declared.event.Out.TheVariants as out
@@ -25,16 +25,16 @@ use Rattle.pg_query.proofs.Questions.{told-asks}
 use Rattle.pg_query.specs.Dialogue.{Dialogue, Answer, Ask, Send, Leave, Read, Put, Finish, Close, HangUp, Call, Hear, Steps, Walks}
 use Rattle.pg_query.specs.Meaning.{Place}
 use Rattle.pg_query.specs.Meaning as meaning
-use Rattle.pg_turns.specs.declared.handle_turn.Polling.{Polling}
-use Rattle.pg_turns.specs.declared.handle_turn.Polling.TheVariants as polling
-use Rattle.pg_turns.specs.Turns.{HandleTurns}
-use Rattle.pg_turns.specs.Sessions.{MakesAll}
-use Rattle.pg_turns.specs.Handles.{HandleState}
-use Rattle.pg_turns.specs.States.{SessionState}
-use Rattle.pg_turns.specs.Turns.{untouched, Closes, ClosesBehind, HandsOn, Makes}
+use Rattle.pg_session.specs.declared.handle_turn.Polling.{Polling}
+use Rattle.pg_session.specs.declared.handle_turn.Polling.TheVariants as polling
+use Rattle.pg_session.specs.Turns.{HandleTurns}
+use Rattle.pg_session.specs.Sessions.{MakesAll}
+use Rattle.pg_session.specs.Handles.{HandleState}
+use Rattle.pg_session.specs.States.{SessionState}
+use Rattle.pg_session.specs.Turns.{untouched, Closes, ClosesBehind, HandsOn, Makes}
 use Rattle.pg_session.proofs.Crossing.Hub.{by_kind}
 use Rattle.pg_session.proofs.Crossing.{Moves, moves-by, Quiet, shown, Stood, stood-quiet, stood-rests, Passing, stood-passing}
-use Rattle.pg_turns.specs.Speeches.{Speech}
+use Rattle.pg_session.specs.Speeches.{Speech}
 
 -- ---- a dialogue delivers nothing and lets nothing out
 

@@ -13,7 +13,7 @@ use Rattle.pg_spec.specs.RawMessages.{RawMessage, messages, sync_of}
 use Rattle.pg_spec.specs.Startup.{startup}
 use Rattle.pg_spec.specs.Turns.{delivered_after}
 use Rattle.pg_errors.specs.declared.async_message.AsyncMessage.{AsyncMessage}
-use Rattle.pg_faults.specs.declared.error.Error.{Error}
+use Rattle.pg_types.specs.declared.error.Error.{Error}
 use Rattle.pg_desk.specs.declared.event.Booking.{Booking}
 use Rattle.pg_desk.specs.History.{start, after_all, wire, joined, IsFrontOf}
 use Rattle.pg_desk.proofs.Soundness.{legal-sound}
@@ -24,19 +24,19 @@ use Rattle.pg_connect.specs.Answers.{PollAnswers}
 use Rattle.pg_connect.specs.Passed.{bytes_out_by}
 use Rattle.pg_connect.specs.Passes.{goodbye}
 use Rattle.pg_core.specs.Trails.{said_booking}
-use Rattle.pg_headline.specs.Endings.{Report}
+use Rattle.pg_promises.specs.Endings.{Report}
 use Rattle.pg_spec.specs.declared.stamps.TurnMark.{TurnMark}
 use Rattle.pg_session.specs.Crossed.{session_of, Sent}
-use Rattle.pg_turns.specs.Sessions.{HasPlayed}
-use Rattle.pg_turns.specs.States.{SessionState}
-use Rattle.pg_turns.specs.Turns.{HandsOn, Makes}
+use Rattle.pg_session.specs.Sessions.{HasPlayed}
+use Rattle.pg_session.specs.States.{SessionState}
+use Rattle.pg_session.specs.Turns.{HandsOn, Makes}
 use Rattle.pg_session.proofs.Crossing.Hub.{out-all}
 use Rattle.pg_session.proofs.Crossing.{Stood}
 use Rattle.pg_session.proofs.Crossing.Chain.{StoodIn, stood-turn, stood-all}
 use Rattle.pg_session.proofs.Crossing.Front.{all-marked, front-delivered}
 use Rattle.pg_session.proofs.Crossing.Start.{stood-start}
 use Rattle.pg_session.proofs.Opening.{Started, done-of, is-started}
-use Rattle.pg_turns.specs.Speeches.{Speech}
+use Rattle.pg_session.specs.Speeches.{Speech}
 
 not_over : {X : Type 0} → true ≡ false → X
 not_over e = absurd cc

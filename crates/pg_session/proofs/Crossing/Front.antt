@@ -10,12 +10,12 @@ use Rattle.pg_connect.specs.Passed.{delivered_by}
 use Rattle.pg_connect.specs.Passes.{risen, waiting}
 use Rattle.pg_errors.specs.declared.async_message.AsyncMessage.{AsyncMessage}
 use Rattle.pg_spec.specs.declared.stamps.TurnMark.{TurnMark}
-use Rattle.pg_turns.specs.Sessions.{MakesAll}
-use Rattle.pg_turns.specs.States.{SessionState}
-use Rattle.pg_turns.specs.Turns.{Makes}
+use Rattle.pg_session.specs.Sessions.{MakesAll}
+use Rattle.pg_session.specs.States.{SessionState}
+use Rattle.pg_session.specs.Turns.{Makes}
 use Rattle.pg_session.proofs.Crossing.{Stood}
 use Rattle.pg_session.proofs.Crossing.Chain.{passing}
-use Rattle.pg_turns.specs.Speeches.{Speech}
+use Rattle.pg_session.specs.Speeches.{Speech}
 
 -- no mark tells more than this
 abbrev pub NoneAbove : List TurnMark → ℕ → Type 0

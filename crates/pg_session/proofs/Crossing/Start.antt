@@ -10,11 +10,11 @@ use Rattle.pg_connect.specs.Passes.{waiting, notice_of, IsUnread, goodbye}
 use Rattle.pg_startup.specs.declared.startup.Startup.{Startup as StartupState}
 use Rattle.pg_startup.specs.Startups.{Opened}
 use Rattle.pg_startup.specs.StartupPolls.{IsFresh}
-use Rattle.pg_turns.specs.Sessions.{IsNewSession}
-use Rattle.pg_turns.specs.States.{SessionState, commands_in}
+use Rattle.pg_session.specs.Sessions.{IsNewSession}
+use Rattle.pg_session.specs.States.{SessionState, commands_in}
 use Rattle.pg_session.proofs.Crossing.{Stood, shown, stood-quiet}
 use Rattle.pg_session.proofs.Crossing.Chain.{StoodIn, closes-goes}
-use Rattle.pg_turns.specs.Speeches.{Speech}
+use Rattle.pg_session.specs.Speeches.{Speech}
 
 module _ {C T A E : Type 0} (speech : Speech C T A E) where
   pub stood-start : (settings : Settings) (nonce : List ℕ) (scripts : List (List C)) (before link : LinkView) (startup : StartupState) (opening : List ℕ) (new : SessionState T A E)

@@ -18,21 +18,21 @@ use Rattle.pg_desk.specs.declared.event.Event.TheVariants.{CloseRequests}
 use Rattle.pg_spec.specs.declared.stamps.Stamp.{Stamp}
 use Rattle.pg_spec.specs.declared.stamps.TurnMark.{TurnMark}
 use Rattle.pg_errors.specs.declared.async_message.AsyncMessage.{AsyncMessage}
-use Rattle.pg_faults.specs.declared.error.Error.{Error}
+use Rattle.pg_types.specs.declared.error.Error.{Error}
 use Rattle.pg_hub.specs.Becomes.{after-joined, fits-touched}
 use Rattle.pg_hub.specs.Fits.{Fits, HubBecomes}
 use Rattle.pg_hub.specs.Standing.{Standing}
 use Rattle.pg_session.proofs.Crossing.Chain.{quiet-walk}
 use Rattle.pg_session.proofs.Crossing.{Moves, moves-by}
 use Rattle.pg_session.specs.Events.{events_in_handle, events_in_close, events_behind, events_in_turn, events_in}
-use Rattle.pg_turns.specs.Calls.{calls_in_poll, calls_in_turn, calls_in}
-use Rattle.pg_turns.specs.Sessions.{MakesAll}
-use Rattle.pg_turns.specs.Handles.{HandleState}
-use Rattle.pg_turns.specs.States.{SessionState}
-use Rattle.pg_turns.specs.Turns.{Closes, ClosesBehind, HandleTurns, HandsOn, Makes, untouched}
-use Rattle.pg_turns.specs.declared.handle_turn.Polling.{Polling}
-use Rattle.pg_turns.specs.declared.handle_turn.Polling.TheVariants as polling
-use Rattle.pg_turns.specs.Speeches.{Speech}
+use Rattle.pg_session.specs.Calls.{calls_in_poll, calls_in_turn, calls_in}
+use Rattle.pg_session.specs.Sessions.{MakesAll}
+use Rattle.pg_session.specs.Handles.{HandleState}
+use Rattle.pg_session.specs.States.{SessionState}
+use Rattle.pg_session.specs.Turns.{Closes, ClosesBehind, HandleTurns, HandsOn, Makes, untouched}
+use Rattle.pg_session.specs.declared.handle_turn.Polling.{Polling}
+use Rattle.pg_session.specs.declared.handle_turn.Polling.TheVariants as polling
+use Rattle.pg_session.specs.Speeches.{Speech}
 
 -- ---- the events are legal
 

@@ -1,7 +1,7 @@
 -- A copy puts its parts.
 use Rattle.std.proofs.Common.{◌≡◌, ℕ, ◌-◌, List, [], ◌∷◌, length, true, Option, Some, None, Result, Ok, Err, subst, arith}
 use Rattle.pg_spec.specs.RawMessages.{RawMessage}
-use Rattle.pg_faults.specs.declared.error.Error.{Error}
+use Rattle.pg_types.specs.declared.error.Error.{Error}
 use Rattle.pg_query.specs.Dialogue.{Finish}
 use Rattle.pg_query.specs.Reading.{ends, reads}
 use Rattle.pg_core.specs.Copying.{copies, once_opened, puts}

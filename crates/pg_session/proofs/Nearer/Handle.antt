@@ -1,6 +1,6 @@
 -- What the walk of a command leaves in the hub.
 use Rattle.std.proofs.Common.{◌≡◌, inl, inr, ℕ, ◌+◌, ◌<◌, ◌≤◌, List, [], ◌∷◌, false, Result, Ok, Err, refl, sym, subst, arith}
-use Rattle.pg_faults.specs.declared.error.Error.{Error}
+use Rattle.pg_types.specs.declared.error.Error.{Error}
 use Rattle.pg_desk.specs.Asking.{IsAsking}
 use Rattle.pg_desk.specs.declared.event.Event.{Event}
 use Rattle.pg_desk.specs.declared.event.Event.TheVariants.{Book, Put as PutEvent, EndCopy, Take as TakeEvent, HangUp as HangUpEvent, NextStatement, NextPortal, Catalog as CatalogEvent}

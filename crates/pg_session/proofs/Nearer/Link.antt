@@ -8,7 +8,7 @@ use Rattle.pg_spec.specs.Batches.{is_nothing}
 use Rattle.pg_spec.specs.Links.{LinkView}
 use Rattle.pg_spec.specs.RawMessages.{RawMessage, messages, bytes_left, is_async, is_parameter, sync_of, async_of}
 use Rattle.pg_errors.specs.declared.async_message.AsyncMessage.{AsyncMessage}
-use Rattle.pg_faults.specs.declared.error.Error.{Error}
+use Rattle.pg_types.specs.declared.error.Error.{Error}
 use Rattle.pg_connect.specs.declared.ends.TurnEnd.{TurnEnd}
 use Rattle.pg_connect.specs.declared.streams.Streams.{Streams}
 use Rattle.pg_connect.specs.Answers.{PollAnswers, Turned, fresh, left_open}
@@ -23,7 +23,7 @@ use Rattle.pg_hub.specs.Fits.{Fits, HubBecomes}
 use Rattle.pg_hub.specs.Standing.{Standing}
 use Rattle.pg_hub.specs.Waiting.{undelivered_of}
 use Rattle.pg_session.specs.Measure.{Left, put_of, unsent_left, reading_left}
-use Rattle.pg_turns.specs.Turns.{HandsOn, moved_in_poll}
+use Rattle.pg_session.specs.Turns.{HandsOn, moved_in_poll}
 use Rattle.pg_session.proofs.Nearer.Counted.{becomes-counted, engine-puts-none}
 use Rattle.pg_session.proofs.Nearer.Falling.{one_if, one-or, Falls, falls-either}
 use Rattle.pg_session.proofs.Nearer.Hub.{batches_left, wire_left, hub-batches, hub-parts, calls-passed}

@@ -14,12 +14,12 @@ use Rattle.pg_core.specs.Runs.{MayWait}
 use Rattle.pg_core.proofs.Waiting.{may-wait}
 use Rattle.pg_query.specs.Dialogue.{Dialogue}
 use Rattle.pg_query.specs.Meaning.{Place, Goes}
-use Rattle.pg_turns.specs.declared.handle_turn.Polling.{Polling}
-use Rattle.pg_turns.specs.declared.handle_turn.Polling.TheVariants as polling
-use Rattle.pg_turns.specs.Handles.{HandleState}
-use Rattle.pg_turns.specs.HandleTurns.{AsksCommand, StartsAt, Idles, Waits, Answers}
-use Rattle.pg_turns.specs.Speeches.{Speech}
-use Rattle.pg_turns.specs.Turns.{HandleTurns, untouched, Closes, ClosesBehind, moved_by}
+use Rattle.pg_session.specs.declared.handle_turn.Polling.{Polling}
+use Rattle.pg_session.specs.declared.handle_turn.Polling.TheVariants as polling
+use Rattle.pg_session.specs.Handles.{HandleState}
+use Rattle.pg_session.specs.HandleTurns.{AsksCommand, StartsAt, Idles, Waits, Answers}
+use Rattle.pg_session.specs.Speeches.{Speech}
+use Rattle.pg_session.specs.Turns.{HandleTurns, untouched, Closes, ClosesBehind, moved_by}
 use Rattle.pg_session.specs.Measure.{Left, MayPut, PutWithin, PutsAtMost, RunWaits, bounds_of, put_of, script_left}
 use Rattle.pg_session.proofs.Nearer.Counted.{becomes-counted}
 use Rattle.pg_session.proofs.Nearer.Falling.{one_if, Falls, Unread, falls-beside, falls-by-command, falls-sent}

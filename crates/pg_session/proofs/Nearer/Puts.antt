@@ -2,7 +2,7 @@
 use Rattle.std.proofs.Common.{◌≡◌, inl, inr, ℕ, zero, suc, ◌+◌, ◌-◌, ◌≤◌, List, [], ◌∷◌, drop, length, Bool, true, false, if◌then◌else◌, Option, Some, None, Result, Ok, Err, refl, sym, ap, subst, arith, slice_get, slice_set}
 use Rattle.pg_spec.specs.RawMessages.{RawMessage}
 use Rattle.pg_spec.specs.declared.stamps.Stamp.{Stamp}
-use Rattle.pg_faults.specs.declared.error.Error.{Error}
+use Rattle.pg_types.specs.declared.error.Error.{Error}
 use Rattle.pg_desk.specs.Asking.{IsAsking}
 use Rattle.pg_desk.specs.declared.event.DeskFault.{DeskFault}
 use Rattle.pg_desk.specs.declared.event.Put.TheVariants as putting
@@ -17,8 +17,8 @@ use Rattle.pg_query.specs.declared.desk_call.DeskCall.{DeskCall}
 use Rattle.pg_query.specs.declared.desk_call.Reply.{Reply}
 use Rattle.pg_query.proofs.LeavingLaws.{told-fits}
 use Rattle.pg_query.proofs.Questions.{told-asks}
-use Rattle.pg_turns.specs.Handles.{HandleState}
-use Rattle.pg_turns.specs.Speeches.{BookWhole, BooksWhole, Speech}
+use Rattle.pg_session.specs.Handles.{HandleState}
+use Rattle.pg_session.specs.Speeches.{BookWhole, BooksWhole, Speech}
 use Rattle.pg_core.specs.Runs.{MayWait}
 use Rattle.pg_session.specs.Measure.{AllMayPut, AllRead, AllWait, MayPut, PutNone, PutsAtMost, RunReads, RunWaits, bounds_of}
 

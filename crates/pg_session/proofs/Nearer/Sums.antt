@@ -8,7 +8,7 @@ use Rattle.pg_desk.specs.History.{rest_flags, wire}
 use Rattle.pg_hub.specs.Rests.{rests, weight_in, weight_of}
 use Rattle.pg_hub.specs.Waiting.{undelivered_in}
 use Rattle.pg_session.specs.Measure.{script_left, scripts_left, RunWaits, AllWait}
-use Rattle.pg_turns.specs.Handles.{HandleState}
+use Rattle.pg_session.specs.Handles.{HandleState}
 
 -- ---- sums over places
 

@@ -12,7 +12,7 @@ use Rattle.pg_spec.specs.RawMessages.{messages}
 use Rattle.pg_spec.specs.Sent.{asked_for_tls, after_ssl_request, behind_length, after_startup_frame, gives_turn, turns_given}
 use Rattle.pg_spec.specs.Settings.{Settings, startup_parameters}
 use Rattle.pg_spec.proofs.Readers.{number_at-Reader, number_at_front}
-use Rattle.pg_login.specs.Steps.{frame_of}
+use Rattle.pg_startup.specs.Steps.{frame_of}
 use Rattle.pg_session.proofs.Caused.Frames.{Written, written, sent-behind}
 use Rattle.pg_session.proofs.Opening.Passwords.{ArePasswords, each-turn, few-turns-in, front-passwords, reads-passwords}
 use Rattle.pg_session.proofs.Opening.Sent.{cut-front}

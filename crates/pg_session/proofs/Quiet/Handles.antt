@@ -20,16 +20,16 @@ use Rattle.pg_session.proofs.Readers.LetGo.{stays-let-go}
 use Rattle.pg_session.proofs.Readers.Polls.{AreRead, RunsOn, Mine, Tends, read-then, tends-waits, runs-before}
 use Rattle.pg_session.proofs.Readers.HubStates.{state_of, exact-back, reached-cut}
 use Rattle.pg_session.proofs.Readers.Walks.{walk-lets, walk-still}
-use Rattle.pg_turns.proofs.Lists.{set-here, set-there}
-use Rattle.pg_turns.proofs.Order.{rests_none}
-use Rattle.pg_turns.specs.declared.handle_turn.Polling.{Polling}
-use Rattle.pg_turns.specs.declared.handle_turn.Polling.TheVariants as polling
-use Rattle.pg_turns.specs.Handles.{HandleState}
-use Rattle.pg_turns.specs.HandleTurns.{Idles, Waits}
-use Rattle.pg_turns.specs.Sessions.{MakesAll, Rests, StaysAll, numbers}
-use Rattle.pg_turns.specs.Speeches.{Speech}
-use Rattle.pg_turns.specs.States.{SessionState}
-use Rattle.pg_turns.specs.Turns.{untouched, HandleMade, Makes, Turns, moved_by, moved_in}
+use Rattle.pg_session.proofs.Lists.{set-here, set-there}
+use Rattle.pg_session.proofs.Order.{rests_none}
+use Rattle.pg_session.specs.declared.handle_turn.Polling.{Polling}
+use Rattle.pg_session.specs.declared.handle_turn.Polling.TheVariants as polling
+use Rattle.pg_session.specs.Handles.{HandleState}
+use Rattle.pg_session.specs.HandleTurns.{Idles, Waits}
+use Rattle.pg_session.specs.Sessions.{MakesAll, Rests, StaysAll, numbers}
+use Rattle.pg_session.specs.Speeches.{Speech}
+use Rattle.pg_session.specs.States.{SessionState}
+use Rattle.pg_session.specs.Turns.{untouched, HandleMade, Makes, Turns, moved_by, moved_in}
 
 none-past : {X : Type 0} (xs : List X) (i : ℕ) → slice_get xs i ≡ None → length xs ≤ i
 none-past [] i h = omega arith

@@ -8,14 +8,14 @@ use Rattle.pg_query.specs.Dialogue.{Dialogue, Read}
 use Rattle.pg_query.specs.Meaning.{Place}
 use Rattle.pg_query.specs.Scripts.{IsPut, IsRead}
 use Rattle.pg_core.proofs.Waiting.{may-wait}
-use Rattle.pg_turns.specs.declared.handle_turn.Polling.{Polling}
-use Rattle.pg_turns.specs.declared.handle_turn.Polling.TheVariants as polling
-use Rattle.pg_turns.specs.Handles.{HandleState}
-use Rattle.pg_turns.specs.HandleTurns.{AsksCommand, StartsAt, Waits}
-use Rattle.pg_turns.specs.Sessions.{MakesAll}
-use Rattle.pg_turns.specs.Speeches.{Speech}
-use Rattle.pg_turns.specs.States.{SessionState}
-use Rattle.pg_turns.specs.Turns.{HandleTurns, Makes, untouched}
+use Rattle.pg_session.specs.declared.handle_turn.Polling.{Polling}
+use Rattle.pg_session.specs.declared.handle_turn.Polling.TheVariants as polling
+use Rattle.pg_session.specs.Handles.{HandleState}
+use Rattle.pg_session.specs.HandleTurns.{AsksCommand, StartsAt, Waits}
+use Rattle.pg_session.specs.Sessions.{MakesAll}
+use Rattle.pg_session.specs.Speeches.{Speech}
+use Rattle.pg_session.specs.States.{SessionState}
+use Rattle.pg_session.specs.Turns.{HandleTurns, Makes, untouched}
 use Rattle.pg_session.specs.Measure.{AllRead, PutNone, PutsAtMost, RunReads}
 use Rattle.pg_session.proofs.Nearer.Puts.{puts-walk, puts_in, reads-so, StillPuts}
 

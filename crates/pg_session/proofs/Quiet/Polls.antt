@@ -20,15 +20,15 @@ use Rattle.pg_desk.specs.History.{State, waiting, is_hung_up, has_begun, has_end
 use Rattle.pg_desk.proofs.Soundness.{owner-is-oldest}
 use Rattle.pg_hub.specs.Fits.{Fits, HubBecomes}
 use Rattle.pg_hub.specs.Standing.{Standing}
-use Rattle.pg_lives.specs.SessionKept.{left}
+use Rattle.pg_session.specs.SessionKept.{left}
 use Rattle.pg_query.specs.Meaning.{Place}
 use Rattle.pg_query.specs.Scripts.{IsPut}
-use Rattle.pg_turns.proofs.Takes.{took-empty}
+use Rattle.pg_session.proofs.Takes.{took-empty}
 use Rattle.pg_session.proofs.Quiet.Handles.{IsQuiet, Done, Awaits, HoldsBack}
 use Rattle.pg_session.proofs.Readers.LetGo.{IsLetGo}
 use Rattle.pg_session.proofs.Readers.Polls.{AreRead, IsReadIn, one-there, none-some}
-use Rattle.pg_turns.specs.Handles.{HandleState}
-use Rattle.pg_turns.specs.Speeches.{Speech}
+use Rattle.pg_session.specs.Handles.{HandleState}
+use Rattle.pg_session.specs.Speeches.{Speech}
 
 -- ---- nothing moves the hub
 

@@ -3,17 +3,17 @@ use Rattle.std.proofs.Common.{◌≡◌, ℕ, zero, suc, ◌+◌, ◌-◌, ◌�
 use Rattle.std.proofs.lemmas.Bool.{cases_eq}
 use Rattle.std.proofs.lemmas.List.{length-map, length-set}
 use Rattle.pg_spec.specs.Links.{LinkView}
-use Rattle.pg_lives.proofs.Left.{left-new, left-set}
-use Rattle.pg_lives.proofs.Rows.{get-within}
-use Rattle.pg_lives.specs.SessionKept.{left}
-use Rattle.pg_turns.proofs.Lists.{one-more, set-here, set-there}
-use Rattle.pg_turns.specs.declared.handle_turn.Polling.{Polling}
-use Rattle.pg_turns.specs.declared.handle_turn.Polling.TheVariants as polling
-use Rattle.pg_turns.specs.Handles.{HandleState, idle_handle}
-use Rattle.pg_turns.specs.Sessions.{MakesAll, IsNewSession}
-use Rattle.pg_turns.specs.Speeches.{Speech}
-use Rattle.pg_turns.specs.States.{SessionState, new_handles}
-use Rattle.pg_turns.specs.Turns.{HandleMade, Makes, left_behind}
+use Rattle.pg_session.proofs.Left.{left-new, left-set}
+use Rattle.pg_session.proofs.Rows.{get-within}
+use Rattle.pg_session.specs.SessionKept.{left}
+use Rattle.pg_session.proofs.Lists.{one-more, set-here, set-there}
+use Rattle.pg_session.specs.declared.handle_turn.Polling.{Polling}
+use Rattle.pg_session.specs.declared.handle_turn.Polling.TheVariants as polling
+use Rattle.pg_session.specs.Handles.{HandleState, idle_handle}
+use Rattle.pg_session.specs.Sessions.{MakesAll, IsNewSession}
+use Rattle.pg_session.specs.Speeches.{Speech}
+use Rattle.pg_session.specs.States.{SessionState, new_handles}
+use Rattle.pg_session.specs.Turns.{HandleMade, Makes, left_behind}
 
 -- how many commands answer in a turn
 abbrev answered_in : Polling → ℕ

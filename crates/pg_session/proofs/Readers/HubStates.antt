@@ -6,8 +6,8 @@ use Rattle.pg_desk.specs.History.{State, start, after, after_all, IsExact}
 use Rattle.pg_hub.specs.Becomes.{after-joined, exact-joined, fits-touched}
 use Rattle.pg_hub.specs.Fits.{Fits, HubBecomes}
 use Rattle.pg_hub.specs.Standing.{Standing}
-use Rattle.pg_turns.proofs.Takes.{all-cut}
-use Rattle.pg_turns.specs.Turns.{untouched}
+use Rattle.pg_session.proofs.Takes.{all-cut}
+use Rattle.pg_session.specs.Turns.{untouched}
 
 -- the hub stands for what these events led to
 pub record Reached (hub : Standing) : Type 0 where

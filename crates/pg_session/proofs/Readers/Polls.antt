@@ -5,8 +5,8 @@ use Rattle.pg_spec.specs.declared.stamps.Stamp.{Stamp}
 use Rattle.pg_desk.proofs.Soundness.{AllCut}
 use Rattle.pg_desk.specs.History.{State, after_all}
 use Rattle.pg_desk.specs.declared.event.Event.{Event}
-use Rattle.pg_faults.specs.declared.error.Error.{Error}
-use Rattle.pg_faults.specs.declared.error.Error.TheVariants.{OutOfMemory}
+use Rattle.pg_types.specs.declared.error.Error.{Error}
+use Rattle.pg_types.specs.declared.error.Error.TheVariants.{OutOfMemory}
 use Rattle.pg_hub.specs.Becomes.{stays}
 use Rattle.pg_hub.specs.Fits.{Fits, HubBecomes}
 use Rattle.pg_hub.specs.Standing.{Standing}
@@ -15,13 +15,13 @@ use Rattle.pg_query.specs.Leaving.{Holds, Nothing, IsHeld, LetsGo}
 use Rattle.pg_query.specs.Meaning.{Place}
 use Rattle.pg_core.specs.Runs.{MayWait}
 use Rattle.pg_core.proofs.Waiting.{may-wait}
-use Rattle.pg_turns.proofs.Lists.{set-here, set-there}
-use Rattle.pg_turns.specs.Handles.{HandleState}
-use Rattle.pg_turns.specs.HandleTurns.{AsksCommand, Idles, Waits, Answers, StartsAt}
-use Rattle.pg_turns.specs.Speeches.{LetGo, Speech}
-use Rattle.pg_turns.specs.Turns.{HandleTurns}
-use Rattle.pg_turns.specs.declared.handle_turn.Polling.{Polling}
-use Rattle.pg_turns.specs.declared.handle_turn.Polling.TheVariants as polling
+use Rattle.pg_session.proofs.Lists.{set-here, set-there}
+use Rattle.pg_session.specs.Handles.{HandleState}
+use Rattle.pg_session.specs.HandleTurns.{AsksCommand, Idles, Waits, Answers, StartsAt}
+use Rattle.pg_session.specs.Speeches.{LetGo, Speech}
+use Rattle.pg_session.specs.Turns.{HandleTurns}
+use Rattle.pg_session.specs.declared.handle_turn.Polling.{Polling}
+use Rattle.pg_session.specs.declared.handle_turn.Polling.TheVariants as polling
 use Rattle.pg_session.proofs.Readers.LetGo.{IsLetGo, StaysLetGo}
 use Rattle.pg_session.proofs.Readers.Walks.{MayAnswer, Leads, Owes, answers-free, waits-on, waits-sent, walk-lets}
 

@@ -14,8 +14,8 @@ use Rattle.pg_desk.specs.declared.event.Event.{Event}
 use Rattle.pg_desk.specs.declared.event.Event.TheVariants as call
 use Rattle.pg_desk.specs.declared.event.Put.TheVariants as putting
 use Rattle.pg_desk.specs.declared.event.Take.TheVariants as taking
-use Rattle.pg_faults.specs.declared.error.Error.{Error}
-use Rattle.pg_faults.specs.declared.error.Error.TheVariants.{Closed, OutOfMemory}
+use Rattle.pg_types.specs.declared.error.Error.{Error}
+use Rattle.pg_types.specs.declared.error.Error.TheVariants.{Closed, OutOfMemory}
 use Rattle.pg_hub.specs.Fits.{moves}
 use Rattle.pg_query.specs.Dialogue.{Dialogue, Answer, Ask, Send, Leave, Read, Put, Finish, Close, HangUp, Call, Hear, Steps, Walks, Told, after_reply, feed}
 use Rattle.pg_query.proofs.LeavingLaws.{fed-all, told-fits}
@@ -26,8 +26,8 @@ use Rattle.pg_query.specs.declared.desk_call.Cleanup.{Cleanup}
 use Rattle.pg_query.specs.declared.desk_call.DeskCall.{DeskCall}
 use Rattle.pg_query.proofs.Questions.{told-asks}
 use Rattle.pg_query.specs.declared.desk_call.Reply.{Reply}
-use Rattle.pg_turns.proofs.Lists.{one-more}
-use Rattle.pg_turns.proofs.Takes.{all-cut, took-over}
+use Rattle.pg_session.proofs.Lists.{one-more}
+use Rattle.pg_session.proofs.Takes.{all-cut, took-over}
 use Rattle.pg_session.proofs.Readers.LetGo.{IsLetGo, hung-now, ready-ended, stays-let-go}
 
 -- ---- what a command has to let go

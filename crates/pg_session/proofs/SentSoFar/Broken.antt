@@ -12,12 +12,12 @@ use Rattle.pg_spec.specs.Startup.{plain_login}
 use Rattle.pg_promises.specs.Causes.{NeedsNoTls, OfDialogue}
 use Rattle.pg_promises.specs.ConnectionStrings.{Means}
 use Rattle.pg_promises.specs.Promises.{IsFront}
-use Rattle.pg_failed.specs.Calls.{Call, apart}
-use Rattle.pg_failed.specs.Kept.{NoneKeptBack}
-use Rattle.pg_failed.specs.Sent.{SentInOrder}
+use Rattle.pg_promises.specs.Calls.{Call, apart}
+use Rattle.pg_promises.specs.Kept.{NoneKeptBack}
+use Rattle.pg_promises.specs.Sent.{SentInOrder}
 use Rattle.pg_errors.specs.declared.async_message.AsyncMessage.{AsyncMessage}
-use Rattle.pg_faults.specs.declared.error.Error.{Error}
-use Rattle.pg_faults.specs.declared.error.Error.TheVariants as error
+use Rattle.pg_types.specs.declared.error.Error.{Error}
+use Rattle.pg_types.specs.declared.error.Error.TheVariants as error
 use Rattle.pg_desk.specs.History.{State, start, after_all}
 use Rattle.pg_desk.specs.Kept.{legal-joined}
 use Rattle.pg_desk.specs.declared.event.Event.{Event}
@@ -33,12 +33,12 @@ use Rattle.pg_connect.specs.Passes.{Passes}
 use Rattle.pg_startup.specs.StartupPolls.{IsFresh}
 use Rattle.pg_startup.specs.Startups.{Opened}
 use Rattle.pg_startup.specs.declared.startup.Startup.{Startup}
-use Rattle.pg_turns.specs.Calls.{calls_in}
-use Rattle.pg_turns.specs.Sessions.{IsNewSession, MakesAll, numbers}
-use Rattle.pg_turns.specs.Speeches.{AreCommands, BookWhole, LetGo, Speech, meaning_of}
-use Rattle.pg_turns.specs.States.{SessionState}
-use Rattle.pg_turns.specs.Turns.{HandsOn, Makes}
-use Rattle.pg_turns.proofs.Books.{engine-all}
+use Rattle.pg_session.specs.Calls.{calls_in}
+use Rattle.pg_session.specs.Sessions.{IsNewSession, MakesAll, numbers}
+use Rattle.pg_session.specs.Speeches.{AreCommands, BookWhole, LetGo, Speech, meaning_of}
+use Rattle.pg_session.specs.States.{SessionState}
+use Rattle.pg_session.specs.Turns.{HandsOn, Makes}
+use Rattle.pg_session.proofs.Books.{engine-all}
 use Rattle.pg_session.specs.Failures.{BreaksOff, GivesOut, HasBroken, HasFailed, IsFine, RunsShort, WasOver, WasPolled}
 use Rattle.pg_session.proofs.Caused.{all-made, asks-last, done-last, open-last, stood-last}
 use Rattle.pg_session.proofs.Caused.Asks.{AllAsk, asks-all, asks-new}

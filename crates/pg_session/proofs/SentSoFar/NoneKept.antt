@@ -15,12 +15,12 @@ use Rattle.pg_spec.specs.Settings.{Settings}
 use Rattle.pg_spec.specs.Startup.{Outcome, Done, More}
 use Rattle.pg_promises.specs.Causes.{startup_after}
 use Rattle.pg_promises.specs.ConnectionStrings.{Means}
-use Rattle.pg_course.specs.Courses.{Asked, Course, Given, Point, Request, Unfolds, Who, begun_in, nowhere, numbered, requests_of}
-use Rattle.pg_course.specs.Dialogues.{Dialogue, Answers, Asks, Sends, Reads, Puts, Closes, Calls, behind}
-use Rattle.pg_failed.specs.Calls.{Call, apart}
-use Rattle.pg_failed.specs.Kept.{AsksAtOnce, BeginsWithRequest, NoneKeptBack}
-use Rattle.pg_faults.specs.declared.error.Error.{Error}
-use Rattle.pg_faults.specs.declared.error.Error.TheVariants as error
+use Rattle.pg_spec.specs.Courses.{Asked, Course, Given, Point, Request, Unfolds, Who, begun_in, nowhere, numbered, requests_of}
+use Rattle.pg_spec.specs.Dialogues.{Dialogue, Answers, Asks, Sends, Reads, Puts, Closes, Calls, behind}
+use Rattle.pg_promises.specs.Calls.{Call, apart}
+use Rattle.pg_promises.specs.Kept.{AsksAtOnce, BeginsWithRequest, NoneKeptBack}
+use Rattle.pg_types.specs.declared.error.Error.{Error}
+use Rattle.pg_types.specs.declared.error.Error.TheVariants as error
 use Rattle.pg_desk.specs.History.{State, start, after_all, wire}
 use Rattle.pg_desk.specs.declared.event.Event.{Event}
 use Rattle.pg_query.specs.Dialogue as code
@@ -44,13 +44,13 @@ use Rattle.pg_connect.specs.declared.fault.ConnectionFault.{ConnectionFault}
 use Rattle.pg_connect.specs.declared.fault.ConnectionFault.TheVariants as fault
 use Rattle.pg_connect.specs.declared.streams.Streams.{Streams}
 use Rattle.pg_startup.specs.declared.startup.Startup.{Startup}
-use Rattle.pg_turns.specs.Calls.{calls_in}
-use Rattle.pg_turns.specs.Handles.{HandleState}
-use Rattle.pg_turns.specs.Sessions.{IsNewSession, MakesAll}
-use Rattle.pg_turns.specs.Speeches.{AreCommands, BookWhole, Speech, meaning_of}
-use Rattle.pg_turns.specs.States.{SessionState}
-use Rattle.pg_lives.specs.Kept.{Does, HandleKept, Now, Past, Runs, book_of, states_of}
-use Rattle.pg_lives.proofs.Session.{past-there}
+use Rattle.pg_session.specs.Calls.{calls_in}
+use Rattle.pg_session.specs.Handles.{HandleState}
+use Rattle.pg_session.specs.Sessions.{IsNewSession, MakesAll}
+use Rattle.pg_session.specs.Speeches.{AreCommands, BookWhole, Speech, meaning_of}
+use Rattle.pg_session.specs.States.{SessionState}
+use Rattle.pg_session.specs.Kept.{Does, HandleKept, Now, Past, Runs, book_of, states_of}
+use Rattle.pg_session.proofs.Session.{past-there}
 use Rattle.pg_session.specs.Failures.{StopsOpening}
 use Rattle.pg_session.proofs.Caused.Asks.{AsksWhole, asks-out, asks-wire, tame-in}
 use Rattle.pg_session.proofs.Caused.Bytes.{of-batch, IsOfAnswer}

@@ -16,19 +16,19 @@ use Rattle.pg_query.specs.Dialogue as code
 use Rattle.pg_query.specs.Meaning.{Place}
 use Rattle.pg_query.specs.declared.desk_call.DeskCall.{DeskCall}
 use Rattle.pg_query.specs.declared.desk_call.Reply.{Reply}
-use Rattle.pg_course.specs.Courses.{Asked, Course, Given, Outcome, Point, Request, Unfolds, Who, begun_in, met_in, nowhere, numbered, outcome, outcome_of, questions_of, reply_to, requests_of, unread}
-use Rattle.pg_course.specs.Dialogues.{Dialogue, Answers, Asks, Sends, Reads, Puts, Closes, Calls}
-use Rattle.pg_course.specs.Meanings.{Ending}
-use Rattle.pg_course.proofs.Outcomes.{comes}
+use Rattle.pg_spec.specs.Courses.{Asked, Course, Given, Outcome, Point, Request, Unfolds, Who, begun_in, met_in, nowhere, numbered, outcome, outcome_of, questions_of, reply_to, requests_of, unread}
+use Rattle.pg_spec.specs.Dialogues.{Dialogue, Answers, Asks, Sends, Reads, Puts, Closes, Calls}
+use Rattle.pg_spec.specs.Meanings.{Ending}
+use Rattle.pg_spec.proofs.Outcomes.{comes}
 use Rattle.pg_core.specs.Counters.{tells}
 use Rattle.pg_core.specs.Outcomes.{asked, met_by, parts_in}
 use Rattle.pg_core.specs.Trails.{AreMet, AreNumbered, AreToldIn, AreTurnsOf, Moment, begun_at, goes_on, ran_by}
-use Rattle.pg_failed.specs.Sent.{AllButLastEnded, AreBegun, AskedInOrder, HasEnded, InScriptOrder, IsUnderWay, is_ended, outcome_in}
-use Rattle.pg_turns.specs.Handles.{HandleState}
-use Rattle.pg_turns.specs.Speeches.{AreCommands, Speech, meaning_of}
-use Rattle.pg_lives.specs.Kept as kept
-use Rattle.pg_lives.specs.Kept.{AllKept, Does, HandleKept, HasDone, Now, Past, book_of, free_of, states_of}
-use Rattle.pg_lives.proofs.Session.{past-there}
+use Rattle.pg_promises.specs.Sent.{AllButLastEnded, AreBegun, AskedInOrder, HasEnded, InScriptOrder, IsUnderWay, is_ended, outcome_in}
+use Rattle.pg_session.specs.Handles.{HandleState}
+use Rattle.pg_session.specs.Speeches.{AreCommands, Speech, meaning_of}
+use Rattle.pg_session.specs.Kept as kept
+use Rattle.pg_session.specs.Kept.{AllKept, Does, HandleKept, HasDone, Now, Past, book_of, free_of, states_of}
+use Rattle.pg_session.proofs.Session.{past-there}
 use Rattle.pg_session.proofs.SentSoFar.Outcomes.{asks-nothing, in_words, words-alone}
 use Rattle.pg_core.proofs.Extended.{holds-now}
 use Rattle.pg_session.proofs.SentSoFar.Parts.{BookParts, booked-so-far, named-all}

@@ -1,8 +1,8 @@
 -- What comes of a command by what it met so far.
 use Rattle.std.proofs.Common.{◌≡◌, ℕ, List, [], ◌∷◌, drop, take, Option, Some, None, option_map, refl, ap}
 use Rattle.pg_spec.specs.RawMessages.{RawMessage}
-use Rattle.pg_course.specs.Dialogues.{Dialogue, Answers, Asks, Sends, Reads, Puts, Closes, Calls, behind, decided_after}
-use Rattle.pg_course.specs.Courses.{Met, Outcome, nothing_yet, outcome, with_part, with_question, with_request, with_sent, first_reply, later_replies, past_reply}
+use Rattle.pg_spec.specs.Dialogues.{Dialogue, Answers, Asks, Sends, Reads, Puts, Closes, Calls, behind, decided_after}
+use Rattle.pg_spec.specs.Courses.{Met, Outcome, nothing_yet, outcome, with_part, with_question, with_request, with_sent, first_reply, later_replies, past_reply}
 
 -- where nothing more is told, nothing more is asked
 pub asks-nothing : {Q R A : Type 0} (d : Dialogue Q R A) (replies : List (List RawMessage)) (left : List RawMessage) → (outcome d (record { replies = replies; told = [] }) left).asked ≡ []

@@ -7,22 +7,22 @@ use Rattle.pg_spec.specs.RawMessages.{RawMessage, bytes_left, ends_in, messages}
 use Rattle.pg_spec.specs.Sent.{ends_unit, is_terminate}
 use Rattle.pg_spec.proofs.MessageLaws.{messages-append}
 use Rattle.pg_spec.specs.declared.stamps.Stamp.{Stamp}
-use Rattle.pg_faults.specs.declared.error.Error.{Error}
-use Rattle.pg_faults.specs.declared.error.Error.TheVariants.{Closed}
+use Rattle.pg_types.specs.declared.error.Error.{Error}
+use Rattle.pg_types.specs.declared.error.Error.TheVariants.{Closed}
 use Rattle.pg_query.specs.Dialogue as code
 use Rattle.pg_query.specs.Dialogue.{fits}
 use Rattle.pg_query.specs.declared.desk_call.DeskCall.{DeskCall}
 use Rattle.pg_query.specs.declared.desk_call.Reply.{Reply}
-use Rattle.pg_course.specs.Courses.{Asked, Course, Met, Outcome, Request, Who, nothing_yet, outcome, past_reply, with_question as with_query}
-use Rattle.pg_course.specs.Dialogues.{decided_after}
+use Rattle.pg_spec.specs.Courses.{Asked, Course, Met, Outcome, Request, Who, nothing_yet, outcome, past_reply, with_question as with_query}
+use Rattle.pg_spec.specs.Dialogues.{decided_after}
 use Rattle.pg_core.specs.Counters.{tells}
 use Rattle.pg_core.specs.Deeds.{Addition, AreGranted, granted}
 use Rattle.pg_core.specs.Outcomes.{asked, met_by, parts_in, questions_in}
 use Rattle.pg_core.specs.Runs.{Ran, of_request, run, stays}
 use Rattle.pg_core.specs.Trails.{AreMet, AreTurnsOf, Moment, goes_on, ran_by}
 use Rattle.pg_core.proofs.Fitting.{AreFitting, AreMatched, first-asked, turn-fitting}
-use Rattle.pg_failed.specs.Sent.{AreBegun, IsBegun, are_ended}
-use Rattle.pg_turns.specs.Speeches.{BookWhole, BooksWhole, IsWholeRequest, Speech}
+use Rattle.pg_promises.specs.Sent.{AreBegun, IsBegun, are_ended}
+use Rattle.pg_session.specs.Speeches.{BookWhole, BooksWhole, IsWholeRequest, Speech}
 use Rattle.pg_session.proofs.SentSoFar.UnderWay.{all-of, as-far, left-of, none-told, reply}
 
 -- ---- what is booked by parts

@@ -13,12 +13,12 @@ use Rattle.pg_spec.specs.Sent.{after_startup_frame, asked_for_tls, ends_unit, gi
 use Rattle.pg_spec.specs.Startup.{Startup, Done, First, begun_by, dialogue, plain_login}
 use Rattle.pg_promises.specs.Causes.{NeedsNoTls, startup_after}
 use Rattle.pg_promises.specs.Promises.{IsFront}
-use Rattle.pg_failed.specs.Calls.{Call, apart}
-use Rattle.pg_failed.specs.Causes.{is_flush}
-use Rattle.pg_failed.specs.Landed.{has_flush}
-use Rattle.pg_failed.specs.Sent.{SentInOrder, goodbye}
-use Rattle.pg_login.specs.Steps.{frame_of}
-use Rattle.pg_turns.specs.Speeches.{BookWhole, Speech, meaning_of}
+use Rattle.pg_promises.specs.Calls.{Call, apart}
+use Rattle.pg_promises.specs.FailedCauses.{is_flush}
+use Rattle.pg_promises.specs.FailedLanded.{has_flush}
+use Rattle.pg_promises.specs.Sent.{SentInOrder, goodbye}
+use Rattle.pg_startup.specs.Steps.{frame_of}
+use Rattle.pg_session.specs.Speeches.{BookWhole, Speech, meaning_of}
 use Rattle.pg_session.proofs.Caused.Frames.{frames-behind}
 use Rattle.pg_session.proofs.Complete.Bytes.{none-front}
 use Rattle.pg_session.proofs.Complete.Groups.{ended-pieces, few-ends, few-units-whole}

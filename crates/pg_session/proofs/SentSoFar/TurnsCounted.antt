@@ -11,8 +11,8 @@ use Rattle.pg_spec.specs.Frames.{terminate_frame}
 use Rattle.pg_spec.specs.RawMessages.{RawMessage, messages, bytes_left, cut_after}
 use Rattle.pg_spec.specs.Sent.{is_password, ends_unit, gives_turn}
 use Rattle.pg_spec.proofs.MessageLaws.{messages-append}
-use Rattle.pg_failed.specs.Sent.{goodbye, is_ended}
-use Rattle.pg_turns.specs.Speeches.{EndsAlone}
+use Rattle.pg_promises.specs.Sent.{goodbye, is_ended}
+use Rattle.pg_session.specs.Speeches.{EndsAlone}
 use Rattle.pg_session.proofs.Caused.Frames.{synced-alone}
 use Rattle.pg_session.proofs.Crossing.Groups.{both-true}
 use Rattle.pg_session.proofs.SentSoFar.Whole.{IsOneRequest}

@@ -2,13 +2,13 @@
 use Rattle.std.proofs.Common.{◌≡◌, ℕ, ◌+◌, ◌≤◌, List, [], ◌∷◌, ◌++◌, length, take, drop, Bool, Option, Some, None, Result, refl, sym, ap, subst, ◌∙◌, arith, append_assoc, append-nil}
 use Rattle.std.proofs.lemmas.List.{drop-drop, length-drop, map-append, take-append-drop, drop-append-le, take-append-le}
 use Rattle.pg_spec.specs.RawMessages.{RawMessage}
-use Rattle.pg_faults.specs.declared.error.Error.{Error}
+use Rattle.pg_types.specs.declared.error.Error.{Error}
 use Rattle.pg_desk.specs.History.{IsFrontOf}
 use Rattle.pg_query.specs.Dialogue as code
 use Rattle.pg_query.specs.declared.desk_call.DeskCall.{DeskCall}
 use Rattle.pg_query.specs.declared.desk_call.Reply.{Reply}
-use Rattle.pg_course.specs.Courses.{Asked, Course, Outcome, Request, Who, delivered_to, nothing_yet, outcome, reply_to}
-use Rattle.pg_course.specs.Dialogues.{decided_after}
+use Rattle.pg_spec.specs.Courses.{Asked, Course, Outcome, Request, Who, delivered_to, nothing_yet, outcome, reply_to}
+use Rattle.pg_spec.specs.Dialogues.{decided_after}
 use Rattle.pg_core.specs.Counters.{tells}
 use Rattle.pg_core.specs.Deeds.{Addition, AreGranted, granted}
 use Rattle.pg_core.specs.Outcomes.{asked, met_by, parts_in, questions_in}

@@ -11,20 +11,20 @@ use Rattle.pg_spec.specs.Book.{Booking, is_of}
 use Rattle.pg_spec.specs.RawMessages.{RawMessage}
 use Rattle.pg_spec.specs.Turns.{entry_at}
 use Rattle.pg_spec.specs.declared.stamps.Stamp.{Stamp}
-use Rattle.pg_faults.specs.declared.error.Error.{Error}
-use Rattle.pg_faults.specs.declared.error.Error.TheVariants.{Closed}
+use Rattle.pg_types.specs.declared.error.Error.{Error}
+use Rattle.pg_types.specs.declared.error.Error.TheVariants.{Closed}
 use Rattle.pg_query.specs.Dialogue as code
 use Rattle.pg_query.specs.Dialogue.{fits}
 use Rattle.pg_query.specs.declared.desk_call.DeskCall.{DeskCall}
 use Rattle.pg_query.specs.declared.desk_call.Reply.{Reply}
-use Rattle.pg_course.specs.Courses.{Course, Met, Outcome, Request, first_reply, met_in, nothing_yet, numbered, outcome, past_reply, questions_of, requests_of, with_question as with_query}
-use Rattle.pg_course.specs.Dialogues.{decided_after}
-use Rattle.pg_course.specs.Meanings.{Ending}
+use Rattle.pg_spec.specs.Courses.{Course, Met, Outcome, Request, first_reply, met_in, nothing_yet, numbered, outcome, past_reply, questions_of, requests_of, with_question as with_query}
+use Rattle.pg_spec.specs.Dialogues.{decided_after}
+use Rattle.pg_spec.specs.Meanings.{Ending}
 use Rattle.pg_core.specs.Outcomes.{asked, questions_in}
 use Rattle.pg_core.proofs.Fitting.{AreFitting, AreMatched, fitting-filter, matched, session-fitting}
-use Rattle.pg_failed.proofs.Begun.{one-begun}
-use Rattle.pg_failed.specs.Sent.{AreBegun, AskedInOrder, InScriptOrder, IsBegun, are_ended, asked_of, outcome_in, parts_of}
-use Rattle.pg_turns.specs.Speeches.{BookWhole, BooksWhole, IsWholeRequest, Speech, meaning_of}
+use Rattle.pg_promises.proofs.Begun.{one-begun}
+use Rattle.pg_promises.specs.Sent.{AreBegun, AskedInOrder, InScriptOrder, IsBegun, are_ended, asked_of, outcome_in, parts_of}
+use Rattle.pg_session.specs.Speeches.{BookWhole, BooksWhole, IsWholeRequest, Speech, meaning_of}
 use Rattle.pg_session.proofs.SentSoFar.Outcomes.{words-alone}
 use Rattle.pg_session.proofs.SentSoFar.Order.{spread, unnumbered}
 

@@ -8,15 +8,15 @@ use Rattle.pg_spec.specs.Settings.{Settings}
 use Rattle.pg_spec.specs.Links.{LinkView, Rose, next_count}
 use Rattle.pg_spec.specs.RawMessages.{RawMessage, messages}
 use Rattle.pg_spec.specs.Startup.{Login, More, Phase, First, startup, plain_login}
-use Rattle.pg_faults.specs.declared.error.Error.TheVariants as error
-use Rattle.pg_login.specs.Stages.{Stage}
+use Rattle.pg_types.specs.declared.error.Error.TheVariants as error
+use Rattle.pg_startup.specs.Stages.{Stage}
 use Rattle.pg_startup.specs.StartupPolls.{IsIdle}
 use Rattle.pg_startup.specs.declared.startup.Startup.{Startup}
 use Rattle.pg_startup.specs.Startups.{IsAt, Leads, Opening, Reaches}
 use Rattle.pg_connect.proofs.Joining.{rose_later}
 use Rattle.pg_session.specs.Failures.{GivesUp, StopsOpening}
-use Rattle.pg_turns.specs.Sessions.{Rests}
-use Rattle.pg_turns.proofs.Order.{rests_none}
+use Rattle.pg_session.specs.Sessions.{Rests}
+use Rattle.pg_session.proofs.Order.{rests_none}
 use Rattle.pg_session.proofs.Opening.{leads-frames, leads-waits}
 use Rattle.pg_session.proofs.Caused.Start.{of_grown}
 

@@ -1,5 +1,5 @@
 use Rattle.std.proofs.Common.{refl}
-use Rattle.pg_course.specs.Courses.{stamp_of}
+use Rattle.pg_spec.specs.Courses.{stamp_of}
 use Rattle.pg_core.proofs.Glued.{glued}
 use Rattle.pg_core.proofs.laws.a_poll_is_a_turn_of_the_course.Goals as goal
 

@@ -1,5 +1,5 @@
 use Rattle.std.proofs.Common.{refl}
-use Rattle.pg_course.specs.Courses.{stamp_of}
+use Rattle.pg_spec.specs.Courses.{stamp_of}
 use Rattle.pg_core.proofs.Booked.{books-so}
 use Rattle.pg_core.proofs.laws.requests_of_a_turn.Goals as goal
 

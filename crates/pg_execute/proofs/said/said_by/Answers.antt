@@ -1,7 +1,7 @@
 use Rattle.std.proofs.Common.{◌≡◌, Bool, Ok, Err, IfOk, false, sym, subst}
 use Rattle.pg_wire.specs.Messages.{message_view}
 use Rattle.pg_query.specs.Messages.{Means}
-use Rattle.pg_lookup.specs.QueryReplies as spec
+use Rattle.pg_core.specs.QueryReplies as spec
 use Rattle.pg_execute.specs.Saying.{said_view}
 use Rattle.pg_execute.proofs.Sayings.{says-read, says-malformed}
 use Rattle.pg_execute.proofs.said.said_by.Goals as goal

@@ -1,9 +1,9 @@
 use Rattle.std.specs.Prelude.{map}
-use Rattle.pg_serving.specs.Serving.{joined}
-use Rattle.pg_serving.specs.Sessions.{begun, frames_of}
-use Rattle.pg_serving.proofs.CourseLaws.{course-IsOver}
-use Rattle.pg_serving.proofs.ServingLaws.{pipelined-one_at_a_time}
-use Rattle.pg_serving.proofs.SessionLaws.{session-alone}
+use Rattle.pg_machine.specs.Serving.{joined}
+use Rattle.pg_machine.specs.Sessions.{begun, frames_of}
+use Rattle.pg_machine.proofs.CourseLaws.{course-IsOver}
+use Rattle.pg_machine.proofs.ServingLaws.{pipelined-one_at_a_time}
+use Rattle.pg_machine.proofs.SessionLaws.{session-alone}
 use Rattle.pg_machine.specs.Machines.{service_of}
 use Rattle.pg_machine.proofs.SoundLaws.{machine-SoundAlong}
 use Rattle.pg_machine.proofs.laws.pipelined_equals_one_at_a_time.Goals as goal

@@ -1,8 +1,8 @@
 use Rattle.std.proofs.Common.{ap, ◌∙◌, subst, Bool, List, ℕ}
-use Rattle.pg_serving.specs.Requests.{is_execute}
-use Rattle.pg_serving.specs.Tags.{sounds}
+use Rattle.pg_machine.specs.Requests.{is_execute}
+use Rattle.pg_machine.specs.Tags.{sounds}
 use Rattle.pg_machine.specs.Machines.{tagged_as}
-use Rattle.pg_serving.proofs.ReplyLaws.{AreTagsOf, reply-sounds}
+use Rattle.pg_machine.proofs.ReplyLaws.{AreTagsOf, reply-sounds}
 use Rattle.pg_machine.proofs.machine.keeps_rules.Goals as goal
 
 pub returns : goal.returns

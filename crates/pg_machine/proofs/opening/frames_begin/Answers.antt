@@ -1,7 +1,7 @@
 use Rattle.std.proofs.Common.{◌≡◌, ap, sym, ◌∙◌, true, Bool, List, ℕ, [], append-nil, drop, cond}
 use Rattle.pg_spec.specs.Sent.{asked_for_tls}
 use Rattle.pg_machine.specs.Opening.{behind_startup}
-use Rattle.pg_serving.proofs.FeedLaws.{rest_is}
+use Rattle.pg_machine.proofs.FeedLaws.{rest_is}
 use Rattle.pg_machine.proofs.opening.frames_begin.Goals as goal
 
 pub returns-in-None : goal.returns-in-None

@@ -2,7 +2,7 @@ use Rattle.std.proofs.Common.{sym, ap, ◌∙◌, List, ℕ, drop, length, eq-eq
 use Rattle.std.specs.Prelude.{◌==◌}
 use Rattle.std.proofs.lemmas.Bool.{ne_eqb}
 use Rattle.pg_server.specs.Startups.{is_settled}
-use Rattle.pg_serving.proofs.FeedLaws.{rest_is}
+use Rattle.pg_machine.proofs.FeedLaws.{rest_is}
 use Rattle.pg_server.proofs.StartupLaws.{settled_further, settled_never, settled_now, empties}
 use Rattle.pg_server.proofs.startup.is_settled.Goals as goal
 

@@ -1,6 +1,6 @@
 use Rattle.std.proofs.Common.{sym, ap, ◌∙◌, ◌&&◌, drop}
 use Rattle.pg_server.specs.Startups.{is_settled}
-use Rattle.pg_serving.proofs.FeedLaws.{rest_is}
+use Rattle.pg_machine.proofs.FeedLaws.{rest_is}
 use Rattle.pg_server.proofs.StartupLaws.{started}
 use Rattle.pg_server.proofs.startup.is_startup.Goals as goal
 

@@ -1,6 +1,6 @@
 use Rattle.std.proofs.Common.{false}
 use Rattle.pg_session.proofs.Nearer.{nearer-so, new-under-way, none-left, turn-nearer}
-use Rattle.pg_turns.specs.Turns.{moved_in}
+use Rattle.pg_session.specs.Turns.{moved_in}
 use Rattle.pg_session.proofs.measure.each_turn_is_nearer.Goals as goal
 
 pub returns-clause-left : goal.returns-clause-left

@@ -1,7 +1,7 @@
 use Rattle.std.proofs.Common.{sym, subst, refl}
-use Rattle.pg_failed.specs.Kept.{NoneKeptBack}
-use Rattle.pg_faults.specs.declared.error.Error.TheVariants as error
-use Rattle.pg_turns.specs.Speeches.{meaning_of}
+use Rattle.pg_promises.specs.Kept.{NoneKeptBack}
+use Rattle.pg_types.specs.declared.error.Error.TheVariants as error
+use Rattle.pg_session.specs.Speeches.{meaning_of}
 use Rattle.pg_session.proofs.SentSoFar.Broken.{broken-kept}
 use Rattle.pg_session.proofs.SentSoFar.NoneKept.{stopped-kept}
 use Rattle.pg_session.proofs.sent.what_was_asked_where_it_stalled.Goals as goal

@@ -1,5 +1,5 @@
 use Rattle.std.proofs.Common.{Result, Err, ap}
-use Rattle.pg_faults.specs.declared.error.Error.{Error}
+use Rattle.pg_types.specs.declared.error.Error.{Error}
 use Rattle.pg_streams.specs.Collecting.{Dropped, Kept}
 use Rattle.pg_streams.proofs.posting.hang_up.Goals as goal
 

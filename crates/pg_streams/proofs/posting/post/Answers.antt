@@ -1,7 +1,7 @@
 use Rattle.std.proofs.Common.{ℕ, List, [], ◌∷◌, Option, false, Result, Ok, Err, refl, sym, ap, subst}
 use Rattle.pg_desk.specs.declared.event.Event.{Event}
 use Rattle.pg_desk.specs.declared.event.Event.TheVariants as call
-use Rattle.pg_faults.specs.declared.error.Error.{Error}
+use Rattle.pg_types.specs.declared.error.Error.{Error}
 use Rattle.pg_streams.specs.Collecting.{Posts, Sent, Refused}
 use Rattle.pg_streams.proofs.posting.post.Goals as goal
 

@@ -1,7 +1,7 @@
 use Rattle.std.proofs.Common.{◌≡◌, ℕ, List, Result, Ok, Err, None, false, refl, sym, ◌∙◌, ap, subst}
-use Rattle.pg_faults.specs.declared.error.Error.{Error}
+use Rattle.pg_types.specs.declared.error.Error.{Error}
 use Rattle.pg_query.specs.Reading.{reads}
-use Rattle.pg_lookup.specs.Composing.{asks_for}
+use Rattle.pg_core.specs.Composing.{asks_for}
 use Rattle.pg_execute.specs.Executes.{closed_by}
 use Rattle.pg_execute.specs.Parameters.{execute_request}
 use Rattle.pg_streams.specs.Hearing.{IsNoItem}

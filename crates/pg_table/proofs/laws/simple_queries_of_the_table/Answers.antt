@@ -1,6 +1,6 @@
-use Rattle.pg_course.proofs.Headlines.{headline}
-use Rattle.pg_headline.specs.Endings.{course_of, replies}
-use Rattle.pg_turns.specs.Speeches.{meaning_of}
+use Rattle.pg_spec.proofs.Headlines.{headline}
+use Rattle.pg_promises.specs.Endings.{course_of, replies}
+use Rattle.pg_session.specs.Speeches.{meaning_of}
 use Rattle.pg_table.specs.Table.{simply, table}
 use Rattle.pg_table.proofs.SimpleMeans.{are-simple}
 use Rattle.pg_table.proofs.laws.simple_queries_of_the_table.Goals as goal

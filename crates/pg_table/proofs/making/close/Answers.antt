@@ -1,9 +1,9 @@
 use Rattle.std.proofs.Common.{◌≡◌, Option, IfOk, ap, subst, ◌∙◌}
 use Rattle.pg_execute.specs.Executes.{close}
-use Rattle.pg_executed.specs.States.{place_of_close}
-use Rattle.pg_executed.specs.declared.close.CloseState.{CloseState}
+use Rattle.pg_states.specs.ExecutedStates.{place_of_close}
+use Rattle.pg_states.specs.declared.close.CloseState.{CloseState}
 use Rattle.pg_query.specs.Dialogue.{Dialogue}
-use Rattle.pg_statements.specs.declared.statement.Described.{Described}
+use Rattle.pg_desk.specs.declared.statement.Described.{Described}
 use Rattle.pg_table.specs.Mapped.{mapped}
 use Rattle.pg_table.specs.States.{place_of}
 use Rattle.pg_table.specs.Table.{in_done}

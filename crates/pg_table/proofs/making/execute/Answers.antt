@@ -1,9 +1,9 @@
 use Rattle.std.proofs.Common.{◌≡◌, ℕ, List, IfOk, ap, subst, ◌∙◌}
 use Rattle.pg_execute.specs.Executes as execution
 use Rattle.pg_execute.specs.Targets.{on_target}
-use Rattle.pg_executed.specs.Texts.{prepare_text}
-use Rattle.pg_executed.specs.contracts.execute.ExecuteStatePolled.TheImpl as executed
-use Rattle.pg_executed.specs.declared.execute.ExecuteState.{ExecuteState}
+use Rattle.pg_states.specs.Texts.{prepare_text}
+use Rattle.pg_states.specs.contracts.execute.ExecuteStatePolled.TheImpl as executed
+use Rattle.pg_states.specs.declared.execute.ExecuteState.{ExecuteState}
 use Rattle.pg_query.specs.Dialogue.{Dialogue}
 use Rattle.pg_types.specs.declared.value.Value.{Value}
 use Rattle.pg_table.specs.Mapped.{mapped}

@@ -1,10 +1,10 @@
 use Rattle.std.proofs.Common.{ℕ, length, ap, ◌∙◌}
 use Rattle.pg_execute.specs.Typed.{execute_typed}
 use Rattle.pg_query.specs.Dialogue.{Dialogue}
-use Rattle.pg_typed.specs.Types.{built_in_types}
-use Rattle.pg_typed_states.specs.Paired.{paired}
-use Rattle.pg_typed_states.specs.contracts.execute_typed.ExecuteTypedStatePolled.TheImpl as typed_executed
-use Rattle.pg_typed_states.specs.declared.execute_typed.ExecuteTypedState.{ExecuteTypedState}
+use Rattle.pg_execute.specs.Types.{built_in_types}
+use Rattle.pg_states.specs.Paired.{paired}
+use Rattle.pg_states.specs.contracts.execute_typed.ExecuteTypedStatePolled.TheImpl as typed_executed
+use Rattle.pg_states.specs.declared.execute_typed.ExecuteTypedState.{ExecuteTypedState}
 use Rattle.pg_table.specs.Mapped.{mapped}
 use Rattle.pg_table.specs.Table.{in_count}
 use Rattle.pg_table.proofs.making.execute_typed.Goals as goal

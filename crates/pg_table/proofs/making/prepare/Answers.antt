@@ -1,9 +1,9 @@
 use Rattle.std.proofs.Common.{ap, ◌∙◌}
-use Rattle.pg_lookup.specs.Lookups.{prepare}
-use Rattle.pg_prepared.specs.contracts.prepare.PrepareStatePolled.TheImpl as prepared
-use Rattle.pg_prepared.specs.declared.prepare.PrepareState.{PrepareState}
+use Rattle.pg_core.specs.Lookups.{prepare}
+use Rattle.pg_states.specs.contracts.prepare.PrepareStatePolled.TheImpl as prepared
+use Rattle.pg_states.specs.declared.prepare.PrepareState.{PrepareState}
 use Rattle.pg_query.specs.Dialogue.{Dialogue}
-use Rattle.pg_statements.specs.declared.statement.Described.{Described}
+use Rattle.pg_desk.specs.declared.statement.Described.{Described}
 use Rattle.pg_table.specs.Mapped.{mapped}
 use Rattle.pg_table.specs.Table.{in_statement}
 use Rattle.pg_table.proofs.making.prepare.Goals as goal

@@ -2,9 +2,9 @@ use Rattle.std.proofs.Common.{◌≡◌, List, IfOk, ap, subst, ◌∙◌}
 use Rattle.pg_execute.specs.Executes as execution
 use Rattle.pg_execute.specs.Targets.{on_target}
 use Rattle.pg_execute.specs.declared.result_set.ResultSet.{ResultSet}
-use Rattle.pg_executed.specs.Texts.{prepare_text}
-use Rattle.pg_executed.specs.contracts.first_rows.FirstRowsStatePolled.TheImpl as first_queried
-use Rattle.pg_executed.specs.declared.first_rows.FirstRowsState.{FirstRowsState}
+use Rattle.pg_states.specs.Texts.{prepare_text}
+use Rattle.pg_states.specs.contracts.first_rows.FirstRowsStatePolled.TheImpl as first_queried
+use Rattle.pg_states.specs.declared.first_rows.FirstRowsState.{FirstRowsState}
 use Rattle.pg_query.specs.Dialogue.{Dialogue}
 use Rattle.pg_types.specs.declared.value.Value.{Value}
 use Rattle.pg_table.specs.Mapped.{mapped}

@@ -1,9 +1,9 @@
 use Rattle.std.proofs.Common.{◌≡◌, List, IfOk, ap, subst, ◌∙◌}
 use Rattle.pg_execute.specs.Executes as execution
 use Rattle.pg_execute.specs.Targets.{on_target}
-use Rattle.pg_executed.specs.Texts.{prepare_text}
-use Rattle.pg_executed.specs.contracts.query_scalar.QueryScalarStatePolled.TheImpl as scalars_queried
-use Rattle.pg_executed.specs.declared.query_scalar.QueryScalarState.{QueryScalarState}
+use Rattle.pg_states.specs.Texts.{prepare_text}
+use Rattle.pg_states.specs.contracts.query_scalar.QueryScalarStatePolled.TheImpl as scalars_queried
+use Rattle.pg_states.specs.declared.query_scalar.QueryScalarState.{QueryScalarState}
 use Rattle.pg_query.specs.Dialogue.{Dialogue}
 use Rattle.pg_types.specs.declared.value.Value.{Value}
 use Rattle.pg_table.specs.Mapped.{mapped}

@@ -1,12 +1,12 @@
 use Rattle.std.proofs.Common.{length, ap, ◌∙◌}
 use Rattle.pg_execute.specs.Typed.{query_typed}
 use Rattle.pg_execute.specs.declared.result_set.ResultSet.{ResultSet}
-use Rattle.pg_lookup.specs.Lookups.{find_all}
+use Rattle.pg_core.specs.Lookups.{find_all}
 use Rattle.pg_query.specs.Dialogue.{Dialogue}
-use Rattle.pg_typed.specs.Types.{built_in_types}
-use Rattle.pg_typed_states.specs.Paired.{paired}
-use Rattle.pg_typed_states.specs.contracts.query_typed.QueryTypedStatePolled.TheImpl as typed_queried
-use Rattle.pg_typed_states.specs.declared.query_typed.QueryTypedState.{QueryTypedState}
+use Rattle.pg_execute.specs.Types.{built_in_types}
+use Rattle.pg_states.specs.Paired.{paired}
+use Rattle.pg_states.specs.contracts.query_typed.QueryTypedStatePolled.TheImpl as typed_queried
+use Rattle.pg_states.specs.declared.query_typed.QueryTypedState.{QueryTypedState}
 use Rattle.pg_table.specs.Mapped.{mapped}
 use Rattle.pg_table.specs.Table.{in_rows}
 use Rattle.pg_table.proofs.making.query_typed.Goals as goal

@@ -1,7 +1,7 @@
 use Rattle.std.proofs.lemmas.Result.{err_from_is_err_and}
 use Rattle.pg_config.specs.Views.{settings_of}
 use Rattle.pg_tool.proofs.Played.{played_as}
-use Rattle.pg_tls.specs.declared.choice.TlsChoice.TheVariants.{Asks, Fails, Raw, Shakes}
+use Rattle.pg_open.specs.declared.choice.TlsChoice.TheVariants.{Asks, Fails, Raw, Shakes}
 use Rattle.pg_tool.proofs.Requiring.{choice_told, fails_so, raw_so}
 use Rattle.pg_tool.proofs.Promised.{asks, plays, read_so, shakes, start_refused, text_fails}
 use Rattle.pg_tool.proofs.session.run_session.Goals as goal

@@ -1,7 +1,7 @@
 use Rattle.std.proofs.Common.{Result, refl, sym, subst}
 use Rattle.pg_spec.specs.Frames.{startup_frame}
 use Rattle.pg_wire.specs.Writes.{Writes}
-use Rattle.pg_faults.specs.declared.fault.FrameFault.{FrameFault}
+use Rattle.pg_types.specs.declared.faults.FrameFault.{FrameFault}
 use Rattle.pg_wire.proofs.HandedOn.{handed-on}
 use Rattle.pg_wire.proofs.Pairs.{pairs_are, startup_zero, startup_long, startup_written}
 use Rattle.pg_wire.proofs.frontend.startup_message.Goals as goal

@@ -1,8 +1,8 @@
 use Rattle.std.proofs.Common.{◌≡◌, ℕ, List, Result, Err, sym, subst, ap, ◌∙◌}
 use Rattle.std.proofs.lemmas.Result.{err_from_is_err_and}
 use Rattle.pg_spec.specs.Faults.{Cause}
-use Rattle.pg_faults.specs.declared.error.Error.{Error}
-use Rattle.pg_faults.specs.declared.error.Error.TheVariants.{OutOfMemory}
+use Rattle.pg_types.specs.declared.error.Error.{Error}
+use Rattle.pg_types.specs.declared.error.Error.TheVariants.{OutOfMemory}
 use Rattle.pg_config.specs.declared.config.Config.{Config}
 use Rattle.pg_config.specs.ConnectionStringReading.{ConnectionStringSays, behind_scheme}
 use Rattle.pg_config.specs.ConnectionStrings.{ConnectionStringMeans}

@@ -1,5 +1,5 @@
 use Rattle.std.proofs.Common.{[], refl, ap, arith, length, subst, Some, Result}
-use Rattle.pg_faults.specs.declared.db_error.DbError.{DbError}
+use Rattle.pg_types.specs.declared.db_error.DbError.{DbError}
 use Rattle.pg_connect.specs.declared.fault.ConnectionFault.{ConnectionFault}
 use Rattle.pg_connect.specs.Reads.{ReadsFirst}
 use Rattle.pg_connect.proofs.Joining.{keeps_same, untouched_same}

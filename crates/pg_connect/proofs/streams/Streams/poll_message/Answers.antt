@@ -1,6 +1,6 @@
 use Rattle.std.proofs.Common.{false, Some, Err, sym, ap, subst, ◌∙◌, ◌||◌, inr}
 use Rattle.futures.specs.declared.task.Poll.TheVariants.{Ready}
-use Rattle.pg_faults.specs.declared.error.Error.{Error}
+use Rattle.pg_types.specs.declared.error.Error.{Error}
 use Rattle.pg_connect.specs.Answers.{IsWithinPoll}
 use Rattle.std.specs.Prelude.{is_some}
 use Rattle.pg_connect.specs.declared.ends.TurnEnd.TheVariants as turn

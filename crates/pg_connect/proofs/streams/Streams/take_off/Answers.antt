@@ -1,7 +1,7 @@
 use Rattle.std.proofs.Common.{[], refl, sym, ap, subst, ◌∙◌, map, Option, Some, Ok, Err}
 use Rattle.pg_wire.specs.Decode.{Decodes}
 use Rattle.pg_wire.specs.declared.codec.BackendMessage.{BackendMessage}
-use Rattle.pg_faults.specs.declared.fault.WireFault.{WireFault}
+use Rattle.pg_types.specs.declared.faults.WireFault.{WireFault}
 use Rattle.pg_spec.specs.RawMessages.{has_bad_header, messages}
 use Rattle.pg_connect.specs.declared.streams.Streams.{Streams}
 use Rattle.pg_connect.specs.Passes.{Passes, waiting, notice_of}

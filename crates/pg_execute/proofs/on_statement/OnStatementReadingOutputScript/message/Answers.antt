@@ -1,5 +1,5 @@
 use Rattle.pg_execute.specs.declared.on_statement.OnStatement.{OnStatement}
-use Rattle.pg_prepare.proofs.Within.{goes-within}
+use Rattle.pg_core.proofs.Within.{goes-within}
 use Rattle.pg_execute.proofs.on_statement.OnStatementReadingOutputScript.message.Goals as goal
 
 pub returns-clause-goes_on : goal.returns-clause-goes_on

@@ -4,7 +4,7 @@ use Rattle.pg_machine.specs.declared.feeding.Fed.{Fed}
 use Rattle.pg_machine.specs.Machines.{service_of}
 use Rattle.pg_machine.specs.Steps.{serving_of}
 use Rattle.pg_machine.specs.Feeding.{IsFed}
-use Rattle.pg_serving.proofs.FeedLaws.{rest_is, began}
+use Rattle.pg_machine.proofs.FeedLaws.{rest_is, began}
 use Rattle.pg_machine.proofs.machine.Machine.begin.Goals as goal
 
 no_error : {T E : Type 0} (r : Result T E) (a b items : List ℕ) → items ≡ cond (is_ok r) a b → is_err r ≡ false → items ≡ a

@@ -2,7 +2,7 @@ use Rattle.std.proofs.Common.{◌≡◌, ap, sym, subst, arith, List, ℕ, ◌+�
 use Rattle.pg_wire.specs.Fronts.{IsWhole}
 use Rattle.pg_machine.specs.Machines.{service_of}
 use Rattle.pg_machine.specs.Steps.{serving_of, Serves}
-use Rattle.pg_serving.proofs.FeedLaws.{rest_is, alone_whole, more_fed}
+use Rattle.pg_machine.proofs.FeedLaws.{rest_is, alone_whole, more_fed}
 use Rattle.pg_machine.proofs.machine.Machine.feed.Goals as goal
 
 piece_is : (cut len : ℕ) (rest : List ℕ) → take (cut + len - cut) rest ≡ take len rest

@@ -1,5 +1,5 @@
 use Rattle.std.proofs.Common.{◌-◌, length}
-use Rattle.pg_serving.proofs.FeedLaws.{IsFedSoFar}
+use Rattle.pg_machine.proofs.FeedLaws.{IsFedSoFar}
 use Rattle.pg_machine.specs.Machines.{service_of}
 use Rattle.pg_machine.specs.Steps.{serving_of}
 use Rattle.pg_machine.proofs.machine.Machine.feed.Given as goal

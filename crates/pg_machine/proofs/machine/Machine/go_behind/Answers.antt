@@ -2,11 +2,11 @@ use Rattle.std.proofs.Common.{◌≡◌, subst, sym, List, ℕ, ◌+◌, ◌++�
 use Rattle.std.proofs.lemmas.List.{take-append-drop}
 use Rattle.pg_machine.specs.declared.feeding.Fed.{Fed}
 use Rattle.pg_machine.specs.Machines.{service_of}
-use Rattle.pg_serving.specs.Sessions.{gives}
-use Rattle.pg_serving.specs.Feeding.{IsLonger}
+use Rattle.pg_machine.specs.Sessions.{gives}
+use Rattle.pg_machine.specs.ServingFeeding.{IsLonger}
 use Rattle.pg_machine.specs.Feeding.{IsFed, HasFed}
 use Rattle.pg_machine.specs.Steps.{serving_of}
-use Rattle.pg_serving.proofs.FeedLaws.{rest_is, went_further}
+use Rattle.pg_machine.proofs.FeedLaws.{rest_is, went_further}
 use Rattle.pg_machine.proofs.machine.Machine.go_behind.Goals as goal
 
 pub returns : goal.returns

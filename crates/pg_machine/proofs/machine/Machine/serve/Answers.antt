@@ -1,12 +1,12 @@
 use Rattle.std.proofs.Common.{◌≡◌, ap, sym, ◌∙◌, arith, false, List, ℕ, [], ◌++◌, Bool, None}
 use Rattle.std.specs.Prelude.{if◌then◌else◌}
-use Rattle.pg_serving.specs.declared.serving.Kind.{Kind}
-use Rattle.pg_serving.specs.declared.serving.Mode.TheVariants.{Normal}
+use Rattle.pg_machine.specs.declared.serving.Kind.{Kind}
+use Rattle.pg_machine.specs.declared.serving.Mode.TheVariants.{Normal}
 use Rattle.pg_machine.specs.declared.machine.Said.{Said}
-use Rattle.pg_serving.specs.Serving.{turn, kind_of}
+use Rattle.pg_machine.specs.Serving.{turn, kind_of}
 use Rattle.pg_machine.specs.Machines.{asked_of}
-use Rattle.pg_serving.specs.Steps.{ready_bytes, says_ready, answered_mode, frame_of}
-use Rattle.pg_serving.proofs.Spelled.{bytes-from}
+use Rattle.pg_machine.specs.ServingSteps.{ready_bytes, says_ready, answered_mode, frame_of}
+use Rattle.pg_machine.proofs.Spelled.{bytes-from}
 use Rattle.pg_machine.proofs.StepLaws.{IsStep, says-some, says-none, step-some, step-none}
 use Rattle.pg_machine.proofs.machine.Machine.serve.Goals as goal
 

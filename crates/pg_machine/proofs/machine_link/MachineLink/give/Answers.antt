@@ -3,7 +3,7 @@ use Rattle.std.specs.Prelude.{min}
 use Rattle.std.proofs.lemmas.List.{length-take-le}
 use Rattle.pg_machine.specs.declared.machine_link.MachineLink.TheInside.{Inside}
 use Rattle.pg_machine.specs.MachineLinks.{Served, GivesFront, served_of}
-use Rattle.pg_serving.proofs.FeedLaws.{rest_is}
+use Rattle.pg_machine.proofs.FeedLaws.{rest_is}
 use Rattle.pg_machine.proofs.ServedLaws.{read-front}
 use Rattle.pg_machine.proofs.machine_link.MachineLink.give.Goals as goal
 

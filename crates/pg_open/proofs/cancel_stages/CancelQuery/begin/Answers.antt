@@ -1,7 +1,7 @@
 use Rattle.std.proofs.Common.{ℤ, ◌∙◌, ap}
 use Rattle.std.proofs.lemmas.Int.{to_z-of_z}
 use Rattle.std.specs.Int.{w32, cast_signed, cast_unsigned}
-use Rattle.pg_tls.specs.Links.{view_of}
+use Rattle.pg_open.specs.Links.{view_of}
 use Rattle.pg_open.specs.Choosing.{known}
 use Rattle.pg_open.proofs.CancelSteps.{lacks-first, same-frame, under-way, written}
 use Rattle.pg_open.proofs.cancel_stages.CancelQuery.begin.Goals as goal

@@ -1,4 +1,4 @@
-use Rattle.pg_tls.specs.Links.{view_of}
+use Rattle.pg_open.specs.Links.{view_of}
 use Rattle.pg_open.specs.Choosing.{known}
 use Rattle.pg_open.proofs.CancelSteps.{choice-fails, choice-gives, choice-goes-on}
 use Rattle.pg_open.proofs.cancel_stages.CancelQuery.choose.Goals as goal

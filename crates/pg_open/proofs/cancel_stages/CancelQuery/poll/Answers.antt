@@ -1,4 +1,4 @@
-use Rattle.pg_tls.specs.Links.{view_of}
+use Rattle.pg_open.specs.Links.{view_of}
 use Rattle.pg_open.specs.Choosing.{known}
 use Rattle.pg_open.proofs.CancelSteps.{stands-so, still-under-way}
 use Rattle.pg_open.proofs.cancel_stages.CancelQuery.poll.Goals as goal

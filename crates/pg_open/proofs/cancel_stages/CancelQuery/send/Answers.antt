@@ -1,5 +1,5 @@
 use Rattle.std.proofs.Common.{Bool, Ok, refl, subst}
-use Rattle.pg_tls.specs.Links.{view_of}
+use Rattle.pg_open.specs.Links.{view_of}
 use Rattle.pg_open.specs.Cancelling.{SaidEnds}
 use Rattle.pg_open.specs.Choosing.{known}
 use Rattle.pg_open.proofs.CancelSteps.{goes-on, is-sent, send-fails}

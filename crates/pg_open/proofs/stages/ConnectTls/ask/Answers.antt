@@ -1,6 +1,6 @@
 use Rattle.std.proofs.Common.{ap, subst, ℕ, Result}
 use Rattle.futures.specs.declared.task.Poll.TheVariants.{Ready}
-use Rattle.pg_faults.specs.declared.error.Error.{Error}
+use Rattle.pg_types.specs.declared.error.Error.{Error}
 use Rattle.pg_startup.specs.SslRequests.{AskAnswers}
 use Rattle.pg_open.specs.Choosing.{known}
 use Rattle.pg_open.proofs.TlsSteps.{ask-done, ask-left}

@@ -1,5 +1,5 @@
 use Rattle.std.proofs.Common.{◌∙◌, ap, arith}
-use Rattle.pg_tls.specs.declared.choice.TlsChoice.TheVariants as choice
+use Rattle.pg_open.specs.declared.choice.TlsChoice.TheVariants as choice
 use Rattle.pg_open.specs.Choosing.{known}
 use Rattle.pg_open.proofs.TlsSteps.{begun-first, chose-first, on-pending, tls-left}
 use Rattle.pg_open.proofs.stages.ConnectTls.begin.Goals as goal

@@ -1,6 +1,6 @@
 use Rattle.std.proofs.Common.{refl, sym, ap}
 use Rattle.pg_config.specs.Views.{ssl_mode}
-use Rattle.pg_tls.specs.declared.choice.TlsChoice.TheVariants as choice
+use Rattle.pg_open.specs.declared.choice.TlsChoice.TheVariants as choice
 use Rattle.pg_open.specs.Choosing.{known}
 use Rattle.pg_open.proofs.TlsSteps.{chose-by, never-asks, tls-left}
 use Rattle.pg_open.proofs.stages.ConnectTls.decide.Goals as goal

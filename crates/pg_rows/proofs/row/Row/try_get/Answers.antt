@@ -1,7 +1,7 @@
 use Rattle.std.proofs.Common.{◌≡◌, ◌<◌, List, length, map, Some, refl, sym, ap, subst, ◌∙◌}
 use Rattle.std.specs.Prelude.{slice_get, slice_index_or}
 use Rattle.std.proofs.lemmas.Option.{slice_get_read}
-use Rattle.pg_statements.specs.declared.column.Column.{Column}
+use Rattle.pg_desk.specs.declared.column.Column.{Column}
 use Rattle.pg_rows.specs.Places.{place_of}
 use Rattle.pg_rows.specs.Rows.{RowOf, cell_at}
 use Rattle.pg_rows.specs.Values.{ReadsUnder, place_in}

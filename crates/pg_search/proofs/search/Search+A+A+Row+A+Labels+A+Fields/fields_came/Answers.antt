@@ -1,7 +1,7 @@
 use Rattle.std.proofs.Common.{◌≤◌, ◌∙◌, ◌+◌, ◌*◌, List, length, ap, arith, Ok}
 use Rattle.pg_types.specs.declared.pg_type.Kind.{Composite}
 use Rattle.pg_types.specs.declared.pg_type.Field.{Field}
-use Rattle.pg_lookup.specs.Lookups as spec
+use Rattle.pg_core.specs.Lookups as spec
 use Rattle.pg_search.specs.Stacks.{fields_goes, find_over, searching_at}
 use Rattle.pg_search.specs.Steps.{finding_steps, more_over, most_fields, stack_steps}
 use Rattle.pg_search.proofs.Counting.{fields-steps}

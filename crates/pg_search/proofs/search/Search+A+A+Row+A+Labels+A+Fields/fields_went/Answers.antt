@@ -1,7 +1,7 @@
 use Rattle.std.proofs.Common.{◌∙◌, sym, subst, arith, Ok, Err}
 use Rattle.pg_query.specs.declared.script.Want.{Want}
 use Rattle.pg_query.specs.Scripts.{Falls}
-use Rattle.pg_lookup.specs.Lookups as spec
+use Rattle.pg_core.specs.Lookups as spec
 use Rattle.pg_search.proofs.Stacking.{at-fails}
 use Rattle.pg_search.proofs.Went.{moved, moved-ok, falls-more, fields-acts, fields-reads, fields-answers}
 use Rattle.pg_search.proofs.search.Search+A+A+Row+A+Labels+A+Fields.fields_went.Goals as goal

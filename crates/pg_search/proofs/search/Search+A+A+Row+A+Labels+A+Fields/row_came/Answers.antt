@@ -1,5 +1,5 @@
 use Rattle.std.proofs.Common.{◌∙◌, ◌+◌, ap, arith}
-use Rattle.pg_lookup.specs.Lookups as spec
+use Rattle.pg_core.specs.Lookups as spec
 use Rattle.pg_search.specs.Stacks.{find_over, searching_at}
 use Rattle.pg_search.specs.Steps.{more_over, row_steps, stack_steps}
 use Rattle.pg_search.proofs.Counting.{waits-steps}

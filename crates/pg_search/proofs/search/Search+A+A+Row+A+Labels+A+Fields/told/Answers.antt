@@ -1,7 +1,7 @@
 use Rattle.std.proofs.Common.{◌∙◌, sym, ap, arith, Option}
 use Rattle.pg_types.specs.declared.pg_type.PgType.{PgType}
 use Rattle.pg_query.specs.Dialogue.{Dialogue}
-use Rattle.pg_lookup.specs.Lookups as spec
+use Rattle.pg_core.specs.Lookups as spec
 use Rattle.pg_search.specs.Stacks.{may_find, searching_at, told_goes}
 use Rattle.pg_search.proofs.Stacking.{at-fails}
 use Rattle.pg_search.proofs.Went.{moved, moved-ok, falls-more}

@@ -1,8 +1,8 @@
 use Rattle.std.proofs.Common.{◌∙◌, refl, arith, sym, ap, length, List, Ok}
-use Rattle.pg_statements.specs.declared.column.Column.{Column}
+use Rattle.pg_desk.specs.declared.column.Column.{Column}
 use Rattle.pg_types.specs.declared.pg_type.Kind.{Composite}
-use Rattle.pg_lookup.specs.Cells.{Cells}
-use Rattle.pg_lookup.specs.Lookups.{field_row, keeps}
+use Rattle.pg_core.specs.Cells.{Cells}
+use Rattle.pg_core.specs.Lookups.{field_row, keeps}
 use Rattle.pg_search.proofs.Popping.{nothing-popped}
 use Rattle.pg_search.proofs.Stacking.{any-room, at-keeps, fields-end, fields-some, fields-fail}
 use Rattle.pg_search.proofs.Counting.{any-room-steps, fields-some-steps}

@@ -3,7 +3,7 @@ use Rattle.pg_types.specs.declared.pg_type.PgType.{PgType}
 use Rattle.pg_types.specs.declared.pg_type.Kind.{Kind}
 use Rattle.pg_types.specs.declared.pg_type.Field.{Field}
 use Rattle.pg_query.specs.Dialogue.{Dialogue}
-use Rattle.pg_lookup.specs.Lookups.{wraps}
+use Rattle.pg_core.specs.Lookups.{wraps}
 use Rattle.pg_search.specs.declared.frame.Frame.{Frame}
 use Rattle.pg_search.specs.declared.stack.Stack.{Stack}
 use Rattle.pg_search.specs.Sorts.{wrap_of}

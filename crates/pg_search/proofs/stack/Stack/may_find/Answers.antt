@@ -1,5 +1,5 @@
 use Rattle.std.proofs.Common.{◌≡◌, ◌-◌, ◌∙◌, ℕ, length, arith, sym, ap, subst, suc, drop, false}
-use Rattle.pg_lookup.specs.Searches.{oid_of}
+use Rattle.pg_core.specs.Searches.{oid_of}
 use Rattle.pg_search.specs.declared.frame.Frame.{Frame}
 use Rattle.pg_search.specs.Frames.{frame_of}
 use Rattle.pg_search.proofs.Busy.{busy_in, may-not-more, may-not-again, may-find, busy-here, free-from, none-behind, all-free}

@@ -1,6 +1,6 @@
 use Rattle.std.proofs.Common.{ℕ, refl, sym, ap, ◌∙◌}
-use Rattle.pg_serving.specs.declared.serving.Kind.{Kind}
-use Rattle.pg_serving.specs.Serving.{turn, kind_by_tag}
+use Rattle.pg_machine.specs.declared.serving.Kind.{Kind}
+use Rattle.pg_machine.specs.Serving.{turn, kind_by_tag}
 use Rattle.pg_server.specs.Answers.{sounds}
 use Rattle.pg_server.specs.Frames.{frame_view}
 use Rattle.pg_server.specs.Standings.{standing_of}

@@ -1,6 +1,6 @@
 use Rattle.std.proofs.Common.{List, ℕ, ◌-◌, ◌++◌, ap, ◌∙◌, subst, drop, length}
 use Rattle.std.specs.Prelude.{min}
-use Rattle.pg_serving.proofs.FeedLaws.{rest_is}
+use Rattle.pg_machine.proofs.FeedLaws.{rest_is}
 use Rattle.pg_server.specs.Copies.{Copied, Lengthens}
 use Rattle.pg_server.proofs.TrafficLaws.{copied_three}
 use Rattle.pg_server.proofs.traffic.Traffic.copy_due.Goals as goal

@@ -1,7 +1,7 @@
 use Rattle.std.proofs.Common.{◌≡◌, ◌<◌, ◌≤◌, ℕ, Bool, true, false, List, [], ◌∷◌, Result, Ok, Err, refl, sym, ap, subst, ◌∙◌, arith}
 use Rattle.pg_spec.specs.Links.{LinkView}
-use Rattle.pg_faults.specs.declared.error.Error.{Error}
-use Rattle.pg_faults.specs.declared.error.Error.TheVariants as error
+use Rattle.pg_types.specs.declared.error.Error.{Error}
+use Rattle.pg_types.specs.declared.error.Error.TheVariants as error
 use Rattle.pg_connect.specs.Ends.{WasBlocked}
 use Rattle.pg_connect.proofs.Calm.{calm_then}
 use Rattle.pg_connect.proofs.Joining.{keeps_then, promised_still, rose_later, unmoved_before, untouched_then}

@@ -1,6 +1,6 @@
 use Rattle.std.proofs.Common.{[], ◌∷◌, ◌++◌, Err, refl, ap, sym, subst, ◌∙◌, arith}
 use Rattle.pg_spec.specs.RawMessages.{bytes_left, messages, has_bad_header}
-use Rattle.pg_faults.specs.declared.error.Error.{Error}
+use Rattle.pg_types.specs.declared.error.Error.{Error}
 use Rattle.pg_startup.specs.Startups.{HearsAll}
 use Rattle.pg_startup.specs.declared.transfer.Transfer.{Transfer}
 use Rattle.pg_startup.proofs.Walking.{buffer-changed, buffer-hears, buffer-then, queues-buffer, queues-none, queues-then, refused-all, stops-later, walked-all, walked-buffer, walked-ends, walked-none, walked-on, with_buffer}

@@ -1,5 +1,5 @@
 use Rattle.std.proofs.Common.{◌∷◌, [], ◌++◌, refl, inl, sym, subst, Ok, Err, ap, ◌∙◌, arith}
-use Rattle.pg_faults.specs.declared.error.Error.{Error}
+use Rattle.pg_types.specs.declared.error.Error.{Error}
 use Rattle.pg_startup.proofs.Batches.{IsRest, last-of-batch, rest-of-batch}
 use Rattle.pg_connect.proofs.Tags.{is_ready_message}
 use Rattle.pg_startup.specs.Startups.{Hears}

@@ -1,5 +1,5 @@
 use Rattle.std.proofs.Common.{◌++◌, List, ℕ, refl, ap, ◌∙◌}
-use Rattle.pg_login.specs.Stages.{login_of}
+use Rattle.pg_startup.specs.Stages.{login_of}
 use Rattle.pg_startup.specs.declared.transfer.Transfer.{Transfer}
 use Rattle.pg_startup.proofs.Opening.{opens}
 use Rattle.pg_startup.proofs.startup.Startup.new.Goals as goal

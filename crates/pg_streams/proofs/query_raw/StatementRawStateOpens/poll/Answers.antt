@@ -1,6 +1,6 @@
 use Rattle.std.proofs.Common.{◌≡◌, Err, None, Some, IfOk, List, false, sym, ◌∙◌, ap, subst}
 use Rattle.pg_types.specs.declared.value.Value.{Value}
-use Rattle.pg_statements.specs.declared.statement.Described.{Described as Statement}
+use Rattle.pg_desk.specs.declared.statement.Described.{Described as Statement}
 use Rattle.pg_query.specs.Meaning.{MatchPoll}
 use Rattle.pg_execute.specs.Parameters.{execute_request}
 use Rattle.pg_streams.specs.Families.{AnswersFor, Family, PausesFor}

@@ -1,15 +1,15 @@
 use Rattle.pg_client.specs.DoneStates.{place_of_batch, place_of_check}
 use Rattle.pg_client.specs.Queries.{place_of_query}
-use Rattle.pg_executed.specs.States.{place_of_close}
-use Rattle.pg_executed.specs.contracts.query.QueryStatePolled.TheImpl as queried
-use Rattle.pg_executed.specs.contracts.first_rows.FirstRowsStatePolled.TheImpl as first_queried
-use Rattle.pg_executed.specs.contracts.query_scalar.QueryScalarStatePolled.TheImpl as scalars_queried
-use Rattle.pg_executed.specs.contracts.execute.ExecuteStatePolled.TheImpl as executed
-use Rattle.pg_executed.specs.contracts.missing.MissingStatePolled.TheImpl as missing
-use Rattle.pg_prepared.specs.States.{place_of_clear}
-use Rattle.pg_prepared.specs.contracts.prepare.PrepareStatePolled.TheImpl as prepared
-use Rattle.pg_typed_states.specs.contracts.execute_typed.ExecuteTypedStatePolled.TheImpl as typed_executed
-use Rattle.pg_typed_states.specs.contracts.query_typed.QueryTypedStatePolled.TheImpl as typed_queried
+use Rattle.pg_states.specs.ExecutedStates.{place_of_close}
+use Rattle.pg_states.specs.contracts.query.QueryStatePolled.TheImpl as queried
+use Rattle.pg_states.specs.contracts.first_rows.FirstRowsStatePolled.TheImpl as first_queried
+use Rattle.pg_states.specs.contracts.query_scalar.QueryScalarStatePolled.TheImpl as scalars_queried
+use Rattle.pg_states.specs.contracts.execute.ExecuteStatePolled.TheImpl as executed
+use Rattle.pg_states.specs.contracts.missing.MissingStatePolled.TheImpl as missing
+use Rattle.pg_states.specs.States.{place_of_clear}
+use Rattle.pg_states.specs.contracts.prepare.PrepareStatePolled.TheImpl as prepared
+use Rattle.pg_states.specs.contracts.execute_typed.ExecuteTypedStatePolled.TheImpl as typed_executed
+use Rattle.pg_states.specs.contracts.query_typed.QueryTypedStatePolled.TheImpl as typed_queried
 use Rattle.pg_table.specs.Table.{in_count, in_done, in_messages, in_rows, in_scalars, in_statement}
 use Rattle.pg_table.proofs.Mapped.{gives-up-mapped}
 use Rattle.pg_table.proofs.state.AnyStatePolled.hang_up.Goals as goal

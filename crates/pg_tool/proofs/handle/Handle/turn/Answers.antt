@@ -4,7 +4,7 @@ use Rattle.pg_spec.specs.declared.stamps.Stamp.{Stamp}
 use Rattle.pg_table.specs.States.{place_of}
 use Rattle.pg_tool.specs.Handles.{PollsRunning, view_of}
 use Rattle.pg_tool.proofs.Turned.{mapped_none, mapped_some, turn_polls, turn_starts}
-use Rattle.pg_turns.specs.declared.handle_turn.Polling.TheVariants as polling
+use Rattle.pg_session.specs.declared.handle_turn.Polling.TheVariants as polling
 use Rattle.pg_tool.proofs.handle.Handle.turn.Goals as goal
 
 pub returns-then-is_some-clause-turns : goal.returns-then-is_some-clause-turns

@@ -1,6 +1,6 @@
 use Rattle.std.proofs.Common.{◌≤◌, map, length, ap, sym, ◌∙◌, subst}
-use Rattle.pg_turns.specs.States.{commands_in}
-use Rattle.pg_turns.specs.Turns.{Closes}
+use Rattle.pg_session.specs.States.{commands_in}
+use Rattle.pg_session.specs.Turns.{Closes}
 use Rattle.pg_tool.specs.declared.play.Play.{Play}
 use Rattle.pg_tool.specs.Handles.{view_of}
 use Rattle.pg_session.proofs.Nearer.{new-under-way}

@@ -1,6 +1,6 @@
 use Rattle.std.proofs.Common.{Some, Ok, refl, inl, inr}
 use Rattle.futures.specs.declared.task.Poll.TheVariants.{Ready}
-use Rattle.pg_faults.specs.declared.error.Error.TheVariants.{OutOfMemory}
+use Rattle.pg_types.specs.declared.error.Error.TheVariants.{OutOfMemory}
 use Rattle.pg_wire.specs.LinkCalls.{Continues}
 use Rattle.pg_wire.proofs.HandedOn.{handed-on}
 use Rattle.pg_hub.specs.Fits.{HubBecomes}

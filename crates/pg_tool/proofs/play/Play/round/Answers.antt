@@ -1,7 +1,7 @@
 use Rattle.std.proofs.Common.{◌<◌, ◌≤◌, ◌^◌, inr, length, refl, ap, ◌∙◌, arith}
 use Rattle.pg_session.proofs.Nearer.{nearer-joined}
-use Rattle.pg_turns.proofs.Order.{makes_none, rests_none}
-use Rattle.pg_turns.specs.Sessions.{numbers}
+use Rattle.pg_session.proofs.Order.{makes_none, rests_none}
+use Rattle.pg_session.specs.Sessions.{numbers}
 use Rattle.pg_table.specs.Table.{table}
 use Rattle.pg_tool.specs.Plays.{state_of}
 use Rattle.pg_connect.proofs.Calm.{calm_same, calm_then}

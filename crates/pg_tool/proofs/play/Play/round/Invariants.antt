@@ -2,7 +2,7 @@ use Rattle.std.proofs.Common.{◌≡◌, false}
 use Rattle.pg_wire.specs.LinkCalls.{Continues}
 use Rattle.pg_connect.specs.Calm.{StaysCalm}
 use Rattle.pg_session.specs.Measure.{IsNearer}
-use Rattle.pg_turns.specs.Sessions.{MakesAll, StaysAll, numbers}
+use Rattle.pg_session.specs.Sessions.{MakesAll, StaysAll, numbers}
 use Rattle.pg_tool.specs.Plays.{IsGoing, IsReady, state_of}
 use Rattle.pg_tool.proofs.play.Play.round.Given as goal
 use Rattle.pg_table.specs.Table.{table}

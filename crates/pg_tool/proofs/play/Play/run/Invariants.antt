@@ -1,7 +1,7 @@
 use Rattle.std.proofs.Common.{◌≡◌, take}
 use Rattle.pg_wire.specs.LinkCalls.{Continues}
 use Rattle.pg_connect.specs.Calm.{StaysCalm}
-use Rattle.pg_turns.specs.Sessions.{MakesAll}
+use Rattle.pg_session.specs.Sessions.{MakesAll}
 use Rattle.pg_tool.specs.Plays.{IsGoing, IsReady, state_of}
 use Rattle.pg_tool.proofs.play.Play.run.Given as goal
 use Rattle.pg_table.specs.Table.{table}

@@ -1,7 +1,7 @@
 use Rattle.std.proofs.Common.{Result, Option, sym, subst}
 use Rattle.pg_wire.specs.Parse.{Parses}
 use Rattle.pg_wire.specs.declared.message.Message.{Message}
-use Rattle.pg_faults.specs.declared.fault.WireFault.{WireFault}
+use Rattle.pg_types.specs.declared.faults.WireFault.{WireFault}
 use Rattle.pg_wire.proofs.HandedOn.{handed-on}
 use Rattle.pg_wire.proofs.Taken.{parse_takes, parse_refuses}
 use Rattle.pg_wire.proofs.message.Message.parse.Goals as goal

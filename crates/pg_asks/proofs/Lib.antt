@@ -1,2 +1,0 @@
-mod Behinds
-mod Forwarding

@@ -1,8 +1,0 @@
-use Rattle.pg_statements.specs.declared.statement.Lookup.TheVariants.{Info}
-use Rattle.pg_lookup.specs.Lookups.{lookup_statement}
-use Rattle.pg_asks.specs.Asking.{row_by}
-use Rattle.pg_asks.proofs.Behinds.{then-same}
-use Rattle.pg_asks.proofs.asks.row_then.Goals as goal
-
-pub returns-clause-dialogue : goal.returns-clause-dialogue
-returns-clause-dialogue c = then-same _ (lookup_statement Info) (row_by c.args.oid) c.new.ensures.dialogue

@@ -1,5 +1,0 @@
-use Rattle.pg_lookup.specs.Lookups.{field_row}
-use Rattle.pg_asks.proofs.catalog.CatalogAsker.field.Goals as goal
-
-pub returns : goal.returns
-returns c = c.settled.ensures (field_row c.args.columns.now c.args.cells.now) c.field_row.ensures

@@ -1,6 +1,0 @@
-mod Keepings
-mod Places
-mod Requests
-mod Sayings
-mod Settling
-mod Tellings

@@ -1,4 +1,0 @@
-pub mod CatalogReadings
-pub mod Given
-pub mod Keeping
-pub mod Saying

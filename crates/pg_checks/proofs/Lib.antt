@@ -1,4 +1,0 @@
-pub mod Telling
-pub mod Texts
-pub mod Life
-pub mod Stepping

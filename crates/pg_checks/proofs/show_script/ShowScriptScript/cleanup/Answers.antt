@@ -1,4 +1,0 @@
-use Rattle.pg_checks.proofs.show_script.ShowScriptScript.cleanup.Goals as goal
-
-pub returns-in-Asked : goal.returns-in-Asked
-returns-in-Asked c = rw c.in-Asked.is c.cleanup.ensures

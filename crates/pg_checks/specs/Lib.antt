@@ -1,3 +1,0 @@
-pub mod Showing
-pub mod Asking
-pub mod States

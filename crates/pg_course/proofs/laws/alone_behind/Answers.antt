@@ -1,5 +1,0 @@
-use Rattle.pg_course.proofs.Alone.{alone-of}
-use Rattle.pg_course.proofs.laws.alone_behind.Goals as goal
-
-pub returns : goal.returns
-returns g c d k l h = alone-of d k l h

@@ -1,5 +1,0 @@
-use Rattle.pg_course.proofs.Owned.{owned}
-use Rattle.pg_course.proofs.laws.answers_in_own_turn.Goals as goal
-
-pub returns : goal.returns
-returns g c course handle at d requests asked given own h = owned course handle at d requests asked given own h

@@ -1,5 +1,0 @@
-use Rattle.pg_course.proofs.Headlines.{headline}
-use Rattle.pg_course.proofs.laws.headline_of_all.Goals as goal
-
-pub returns : goal.returns
-returns g c meaning how are scripts turns answers course run = headline meaning how are scripts turns answers course run

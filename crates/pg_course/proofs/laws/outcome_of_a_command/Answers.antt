@@ -1,5 +1,0 @@
-use Rattle.pg_course.proofs.Isolated.{comes-to}
-use Rattle.pg_course.proofs.laws.outcome_of_a_command.Goals as goal
-
-pub returns : goal.returns
-returns g c meaning command answers course x = comes-to meaning command answers course x

@@ -1,5 +1,0 @@
-use Rattle.pg_course.proofs.OneWay.{one-way}
-use Rattle.pg_course.proofs.laws.unfolds_in_one_way.Goals as goal
-
-pub returns : goal.returns
-returns g c course handle at d requests asked x y puts h k = one-way course handle at d requests asked x y puts h k

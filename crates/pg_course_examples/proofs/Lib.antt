@@ -1,5 +1,0 @@
-pub mod Tests
-pub mod Simple
-pub mod Worked
-pub mod Wrongly
-pub mod Naming

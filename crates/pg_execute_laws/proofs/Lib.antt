@@ -1,4 +1,0 @@
-pub mod Commands
-mod Leaving
-mod Readings
-mod Requests

@@ -1,4 +1,0 @@
-pub mod Begun
-pub mod SentOrder
-pub mod NoFlush
-pub mod Kept

@@ -1,5 +1,0 @@
-use Rattle.pg_failed.proofs.NoFlush.{caused}
-use Rattle.pg_failed.proofs.laws.causes_of_simple_queries.Goals as goal
-
-pub returns : goal.returns
-returns c call failure none h = caused call failure none h

@@ -1,5 +1,0 @@
-use Rattle.pg_failed.proofs.Begun.{ended-whole}
-use Rattle.pg_failed.proofs.laws.ended_requests_are_whole.Goals as goal
-
-pub returns : goal.returns
-returns c begun all ended h = ended-whole begun all ended h

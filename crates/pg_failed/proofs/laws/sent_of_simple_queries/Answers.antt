@@ -1,5 +1,0 @@
-use Rattle.pg_failed.proofs.SentOrder.{sent}
-use Rattle.pg_failed.proofs.laws.sent_of_simple_queries.Goals as goal
-
-pub returns : goal.returns
-returns g c meaning are call s given taken h = sent meaning are call s given taken h

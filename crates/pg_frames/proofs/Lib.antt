@@ -1,4 +1,0 @@
-pub mod Written
-pub mod Numbers
-pub mod ReadBack
-pub mod Opening

@@ -1,5 +1,0 @@
-use Rattle.pg_headline.proofs.Landed.{as-landed}
-use Rattle.pg_headline.proofs.laws.as_landed.Goals as goal
-
-pub returns : goal.returns
-returns g c s asked handle place text wanted times answer h = as-landed s asked handle place text wanted times answer h

@@ -1,5 +1,0 @@
-use Rattle.pg_headline.proofs.LandedBack.{ended-well-back}
-use Rattle.pg_headline.proofs.laws.simple_queries_end_well.Goals as goal
-
-pub returns : goal.returns
-returns g c meaning are s taken ended = ended-well-back meaning are s taken ended

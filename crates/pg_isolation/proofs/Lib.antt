@@ -1,5 +1,0 @@
-pub mod Entries
-pub mod Isolated
-pub mod ByNames
-pub mod Told
-pub mod KeptApart

@@ -1,5 +1,0 @@
-use Rattle.pg_isolation.proofs.Told.{desk-tells}
-use Rattle.pg_isolation.proofs.laws.what_desks_tell.Goals as goal
-
-pub returns : goal.returns
-returns g c speech scripts turns answers course run = desk-tells course.asked run.told

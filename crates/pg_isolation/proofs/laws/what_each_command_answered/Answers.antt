@@ -1,5 +1,0 @@
-use Rattle.pg_isolation.proofs.Isolated.{each-answers}
-use Rattle.pg_isolation.proofs.laws.what_each_command_answered.Goals as goal
-
-pub returns : goal.returns
-returns g c meaning scripts turns answers course run = each-answers meaning scripts turns answers course run

@@ -1,4 +1,0 @@
-pub mod Reads
-pub mod Names
-pub mod Told
-pub mod KeptApart

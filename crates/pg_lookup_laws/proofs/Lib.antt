@@ -1,4 +1,0 @@
-pub mod Behind
-pub mod Requests
-pub mod Readings
-pub mod Commands

@@ -1,7 +1,0 @@
-use Rattle.std.proofs.Common.{◌≡◌, drop, map}
-use Rattle.pg_machine_file.specs.MachineTexts.{joined_at}
-use Rattle.pg_machine_file.specs.Readings.{in_front}
-use Rattle.pg_machine_file.proofs.word.joined.Given as goal
-
-abbrev pub invariant-loop-word : goal.invariant-loop-word
-invariant-loop-word l = in_front l.joined.items (joined_at (map (λ word. word.now) (drop l.word-index l.words))) ≡ joined_at (map (λ word. word.now) l.words)

@@ -1,3 +1,0 @@
-pub mod MachineTexts
-pub mod Readings
-pub mod Written

@@ -1,4 +1,0 @@
-pub mod Sequences
-pub mod Maybes
-pub mod Thens
-pub mod Numbers

@@ -1,0 +1,73 @@
+//! A statement or a text is queried, and its first rows are read.
+
+ghost use Rattle.std.specs.Prelude.{◌≡◌};
+ghost use Rattle.pg_execute.specs.Executes.{query_raw};
+ghost use Rattle.pg_execute.specs.Targets.{on_target};
+ghost use Rattle.pg_states.specs.Texts.{prepare_text};
+
+use crate::Finds;
+use futures::task::Poll;
+use pg_core::Finder;
+use pg_desk::{Desk, Stamp};
+use pg_errors::Error;
+use pg_execute::{First, FirstRows, OnTarget, ResultSet, Target, WholeRows, on_target};
+use pg_query::{Command, Polled, Script};
+use pg_types::Value;
+use std::alloc::Global;
+
+type FirstQueried<'a> = OnTarget<
+    'a,
+    Finds,
+    <Finds as Finder>::Search,
+    First<WholeRows>,
+    FirstRows<WholeRows>,
+    ResultSet,
+>;
+
+/// The state that executes a statement or a text as a query. Its first rows are the answer; once so many came the request is
+/// hung up.
+#[derive(Drop)]
+pub struct FirstRowsState<'a> {
+    command: Command<FirstQueried<'a>>,
+}
+
+impl<'a> FirstRowsState<'a> {
+    /// Makes the state that executes this target with these values, and reads so many rows at most. It takes no memory, and books
+    /// nothing before its first poll.
+    pub fn new(target: Target<'a>, take: u64, values: &'a [Value]) -> FirstRowsState<'a>
+        ensures live { ⟦<FirstRowsState<'a> as Polled>⟧.is_live result }
+        ensures asks { (⟦<FirstRowsState<'a> as Polled>⟧.place result).dialogue ≡ on_target prepare_text (λ s. query_raw take s values.now) target.entry }
+    {
+        let form = First {
+            take,
+            make: WholeRows,
+        };
+        FirstRowsState {
+            command: Command::new(on_target(target, Finds {}, form, values)),
+        }
+    }
+}
+
+impl<'a> Polled for FirstRowsState<'a> {
+    ghost use Rattle.pg_query.specs.Commands.{place_of, IsLive};
+
+    type Output = ResultSet;
+
+    ghost place = { λ s. place_of ⟦<FirstQueried<'a> as Script>⟧.dialogue s.command };
+
+    ghost is_live = { λ s. IsLive ⟦<FirstQueried<'a> as Script>⟧.dialogue ⟦<FirstQueried<'a> as Script>⟧.waits s.command };
+
+    fn poll<D: Desk>(
+        &mut self,
+        alloc: Global,
+        desk: &mut D,
+        stamp: Stamp,
+    ) -> Poll<Result<ResultSet, Error>> {
+        self.command.poll(alloc, desk, stamp)
+    }
+
+    fn hang_up<D: Desk>(self, alloc: Global, desk: &mut D, stamp: Stamp) -> Result<(), Error> {
+        let FirstRowsState { command } = self;
+        command.hang_up(alloc, desk, stamp)
+    }
+}

@@ -1,3 +1,0 @@
-mod Malformed
-mod ReadingOn
-mod Taking

@@ -1,5 +1,0 @@
-mod Columns
-pub mod Commands
-mod ReadingOn
-mod Readings
-mod Requests

@@ -1,7 +1,0 @@
-mod Takes
-mod Heading
-mod Knowing
-mod Ending
-mod Streams
-mod Fresh
-mod Polling

@@ -1,9 +1,0 @@
-use Rattle.std.proofs.Common.{Err}
-use Rattle.pg_typed_raw.proofs.Takes.{hang-up-refused, hung-up}
-use Rattle.pg_typed_raw.proofs.taking.fail.Goals as goal
-
-pub returns-in-Ok : goal.returns-in-Ok
-returns-in-Ok g c rows stamp = hung-up stamp c.args.id (Err c.args.error) c.in-Ok.ensures.event
-
-pub returns-in-Err : goal.returns-in-Err
-returns-in-Err g c rows stamp = hang-up-refused stamp c.args.id (Err c.args.error) c.in-Err.fault c.error_of.result c.in-Err.ensures.event c.error_of.ensures
