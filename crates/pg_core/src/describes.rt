@@ -18,11 +18,10 @@ use crate::ready::{Answered, Ready};
 use crate::{Draws, Go, Maybe, OrAnswer, Then};
 use bytes::{Bytes, BytesMut};
 use pg_errors::{Cause, Error};
-use pg_query::{Cleanup, Reply, Script, SingleRequest, Want};
+use pg_query::{Script, SingleRequest};
 use pg_types::Oid;
-use pg_wire::{FrameFault, Message, WireFault, describe, parse, sync};
+use pg_wire::{FrameFault, describe, parse, sync};
 use std::alloc::{AllocError, Global};
-use std::collections::VecDeque;
 
 /// Parse, Describe and Sync, under this name.
 fn frames(alloc: Global, name: &str, text: &str, oids: &[Oid]) -> Result<Bytes, FrameFault>
@@ -138,60 +137,15 @@ impl<'a> Go for Parses<'a> {
     }
 }
 
-type DescribesThen<'a> = Then<Draws, OrAnswer<Parses<'a>>, Maybe<NewStatement, Parsing>>;
-
 /// Draws a number, sends a text under the name that it gives, with the types of its first parameters, and answers
 /// what the server says of it. The request is hung up then.
-#[derive(Drop)]
-pub struct Describes<'a> {
-    script: DescribesThen<'a>,
-}
+pub type Describes<'a> = Then<Draws, OrAnswer<Parses<'a>>, Maybe<NewStatement, Parsing>>;
 
-impl<'a> Describes<'a> {
-    /// This text, with the types of its first parameters. It takes no memory.
-    pub fn new(text: &'a str, oids: &'a [Oid]) -> Describes<'a>
-        ensures dialogue { ⟦<Describes<'a> as Script>⟧.dialogue result ≡ spec.describes text.now oids.now }
-        ensures steps { ⟦<Describes<'a> as Script>⟧.steps result ≤ 3 }
-    {
-        let go = Parses { text, oids };
-        Describes {
-            script: Then::First(Draws::new(), OrAnswer { go }),
-        }
-    }
-}
-
-impl<'a> Script for Describes<'a> {
-    type Output = NewStatement;
-
-    ghost dialogue = { λ s. ⟦<DescribesThen<'a> as Script>⟧.dialogue s.script };
-
-    ghost refuses = { λ s. ⟦<DescribesThen<'a> as Script>⟧.refuses s.script };
-
-    ghost waits = { λ s. ⟦<DescribesThen<'a> as Script>⟧.waits s.script };
-
-    ghost steps = { λ s. ⟦<DescribesThen<'a> as Script>⟧.steps s.script };
-
-    fn next(&mut self, alloc: Global) -> Result<Want<NewStatement>, AllocError> {
-        self.script.next(alloc)
-    }
-
-    fn message(
-        &mut self,
-        alloc: Global,
-        message: &Result<Message, WireFault>,
-    ) -> Result<Want<NewStatement>, AllocError> {
-        self.script.message(alloc, message)
-    }
-
-    fn reply(&mut self, alloc: Global, reply: Reply) -> Result<Want<NewStatement>, AllocError> {
-        self.script.reply(alloc, reply)
-    }
-
-    fn refused(&mut self, alloc: Global, error: Error) -> Result<Want<NewStatement>, AllocError> {
-        self.script.refused(alloc, error)
-    }
-
-    fn cleanup(&self, alloc: Global) -> Result<VecDeque<Cleanup>, AllocError> {
-        self.script.cleanup(alloc)
-    }
+/// Describes this text, with the types of its first parameters. It takes no memory.
+pub fn describes_text<'a>(text: &'a str, oids: &'a [Oid]) -> Describes<'a>
+    ensures dialogue { ⟦<Describes<'a> as Script>⟧.dialogue result ≡ spec.describes text.now oids.now }
+    ensures steps { ⟦<Describes<'a> as Script>⟧.steps result ≤ 3 }
+{
+    let go = Parses { text, oids };
+    Then::First(Draws::new(), OrAnswer { go })
 }

@@ -23,7 +23,7 @@ mod prepares;
 mod ready;
 mod then;
 
-pub use describes::{Describes, Numbers, Parses, Parsing};
+pub use describes::{Describes, Numbers, Parses, Parsing, describes_text};
 pub use description::{Description, NewColumn, NewStatement};
 pub use description_reading::{DescriptionReading, new_columns};
 pub use draws::Draws;
@@ -48,6 +48,6 @@ pub use lookup_laws::{
 };
 pub use making::columns_of;
 pub use maybe::Maybe;
-pub use prepares::{FindsTypes, Makes, MakesStatement, Prepares};
+pub use prepares::{FindsTypes, Makes, MakesStatement, Prepares, prepares_text};
 pub use ready::{Answered, Ready};
 pub use then::Then;

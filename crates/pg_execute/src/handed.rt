@@ -12,7 +12,7 @@ use std::mem;
 
 /// A statement that is handed in, and is the answer at once.
 #[derive(Drop)]
-pub(crate) enum Handed<'a> {
+pub enum Handed<'a> {
     /// It is copied when it is answered.
     Borrowed(&'a Statement),
     Owned(Statement),

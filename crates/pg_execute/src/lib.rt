@@ -50,6 +50,7 @@ pub use first_rows::FirstRows;
 pub use form::{Count, First, Form, Query};
 pub use found_rows::{FoundRows, MakesRows};
 pub use got::Got;
+pub use handed::Handed;
 pub use head_reading::HeadReading;
 pub use head_rows::{BehindHead, HeadRows};
 pub use how_many::HowMany;
@@ -61,8 +62,8 @@ pub use laws::{
     values_of_one_column,
 };
 pub use make::{Make, Scalars, WholeRows};
-pub use on_statement::OnStatement;
-pub use on_text::{Closes, OnText};
+pub use on_statement::{OnStatement, executes_borrowed, executes_owned};
+pub use on_text::{Closes, OnText, executes_text};
 pub use query_typed::{AsksTyped, QueryTyped};
 pub use reads_on::ReadsOn;
 pub use request::{ask, close_bytes, close_request, execute_request};

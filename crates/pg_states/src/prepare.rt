@@ -5,7 +5,7 @@ ghost use Rattle.pg_core.specs.Lookups.{prepare};
 
 use crate::finds::Finds;
 use futures::task::Poll;
-use pg_core::{Finder, Prepares};
+use pg_core::{Finder, Prepares, prepares_text};
 use pg_desk::{Desk, Stamp, Statement};
 use pg_errors::Error;
 use pg_query::{Command, Polled, Script};
@@ -28,7 +28,7 @@ impl<'a> PrepareState<'a> {
         ensures asks { (⟦<PrepareState<'a> as Polled>⟧.place result).dialogue ≡ prepare text.now types.now }
     {
         PrepareState {
-            command: Command::new(Prepares::new(text, types, Finds {})),
+            command: Command::new(prepares_text(text, types, Finds {})),
         }
     }
 }
