@@ -1,4 +1,6 @@
 //! The reply to a query of which the first rows are read, message by message.
+//! It stops behind the last row that was asked for, whether the command goes on or not, as a stream does that is
+//! given up; so a count stands only if the command ended before.
 
 ghost use Rattle.std.specs.Prelude.{◌≡◌, length, Result, IfOk};
 ghost use Rattle.pg_types.specs.declared.faults.WireFault as fault;

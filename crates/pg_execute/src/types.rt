@@ -1,4 +1,6 @@
 //! The types of values that are given.
+//! A line of a session text tells them by oids, which a state borrows and makes into types in its first step: it
+//! takes no memory before, and couldn't borrow types that it makes itself.
 
 ghost use Rattle.std.specs.Prelude.{◌≡◌, ◌++◌, ◌∷◌, ℕ, List, OnOk, IfOk};
 ghost use Rattle.pg_execute.specs.Types as spec;

@@ -1,4 +1,5 @@
 //! A session that is made of how many commands it has, and a seed.
+//! A definition makes it of these two numbers, so that one law says of all such sessions that they are well made.
 
 ghost use Rattle.std.specs.Prelude.{◌≡◌, ◌≤◌, ◌+◌, map, IfOk};
 ghost use Rattle.std.specs.List.{range_with_len};

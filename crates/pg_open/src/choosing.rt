@@ -1,4 +1,6 @@
 //! The choice whether there is TLS over a link, and the handshake, polled until they answer.
+//! While a handshake is pending something counts as moved: a caller that stalls behind a poll in which nothing
+//! moved, and a wait that is Ready at once, would stall at each handshake.
 
 ghost use Rattle.std.specs.Prelude.{◌≡◌, ◌<◌, ◌^◌, ◌-◌, Some, None, Err};
 ghost use Rattle.futures.specs.Poll.{OnPending};

@@ -1,4 +1,6 @@
 //! The frame in front of some bytes before the tagged ones (PostgreSQL documentation, "Message Flow", "Start-up").
+//! A frame is refused as soon as its length, or its code or version, is there: nothing is waited for that would be
+//! refused anyway.
 
 ghost use Rattle.std.specs.Prelude.{◌≡◌, option_map};
 ghost use Rattle.pg_spec.specs.ClientFrames.{pair_at};

@@ -1,4 +1,6 @@
 //! A link to a server.
+//! What it does at a fault follows from the bytes taken alone: of these a session's contract tells, and not of what
+//! was offered.
 
 ghost use Rattle.std.specs.Prelude.{◌≡◌, ◌<◌, ◌≤◌, length, false, true, None, option_map};
 ghost use Rattle.pg_wire.specs.LinkCalls.{Keeps, KeepsPromise, ReadAnswers, WriteAnswers, FlushAnswers, ShutdownAnswers, WaitAnswers, IsInCourse, gave, took};

@@ -1,4 +1,5 @@
 //! Nothing stands where a command looks.
+//! It is a state, since a command that isn't begun would have no turn in which it answers.
 
 ghost use Rattle.std.specs.Prelude.{◌≡◌, Err};
 ghost use Rattle.pg_types.specs.declared.error.Error.TheVariants.{Missing};

@@ -1,4 +1,6 @@
 //! A statement or a text is queried, and its rows are given one by one.
+//! The query of a text is booked in the poll in which its prepare answers: a state that held a statement to be
+//! closed and had asked nothing yet would have nothing to do where it is given up, and the statement would stay.
 
 ghost use Rattle.std.specs.Prelude.{◌≡◌, ℕ, Some, IfOk};
 ghost use Rattle.pg_desk.specs.declared.statement.Described.{Described};

@@ -1,4 +1,6 @@
 //! The rows of a query, one a poll.
+//! A reply that was taken before is kept as the batches that came, and read once more row by row, so that one loop
+//! reads both.
 
 ghost use Rattle.std.specs.Prelude.{◌≡◌, ◌||◌, ◌++◌, [], List, None, Some, Ok, true, false, MatchResult};
 ghost use Rattle.futures.specs.declared.task.Poll.TheVariants.{Ready};

@@ -1,4 +1,6 @@
 //! The text of a session, line by line.
+//! `end` may stand twice: a second one can't say anything else than the first, while a second nonce, limit or cut
+//! could.
 
 ghost use Rattle.std.specs.Prelude.{◌≡◌, ◌<◌, ◌+◌, ◌-◌, ◌^◌, ◌∷◌, ◌++◌, [], ℕ, length, EachIndex, IfOk, IfSome, MatchOption, OnOk, ◌↔◌, ◌≢◌, slice_index, unwrap_or, true, false};
 ghost use Rattle.pg_text.specs.SessionText as said;

@@ -1,4 +1,6 @@
 //! Scripts: for each handle the commands that it runs one after another.
+//! A line names built-in types alone, and whoever makes scripts by hand can see to that: so no session has to test
+//! it, and no state that it begins leaves a type or a value out.
 
 ghost use Rattle.std.specs.Prelude.{◌≡◌, true, IfOk, IfErr};
 ghost use Rattle.pg_text.specs.Scripts.{AreScripts, AreShort, AreTooMany, are_typed};

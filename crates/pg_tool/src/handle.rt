@@ -1,4 +1,6 @@
 //! A handle, which runs the commands of its script one after another.
+//! A turn polls once: a poll goes on until its mailbox is empty, so no message is kept back, and whether anything
+//! moved is told by the hub.
 
 ghost use Rattle.std.specs.Prelude.{◌≡◌, ◌≢◌, ◌<◌, ◌++◌, ◌∷◌, IfOk, IfSome, OnOk, Err, MatchResult, length, map, true, None, is_some, option_map, slice_get, []};
 ghost use Rattle.std.specs.List.{All};

@@ -1,4 +1,5 @@
 //! A session behind its startup: handles and the connection take turns on one hub.
+//! A turn whose number no handle has is the connection's, so no list of given turns has to be refused.
 
 ghost use Rattle.std.specs.Prelude.{◌≡◌, ◌^◌, ◌<◌, ◌≤◌, ◌++◌, ◌∷◌, [], length, slice_get, Some, Ok, false, IfOk, IfErr, OnOk};
 ghost use Rattle.pg_connect.specs.Calm.{StaysCalm};

@@ -1,4 +1,5 @@
 //! The report of a session that ended.
+//! What was sent is put together at the end: kept while the session runs, every byte would stand in memory twice.
 
 ghost use Rattle.std.specs.Prelude.{◌≡◌, ◌<◌, ◌^◌, ◌++◌, ◌∷◌, [], IfOk, IfErr, MatchResult, OnOk, map, string_bytes};
 ghost use Rattle.std.specs.List.{concat};
