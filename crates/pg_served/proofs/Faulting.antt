@@ -12,7 +12,7 @@ use Rattle.pg_server.specs.Handlers.{Step}
 use Rattle.pg_server.specs.ServerLinks.{FailsByFault, Served, link_of}
 use Rattle.pg_server.proofs.FaultCourseLaws.{fault-of-new}
 use Rattle.pg_tool.specs.RunContract.{SessionAnswer}
-use Rattle.pg_tool.proofs.Following.{continues_same}
+use Rattle.pg_play.proofs.Following.{continues_same}
 use Rattle.pg_tool.proofs.Piped.{piped}
 use Rattle.pg_served.specs.Rehearsals.{Around, FailsByServer, HasItsFault, PlaysOver, over}
 

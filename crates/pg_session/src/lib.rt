@@ -1,4 +1,5 @@
-//! What a session does, turn by turn, whatever its commands are: the relation that every turn of the program meets.
+//! What a session does, turn by turn, whatever its commands are: the relation that every turn of the program meets, and how a
+//! session runs commands.
 //! From the turns of a session to what its commands mean, whatever they are.
 //! What a session does, turn by turn, whatever its commands are: what follows from the relation that every turn meets.
 #![tactic(auto)]
@@ -14,6 +15,7 @@ mod lives;
 mod main_theorem;
 mod measure;
 mod sent;
+mod spoken;
 mod turn_order;
 mod turns_given;
 
@@ -34,5 +36,6 @@ pub use sent::{
     the_link_stays_open_where_it_failed, what_was_asked_where_it_stalled,
     what_was_sent_where_it_failed,
 };
+pub use spoken::Spoken;
 pub use turn_order::turns_in_order;
 pub use turns_given::what_was_sent_gives_few_turns;

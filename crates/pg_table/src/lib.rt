@@ -6,6 +6,7 @@ mod isolation_laws;
 mod laws;
 mod making;
 mod slots;
+mod spoken;
 mod state;
 
 pub use isolation_laws::{

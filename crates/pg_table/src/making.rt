@@ -1,8 +1,9 @@
 //! The states of commands, as they begin.
 
-ghost use Rattle.std.specs.Prelude.{◌≡◌, Err, IfErr, IfOk, MatchResult};
+ghost use Rattle.std.specs.Prelude.{◌≡◌, Err, IfOk};
 ghost use Rattle.pg_client.specs.Done as done;
 ghost use Rattle.pg_client.specs.Simple as simple;
+ghost use Rattle.pg_types.specs.declared.error.Error.TheVariants.{Missing};
 ghost use Rattle.pg_core.specs.Lookups as lookups;
 ghost use Rattle.pg_query.specs.Dialogue.{Answer};
 ghost use Rattle.pg_table.specs.Mapped.{mapped};
@@ -13,21 +14,23 @@ ghost use Rattle.pg_table.specs.Targets.{IsFound};
 use crate::slots::Slots;
 use crate::state::AnyState;
 use pg_client::{BatchExecuteState, CheckConnectionState, SimpleQueryState};
-use pg_errors::Error;
 use pg_execute::{HowMany, Target};
 use pg_states::{
     ClearState, CloseState, ExecuteState, ExecuteTypedState, FirstRowsState, MissingState,
     PrepareState, QueryScalarState, QueryState, QueryTypedState,
 };
 use pg_text::{Command, CommandTarget, TypedText};
-use pg_types::{List, Oid, Text, Value};
+use pg_types::{List, Oid, OutOfMemory, Text, Value};
 use std::alloc::Global;
 
 /// The state of a command, by the slots of its script. OutOfMemory comes where there is no room for it.
-pub fn begin<'a>(alloc: Global, command: &'a Command, slots: &Slots) -> Result<AnyState<'a>, Error>
+pub fn begin<'a>(
+    alloc: Global,
+    command: &'a Command,
+    slots: &Slots,
+) -> Result<AnyState<'a>, OutOfMemory>
     ensures live { IfOk result IsLive }
     ensures asks { IfOk result (λ state. (place_of state).dialogue ≡ says_of slots.now command.now) }
-    ensures error { IfErr result (λ e. e ≡ Error.OutOfMemory) }
 {
     match command {
         Command::Simple { text, take } => simple_query(alloc, text, *take),
@@ -64,50 +67,53 @@ pub fn begin<'a>(alloc: Global, command: &'a Command, slots: &Slots) -> Result<A
 }
 
 /// The state of a simple query.
-fn simple_query<'a>(alloc: Global, text: &'a Text, take: Option<u64>) -> Result<AnyState<'a>, Error>
+fn simple_query<'a>(
+    alloc: Global,
+    text: &'a Text,
+    take: Option<u64>,
+) -> Result<AnyState<'a>, OutOfMemory>
     ensures live { IfOk result IsLive }
     ensures asks { IfOk result (λ state. (place_of state).dialogue ≡ mapped in_messages (simple.simple_query text.now take)) }
-    ensures error { IfErr result (λ e. e ≡ Error.OutOfMemory) }
 {
     let state = boxed(alloc, SimpleQueryState::new(text.as_str(), take))?;
     Ok(AnyState::Simple(state))
 }
 
 /// The state of a batch.
-fn batch_execute<'a>(alloc: Global, text: &'a Text) -> Result<AnyState<'a>, Error>
+fn batch_execute<'a>(alloc: Global, text: &'a Text) -> Result<AnyState<'a>, OutOfMemory>
     ensures live { IfOk result IsLive }
     ensures asks { IfOk result (λ state. (place_of state).dialogue ≡ mapped in_done (done.batch_execute text.now)) }
-    ensures error { IfErr result (λ e. e ≡ Error.OutOfMemory) }
 {
     let state = boxed(alloc, BatchExecuteState::new(text.as_str()))?;
     Ok(AnyState::Batch(state))
 }
 
 /// The state of a check.
-fn check_connection<'a>(alloc: Global) -> Result<AnyState<'a>, Error>
+fn check_connection<'a>(alloc: Global) -> Result<AnyState<'a>, OutOfMemory>
     ensures live { IfOk result IsLive }
     ensures asks { IfOk result (λ state. (place_of state).dialogue ≡ mapped in_done done.check_connection) }
-    ensures error { IfErr result (λ e. e ≡ Error.OutOfMemory) }
 {
     let state = boxed(alloc, CheckConnectionState::new())?;
     Ok(AnyState::Check(state))
 }
 
 /// The state of a prepare.
-fn prepare<'a>(alloc: Global, text: &'a Text, types: &'a List<Oid>) -> Result<AnyState<'a>, Error>
+fn prepare<'a>(
+    alloc: Global,
+    text: &'a Text,
+    types: &'a List<Oid>,
+) -> Result<AnyState<'a>, OutOfMemory>
     ensures live { IfOk result IsLive }
     ensures asks { IfOk result (λ state. (place_of state).dialogue ≡ mapped in_statement (lookups.prepare text.now types.now)) }
-    ensures error { IfErr result (λ e. e ≡ Error.OutOfMemory) }
 {
     let state = boxed(alloc, PrepareState::new(text.as_str(), types.as_slice()))?;
     Ok(AnyState::Prepare(state))
 }
 
 /// The state of a clear.
-fn clear<'a>(alloc: Global) -> Result<AnyState<'a>, Error>
+fn clear<'a>(alloc: Global) -> Result<AnyState<'a>, OutOfMemory>
     ensures live { IfOk result IsLive }
     ensures asks { IfOk result (λ state. (place_of state).dialogue ≡ mapped in_done lookups.clear) }
-    ensures error { IfErr result (λ e. e ≡ Error.OutOfMemory) }
 {
     let state = boxed(alloc, ClearState::new())?;
     Ok(AnyState::Clear(state))
@@ -120,10 +126,9 @@ fn query<'a>(
     target: &'a CommandTarget,
     values: &'a List<Value>,
     slots: &Slots,
-) -> Result<AnyState<'a>, Error>
+) -> Result<AnyState<'a>, OutOfMemory>
     ensures live { IfOk result IsLive }
     ensures asks { IfOk result (λ state. (place_of state).dialogue ≡ says_query how_many slots.now target.now values.now) }
-    ensures error { IfErr result (λ e. e ≡ Error.OutOfMemory) }
 {
     match find(target, slots)? {
         Some(target) => {
@@ -142,10 +147,9 @@ fn query_raw<'a>(
     take: u64,
     values: &'a List<Value>,
     slots: &Slots,
-) -> Result<AnyState<'a>, Error>
+) -> Result<AnyState<'a>, OutOfMemory>
     ensures live { IfOk result IsLive }
     ensures asks { IfOk result (λ state. (place_of state).dialogue ≡ says_query_raw take slots.now target.now values.now) }
-    ensures error { IfErr result (λ e. e ≡ Error.OutOfMemory) }
 {
     match find(target, slots)? {
         Some(target) => {
@@ -164,10 +168,9 @@ fn query_scalar<'a>(
     target: &'a CommandTarget,
     values: &'a List<Value>,
     slots: &Slots,
-) -> Result<AnyState<'a>, Error>
+) -> Result<AnyState<'a>, OutOfMemory>
     ensures live { IfOk result IsLive }
     ensures asks { IfOk result (λ state. (place_of state).dialogue ≡ says_query_scalar how_many slots.now target.now values.now) }
-    ensures error { IfErr result (λ e. e ≡ Error.OutOfMemory) }
 {
     match find(target, slots)? {
         Some(target) => {
@@ -185,10 +188,9 @@ fn execute<'a>(
     target: &'a CommandTarget,
     values: &'a List<Value>,
     slots: &Slots,
-) -> Result<AnyState<'a>, Error>
+) -> Result<AnyState<'a>, OutOfMemory>
     ensures live { IfOk result IsLive }
     ensures asks { IfOk result (λ state. (place_of state).dialogue ≡ says_execute slots.now target.now values.now) }
-    ensures error { IfErr result (λ e. e ≡ Error.OutOfMemory) }
 {
     match find(target, slots)? {
         Some(target) => {
@@ -205,10 +207,9 @@ fn query_typed<'a>(
     alloc: Global,
     how_many: HowMany,
     typed: &'a TypedText,
-) -> Result<AnyState<'a>, Error>
+) -> Result<AnyState<'a>, OutOfMemory>
     ensures live { IfOk result IsLive }
     ensures asks { IfOk result (λ state. (place_of state).dialogue ≡ says_query_typed how_many typed.now) }
-    ensures error { IfErr result (λ e. e ≡ Error.OutOfMemory) }
 {
     let text = typed.text.as_str();
     let types = typed.types.as_slice();
@@ -219,10 +220,9 @@ fn query_typed<'a>(
 }
 
 /// The state of an execution of a text with values of these types.
-fn execute_typed<'a>(alloc: Global, typed: &'a TypedText) -> Result<AnyState<'a>, Error>
+fn execute_typed<'a>(alloc: Global, typed: &'a TypedText) -> Result<AnyState<'a>, OutOfMemory>
     ensures live { IfOk result IsLive }
     ensures asks { IfOk result (λ state. (place_of state).dialogue ≡ says_execute_typed typed.now) }
-    ensures error { IfErr result (λ e. e ≡ Error.OutOfMemory) }
 {
     let text = typed.text.as_str();
     let types = typed.types.as_slice();
@@ -233,9 +233,8 @@ fn execute_typed<'a>(alloc: Global, typed: &'a TypedText) -> Result<AnyState<'a>
 }
 
 /// What a command names, by the slots of its script. Nothing where its slot holds nothing.
-fn find<'a>(target: &'a CommandTarget, slots: &Slots) -> Result<Option<Target<'a>>, Error>
+fn find<'a>(target: &'a CommandTarget, slots: &Slots) -> Result<Option<Target<'a>>, OutOfMemory>
     ensures found { IfOk result (IsFound slots.now target.now) }
-    ensures error { IfErr result (λ e. e ≡ Error.OutOfMemory) }
 {
     match target {
         CommandTarget::Text(text) => Ok(Some(Target::Query(text.as_str()))),
@@ -250,10 +249,9 @@ fn find<'a>(target: &'a CommandTarget, slots: &Slots) -> Result<Option<Target<'a
 }
 
 /// The state of a command that closes the statement in a slot.
-fn close<'a>(alloc: Global, slot: u64, slots: &Slots) -> Result<AnyState<'a>, Error>
+fn close<'a>(alloc: Global, slot: u64, slots: &Slots) -> Result<AnyState<'a>, OutOfMemory>
     ensures live { IfOk result IsLive }
     ensures asks { IfOk result (λ state. (place_of state).dialogue ≡ says_close slots.now slot) }
-    ensures error { IfErr result (λ e. e ≡ Error.OutOfMemory) }
 {
     match slots.get(slot) {
         Some(statement) => {
@@ -267,18 +265,17 @@ fn close<'a>(alloc: Global, slot: u64, slots: &Slots) -> Result<AnyState<'a>, Er
 }
 
 /// The state of a command whose slot holds nothing.
-fn missing<'a>(alloc: Global) -> Result<AnyState<'a>, Error>
+fn missing<'a>(alloc: Global) -> Result<AnyState<'a>, OutOfMemory>
     ensures live { IfOk result IsLive }
-    ensures asks { IfOk result (λ state. (place_of state).dialogue ≡ Answer (Err Error.Missing)) }
-    ensures error { IfErr result (λ e. e ≡ Error.OutOfMemory) }
+    ensures asks { IfOk result (λ state. (place_of state).dialogue ≡ Answer (Err Missing)) }
 {
     let state = boxed(alloc, MissingState::new())?;
     Ok(AnyState::Missing(state))
 }
 
 /// Puts a value on the heap.
-fn boxed<T: Drop>(alloc: Global, value: T) -> Result<Box<T>, Error>
-    ensures { MatchResult result (λ boxed. boxed.value ≡ value) (λ e. e ≡ Error.OutOfMemory) }
+fn boxed<T: Drop>(alloc: Global, value: T) -> Result<Box<T>, OutOfMemory>
+    ensures { IfOk result (λ boxed. boxed.value ≡ value) }
 {
     Ok(Box::new(alloc, value)?)
 }

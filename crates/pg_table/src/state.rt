@@ -1,6 +1,6 @@
 //! The states of all commands in one, and what they answer.
 
-ghost use Rattle.std.specs.Prelude.{◌≡◌, Ok, IfErr, IfOk, OnOk};
+ghost use Rattle.std.specs.Prelude.{◌≡◌, Ok, IfOk, OnOk};
 ghost use Rattle.pg_table.specs.Mapped.{mapped_poll};
 ghost use Rattle.pg_table.specs.Table.{in_count, in_done, in_messages, in_rows, in_scalars, in_statement, kept_answer, slots_behind, slots_behind_prepare};
 
@@ -16,7 +16,7 @@ use pg_states::{
     PrepareState, QueryScalarState, QueryState, QueryTypedState,
 };
 use pg_text::{Answer, Command};
-use pg_types::{List, Value};
+use pg_types::{List, OutOfMemory, Value};
 use std::alloc::Global;
 
 /// The state of a command that runs. It stands on the heap, so that what holds it is small.
@@ -54,17 +54,35 @@ pub fn keep(
     slots: &mut Slots,
     command: &Command,
     answer: Result<AnyAnswer, Error>,
-) -> Result<Answer, Error>
+) -> Result<Answer, OutOfMemory>
     ensures answer { IfOk result (λ told. told ≡ kept_answer answer) }
     ensures slots { OnOk result (slots.new ≡ slots_behind slots.old command.now answer) }
-    ensures error { IfErr result (λ e. e ≡ Error.OutOfMemory) }
+{
+    match keep_slots(slots, command, &answer) {
+        Ok(()) => Ok(told(answer)),
+        Err(_) => {
+            drop(answer);
+            Err(OutOfMemory)
+        }
+    }
+}
+
+/// Keeps what the slots of a script keep of the answer of its command.
+fn keep_slots(
+    slots: &mut Slots,
+    command: &Command,
+    answer: &Result<AnyAnswer, Error>,
+) -> Result<(), OutOfMemory>
+    ensures { OnOk result (slots.new ≡ slots_behind slots.old command.now answer.now) }
 {
     match command {
-        Command::Prepare { slot, .. } => keep_prepared(slots, *slot, &answer)?,
-        Command::Close { slot } => slots.empty(*slot),
-        _ => {}
+        Command::Prepare { slot, .. } => keep_prepared(slots, *slot, answer),
+        Command::Close { slot } => {
+            slots.empty(*slot);
+            Ok(())
+        }
+        _ => Ok(()),
     }
-    Ok(told(answer))
 }
 
 /// Keeps the statement that a prepare answered in its slot.
@@ -72,9 +90,8 @@ fn keep_prepared(
     slots: &mut Slots,
     slot: u64,
     answer: &Result<AnyAnswer, Error>,
-) -> Result<(), Error>
+) -> Result<(), OutOfMemory>
     ensures kept { OnOk result (slots.new ≡ slots_behind_prepare slots.old slot answer.now) }
-    ensures error { IfErr result (λ e. e ≡ Error.OutOfMemory) }
 {
     if let Ok(AnyAnswer::Statement(statement)) = answer {
         slots.put(slot, statement.copy()?)?;

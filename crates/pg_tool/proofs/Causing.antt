@@ -11,7 +11,7 @@ use Rattle.pg_session.proofs.Caused.Start.{made_cause, start_cause}
 use Rattle.pg_text.specs.declared.command.Command.{Command}
 use Rattle.pg_text.specs.declared.report.Report.{Report}
 use Rattle.pg_tool.specs.Fails.{SessionFails}
-use Rattle.pg_tool.specs.Openings.{OpenEnds}
+use Rattle.pg_play.specs.Openings.{OpenEnds}
 use Rattle.pg_tool.proofs.AtTable.{broken-cause}
 
 start_ends : (call : Call) (settings : Settings) (s : Startup) (e : Error) → Means call.config settings → NeedsNoTls settings → s.bytes.max_bytes ≡ call.limit →

@@ -18,7 +18,7 @@ use Rattle.pg_text.specs.declared.command.Command.{Command}
 use Rattle.pg_text.specs.declared.report.Report.{Report}
 use Rattle.pg_table.specs.Headlines.{told_in}
 use Rattle.pg_tool.specs.Fails.{PlaysWithin, SessionFails}
-use Rattle.pg_tool.specs.Openings.{OpenEnds}
+use Rattle.pg_play.specs.Openings.{OpenEnds}
 use Rattle.pg_tool.specs.TableContract.{KeepsLimit, TableResult, table_result}
 use Rattle.pg_tool.proofs.AtTable.{broken-limit, holds-ended}
 

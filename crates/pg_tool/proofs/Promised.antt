@@ -42,7 +42,7 @@ use Rattle.pg_tool.specs.TableContract.{IsEndedWell, KeepsLimit, SendsInOrder, T
 use Rattle.pg_tool.proofs.AtTable.{is-closed, sent-untouched}
 use Rattle.pg_tool.proofs.Causing.{caused}
 use Rattle.pg_tool.proofs.Completing.{must_all}
-use Rattle.pg_tool.proofs.Following.{continues_same}
+use Rattle.pg_play.proofs.Following.{continues_same}
 use Rattle.pg_tool.proofs.Limiting.{ended_within, holds_all, keeps_limit}
 use Rattle.pg_tool.proofs.Played.{ended_apart, ended_well, has_run, ran_apart}
 use Rattle.pg_tool.proofs.Requiring.{asks_so, shakes_cause, shakes_so, vain_cause, vain_goes, vain_holds, vain_kept, vain_open, vain_sent}

@@ -42,7 +42,7 @@ use Rattle.pg_session.specs.Speeches.{meaning_of}
 use Rattle.pg_table.specs.Table.{table}
 use Rattle.pg_tool.proofs.AtTable.{IsInOrder, none-in-order}
 use Rattle.pg_tool.specs.Required.{AskEnds, AsksInVain, StopsAsking, choice_behind, choice_of, tls_error}
-use Rattle.pg_tool.proofs.Following.{continues_grown, continues_still, continues_then}
+use Rattle.pg_play.proofs.Following.{continues_grown, continues_still, continues_then}
 
 -- ---- the choice before a byte
 

@@ -22,7 +22,7 @@ use Rattle.pg_text.specs.declared.report.Report.{Report}
 use Rattle.pg_session.specs.Speeches.{meaning_of}
 use Rattle.pg_table.specs.Table.{table}
 use Rattle.pg_tool.specs.Fails.{SessionFails}
-use Rattle.pg_tool.specs.Openings.{OpenEnds}
+use Rattle.pg_play.specs.Openings.{OpenEnds}
 use Rattle.pg_tool.specs.TableContract as by_table
 use Rattle.pg_tool.specs.TableContract.{table_result}
 use Rattle.pg_tool.proofs.AtTable.{IsInOrder, broken-kept, broken-open, broken-sent, over-closed, sent-failed, sent-opened, sent-over, sent-stopped, sent-untouched, stopped-kept}

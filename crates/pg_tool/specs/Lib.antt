@@ -1,10 +1,6 @@
 pub mod Asked
 pub mod Reading
 pub mod Writing
-pub mod Openings
-pub mod Parameters
-pub mod Plays
-pub mod Handles
 pub mod Words
 pub mod RunContract
 pub mod Fails

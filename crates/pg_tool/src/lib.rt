@@ -2,15 +2,11 @@
 #![tactic(auto)]
 
 mod asked;
-mod handle;
 mod laws;
 mod numbers;
-mod opening;
 mod over;
-mod play;
 mod program;
 mod reading;
-mod report;
 mod required;
 mod session;
 mod writing;

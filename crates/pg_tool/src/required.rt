@@ -6,18 +6,18 @@ ghost use Rattle.pg_connect.specs.Calm.{StaysCalm};
 ghost use Rattle.pg_startup.specs.SslRequests.{Asking};
 ghost use Rattle.pg_tool.specs.Required.{AskEnds, AsksWithin, tls_error};
 
-use crate::opening::pause;
 use futures::task::Poll;
 use pg_config::SslMode;
 use pg_errors::{Cause, Error};
 use pg_open::TlsChoice;
+use pg_play::pause;
 use pg_startup::SslRequest;
 use pg_wire::Link;
 use std::alloc::Global;
 
 /// Polls the request for TLS until it answers. Where a poll moved nothing the link is waited for, and where the next one
 /// moves nothing either, the session is stalled.
-#[tactic(auto, using(crate::proofs::Calming::calm_none))]
+#[tactic(auto, using(pg_play::proofs::Calming::calm_none))]
 fn ask<L: Link>(request: &mut SslRequest, link: &mut L) -> Result<u8, Error>
     requires limit { request.old.bytes.max_bytes < 2 ^ 63 }
     requires given { request.old.bytes.given ≤ request.old.bytes.max_bytes }

@@ -13,20 +13,20 @@ ghost use Rattle.pg_wire.specs.LinkCalls.{Continues};
 ghost use Rattle.pg_text.specs.Views.{as_scripts};
 ghost use Rattle.pg_table.specs.Headlines.{told_in};
 ghost use Rattle.pg_table.specs.Table.{table};
+ghost use Rattle.pg_play.specs.Told.{told_of};
 ghost use Rattle.pg_tool.specs.SessionContract.{SessionContract, ToldSimply};
 ghost use Rattle.pg_tool.specs.TableContract.{TableContract, table_call, table_result};
 ghost use Rattle.pg_tool.specs.Fails.{PlaysWithin, SessionFails};
 ghost use Rattle.pg_tool.specs.Asked.{call_of};
 
 use crate::asked::may_start;
-use crate::opening::open;
-use crate::play::Play;
 use crate::required::ask_in_vain;
 use pg_config::Config;
 use pg_errors::{Cause, Error};
 use pg_open::TlsChoice;
-use pg_startup::{Login, Startup};
-use pg_text::{Report, Scripts};
+use pg_play::play_over;
+use pg_table::AnyState;
+use pg_text::{Answer, Report, Scripts};
 use pg_wire::Link;
 use std::alloc::Global;
 
@@ -94,15 +94,42 @@ fn play_as<L: Link>(
     ensures link { Continues (L.view link.old) (L.view link.new) }
     ensures calm { OnOk result (StaysCalm (L.view link.old) (L.view link.new)) }
 {
-    let login = Login {
-        config: settings,
+    match play_over::<AnyState, L>(
+        alloc,
+        settings,
         nonce,
-        channel: None,
-    };
-    let mut startup = Startup::new(alloc, login, 0, max_bytes)?;
-    open(alloc, &mut startup, link)?;
-    let (opening, key, streams) = startup.into_streams(alloc);
-    let mut play = Play::new(alloc, streams, scripts)?;
-    play.run(alloc, link, scripts, turns)?;
-    play.into_report(alloc, opening, key)
+        scripts.as_slice(),
+        turns,
+        max_bytes,
+        link,
+    ) {
+        Ok(report) => Ok(in_words(report)),
+        Err(error) => Err(error),
+    }
+}
+
+/// The same report, of the text's answers.
+fn in_words(report: pg_play::Report<Answer>) -> Report
+    ensures { told_in result ≡ told_of report }
+{
+    let pg_play::Report {
+        answers,
+        asynchronous,
+        parameters,
+        process_id,
+        secret_key,
+        book,
+        trace,
+        sent,
+    } = report;
+    Report {
+        answers,
+        asynchronous,
+        parameters,
+        process_id,
+        secret_key,
+        book,
+        trace,
+        sent,
+    }
 }

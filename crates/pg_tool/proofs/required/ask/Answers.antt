@@ -3,7 +3,7 @@ use Rattle.pg_wire.proofs.HandedOn.{handed-on}
 use Rattle.pg_connect.proofs.Calm.{calm_then}
 use Rattle.pg_connect.proofs.Joining.{keeps_then}
 use Rattle.pg_tool.proofs.Requiring.{ask_answers, ask_stops}
-use Rattle.pg_tool.proofs.Waiting.{counted_so}
+use Rattle.pg_play.proofs.Waiting.{counted_so}
 use Rattle.pg_tool.proofs.required.ask.Goals as goal
 
 pub returns-in-Ready-clause-answer : goal.returns-in-Ready-clause-answer
