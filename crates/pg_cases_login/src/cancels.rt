@@ -8,6 +8,7 @@ use crate::setting;
 use futures::task::Poll;
 use pg_cases::words::{at, text_at};
 use pg_config::Config;
+use pg_errors::Error;
 use pg_open::{CancelQuery, CancelStage, CancelToken, SessionInfo};
 use pg_wire::MemoryLink;
 use std::alloc::{AllocError, Global};
@@ -28,6 +29,28 @@ fn tell_stage(
     }
 }
 
+/// What the last poll answered, and what the links took.
+fn tell_answer(
+    answer: &Result<(), Error>,
+    stage: &CancelStage<MemoryLink, Connector>,
+    out: &mut String,
+) -> Result<(), AllocError> {
+    match answer {
+        Ok(()) => out.push_str(" cancelled")?,
+        Err(error) => tell_error(error, out)?,
+    }
+    tell_stage(stage, out)
+}
+
+/// The same of an answer that is owned here alone.
+fn tell_ready(
+    answer: Result<(), Error>,
+    stage: &CancelStage<MemoryLink, Connector>,
+    out: &mut String,
+) -> Result<(), AllocError> {
+    tell_answer(&answer, stage, out)
+}
+
 /// Polls until it answers.
 fn tell_polls(
     alloc: Global,
@@ -39,14 +62,7 @@ fn tell_polls(
     let mut query = query;
     'polls: for _ in 0..POLLS {
         match query.poll(alloc) {
-            Poll::Ready(Ok(())) => {
-                out.push_str(" cancelled")?;
-                return tell_stage(&query.stage, out);
-            }
-            Poll::Ready(Err(error)) => {
-                tell_error(&error, out)?;
-                return tell_stage(&query.stage, out);
-            }
+            Poll::Ready(answer) => return tell_ready(answer, &query.stage, out),
             Poll::Pending => out.push_str(" pending")?,
         }
     }

@@ -84,42 +84,66 @@ fn reply_of(alloc: Global, words: &[Vec<u8>]) -> Result<BytesMut, AllocError> {
     Ok(reply)
 }
 
+/// What the answer is, and whether the request was hung up.
+fn tell_answered(
+    answer: &Result<(), Error>,
+    hub: &mut Hub,
+    out: &mut String,
+) -> Result<(), AllocError> {
+    tell_answer(answer, out)?;
+    tell_left(hub, out)
+}
+
 /// What the reply makes it answer.
 fn tell_reply(
     alloc: Global,
-    mut state: SessionCheckState,
+    state: &mut SessionCheckState,
     messages: &[Vec<u8>],
     hub: &mut Hub,
     out: &mut String,
 ) -> Result<(), AllocError>
-    requires { IsLiveCheck state }
+    requires { IsLiveCheck state.old }
 {
     let mut reply = reply_of(alloc, messages)?;
     if !deliver(hub, &mut reply) {
         return out.push_str("; not delivered");
     }
     match state.poll(alloc, hub, STAMP) {
-        Poll::Ready(answer) => {
-            tell_answer(&answer, out)?;
-            tell_left(hub, out)
-        }
+        Poll::Ready(answer) => tell_answered(&answer, hub, out),
         Poll::Pending => out.push_str("; waits"),
+    }
+}
+
+/// The frame that was asked, and what was answered without a reply.
+fn tell_unasked(
+    answer: &Result<(), Error>,
+    hub: &mut Hub,
+    out: &mut String,
+) -> Result<(), AllocError> {
+    tell_part(hub, out)?;
+    tell_answer(answer, out)
+}
+
+/// What a check asks over a hub, and what it answers.
+fn tell_over(
+    alloc: Global,
+    words: &[Vec<u8>],
+    hub: &mut Hub,
+    out: &mut String,
+) -> Result<(), AllocError> {
+    let mut state = SessionCheckState::new(attrs_of(text_at(words, 0)));
+    match state.poll(alloc, hub, STAMP) {
+        Poll::Ready(answer) => tell_unasked(&answer, hub, out),
+        Poll::Pending => {
+            let told = tell_part(hub, out);
+            told.and(tell_reply(alloc, &mut state, words.get(1..).unwrap_or(&[]), hub, out))
+        }
     }
 }
 
 /// What a check asks, and what it answers.
 pub(crate) fn tell(alloc: Global, words: &[Vec<u8>], out: &mut String) -> Result<(), AllocError> {
-    let mut hub = Hub::new(alloc, 0, 0);
-    let mut state = SessionCheckState::new(attrs_of(text_at(words, 0)));
     out.push_str(" asks")?;
-    match state.poll(alloc, &mut hub, STAMP) {
-        Poll::Ready(answer) => {
-            tell_part(&mut hub, out)?;
-            tell_answer(&answer, out)
-        }
-        Poll::Pending => {
-            tell_part(&mut hub, out)?;
-            tell_reply(alloc, state, words.get(1..).unwrap_or(&[]), &mut hub, out)
-        }
-    }
+    let mut hub = Hub::new(alloc, 0, 0);
+    tell_over(alloc, words, &mut hub, out)
 }

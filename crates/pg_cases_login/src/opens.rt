@@ -11,6 +11,7 @@ use pg_cases::words::{at, text_at};
 use pg_cases::written;
 use pg_config::Config;
 use pg_connect::Connection;
+use pg_errors::Error;
 use pg_open::{ConnectRaw, MaybeTls, OpenStage, Opened, connect_raw};
 use pg_wire::{LinkWait, MemoryLink};
 use std::alloc::{AllocError, Global};
@@ -93,6 +94,30 @@ fn tell_pending(
     Ok(wait)
 }
 
+/// What the last poll answered; behind an error what the links took where it stood.
+fn tell_answer(
+    answer: &Result<Opened<MemoryLink, Connector>, Error>,
+    stage: &OpenStage<MemoryLink, Connector>,
+    out: &mut String,
+) -> Result<(), AllocError> {
+    match answer {
+        Ok(opened) => tell_opened(opened, out),
+        Err(error) => {
+            tell_error(error, out)?;
+            tell_stage(stage, out)
+        }
+    }
+}
+
+/// The same of an answer that is owned here alone.
+fn tell_ready(
+    answer: Result<Opened<MemoryLink, Connector>, Error>,
+    stage: &OpenStage<MemoryLink, Connector>,
+    out: &mut String,
+) -> Result<(), AllocError> {
+    tell_answer(&answer, stage, out)
+}
+
 /// Polls until it answers, or until the link has nothing to wait for.
 fn tell_polls(
     alloc: Global,
@@ -104,11 +129,7 @@ fn tell_polls(
     let mut raw = raw;
     'polls: for _ in 0..POLLS {
         match raw.poll(alloc) {
-            Poll::Ready(Ok(opened)) => return tell_opened(&opened, out),
-            Poll::Ready(Err(error)) => {
-                tell_error(&error, out)?;
-                return tell_stage(&raw.stage, out);
-            }
+            Poll::Ready(answer) => return tell_ready(answer, &raw.stage, out),
             Poll::Pending => {
                 if tell_pending(&mut raw, out)? != LinkWait::Ready {
                     break;

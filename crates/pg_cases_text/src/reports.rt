@@ -200,8 +200,8 @@ fn put_sent(alloc: Global, sent: &[u8], rows: &mut List<RowCells>) -> Result<(),
     }
 }
 
-/// The answer that is no rows, and the one that is two.
-fn put_rows(alloc: Global, answers: &mut List<Answer>) -> Result<(), OutOfMemory> {
+/// The answer that is no rows.
+fn put_no_rows(alloc: Global, answers: &mut List<Answer>) -> Result<(), OutOfMemory> {
     let name = Text::from_str(alloc, "s0")?;
     let statement = Statement::new(alloc, name, List::empty(alloc), List::empty(alloc))?;
     push(
@@ -211,7 +211,11 @@ fn put_rows(alloc: Global, answers: &mut List<Answer>) -> Result<(), OutOfMemory
             rows: List::empty(alloc),
             affected: None,
         },
-    )?;
+    )
+}
+
+/// The answer that is two rows.
+fn put_two_rows(alloc: Global, answers: &mut List<Answer>) -> Result<(), OutOfMemory> {
     let mut rows = List::empty(alloc);
     put_sent(alloc, THREE_CELLS, &mut rows)?;
     put_sent(alloc, NO_CELLS, &mut rows)?;
@@ -225,34 +229,46 @@ fn put_rows(alloc: Global, answers: &mut List<Answer>) -> Result<(), OutOfMemory
     )
 }
 
+/// Values without a text.
+fn put_plain(values: &mut List<Value>) -> Result<(), OutOfMemory> {
+    push(values, Value::Null)?;
+    push(values, Value::Bool(true))?;
+    push(values, Value::Bool(false))?;
+    push(values, Value::Int(0))?;
+    push(values, Value::Int(-1))?;
+    push(values, Value::Int(i64::MAX))?;
+    push(values, Value::Int(i64::MIN))
+}
+
+/// A text, and bytes.
+fn put_texts(alloc: Global, values: &mut List<Value>) -> Result<(), OutOfMemory> {
+    let text = Text::from_str(alloc, "\u{e9}\"\\")?;
+    push(values, Value::Text(text))?;
+    let bytes = Blob::from_slice(alloc, b"\x00\xab")?;
+    push(values, Value::Bytes(bytes))
+}
+
 /// The answer that is a value of each kind.
 fn put_values(alloc: Global, answers: &mut List<Answer>) -> Result<(), OutOfMemory> {
     let mut values = List::empty(alloc);
-    push(&mut values, Value::Null)?;
-    push(&mut values, Value::Bool(true))?;
-    push(&mut values, Value::Bool(false))?;
-    push(&mut values, Value::Int(0))?;
-    push(&mut values, Value::Int(-1))?;
-    push(&mut values, Value::Int(i64::MAX))?;
-    push(&mut values, Value::Int(i64::MIN))?;
-    push(
-        &mut values,
-        Value::Text(Text::from_str(alloc, "\u{e9}\"\\")?),
-    )?;
-    push(
-        &mut values,
-        Value::Bytes(Blob::from_slice(alloc, b"\x00\xab")?),
-    )?;
+    put_plain(&mut values)?;
+    put_texts(alloc, &mut values)?;
     push(answers, Answer::Scalars(values))
+}
+
+/// An answer of each execution.
+fn put_all(alloc: Global, answers: &mut List<Answer>) -> Result<(), OutOfMemory> {
+    put_no_rows(alloc, answers)?;
+    put_two_rows(alloc, answers)?;
+    push(answers, Answer::Scalars(List::empty(alloc)))?;
+    put_values(alloc, answers)?;
+    push(answers, Answer::Count(0))?;
+    push(answers, Answer::Count(u64::MAX))
 }
 
 fn put_executions(alloc: Global, report: &mut Report) -> Result<(), OutOfMemory> {
     let mut answers = List::empty(alloc);
-    put_rows(alloc, &mut answers)?;
-    push(&mut answers, Answer::Scalars(List::empty(alloc)))?;
-    put_values(alloc, &mut answers)?;
-    push(&mut answers, Answer::Count(0))?;
-    push(&mut answers, Answer::Count(u64::MAX))?;
+    put_all(alloc, &mut answers)?;
     push(&mut report.answers, answers)
 }
 
