@@ -9,12 +9,9 @@ use crate::typed_count_reading::TypedCountReading;
 use crate::typed_requests::request_under;
 use crate::types::Types;
 use pg_core::{Answered, Go, Maybe, OrAnswer, Then};
-use pg_errors::Error;
-use pg_query::{Cleanup, Reply, Script, SingleRequest, Want};
+use pg_query::{Script, SingleRequest};
 use pg_types::Value;
-use pg_wire::{Message, WireFault};
 use std::alloc::{AllocError, Global};
-use std::collections::VecDeque;
 
 /// A request of which the count is told, in the form in which a `Go` may name it as its `Next`.
 pub type AskedCount = Maybe<u64, SingleRequest<TypedCountReading, u64>>;
@@ -45,63 +42,18 @@ impl<'a> Go for AsksCount<'a> {
     }
 }
 
-type CountThen<'a> = Then<Answered<()>, OrAnswer<AsksCount<'a>>, Maybe<u64, AskedCount>>;
-
 /// Executes a text with values of given types, in one request, and answers how many rows its last command affected.
-#[derive(Drop)]
-pub struct ExecuteTyped<'a> {
-    script: CountThen<'a>,
-}
+pub type ExecuteTyped<'a> = Then<Answered<()>, OrAnswer<AsksCount<'a>>, Maybe<u64, AskedCount>>;
 
-impl<'a> ExecuteTyped<'a> {
-    /// This text, with these values under these types. It takes no memory; the request is written in its first step.
-    pub fn new(text: &'a str, types: Types<'a>, values: &'a [Value]) -> ExecuteTyped<'a>
-        ensures dialogue { ⟦<ExecuteTyped<'a> as Script>⟧.dialogue result ≡ execute_typed text.now (types_in types.entry) values.now }
-        ensures steps { ⟦<ExecuteTyped<'a> as Script>⟧.steps result ≤ 2 }
-    {
-        let go = AsksCount {
-            text,
-            types,
-            values,
-        };
-        ExecuteTyped {
-            script: Then::First(Maybe::Answers(Ok(())), OrAnswer { go }),
-        }
-    }
-}
-
-impl<'a> Script for ExecuteTyped<'a> {
-    type Output = u64;
-
-    ghost dialogue = { λ s. ⟦<CountThen<'a> as Script>⟧.dialogue s.script };
-
-    ghost refuses = { λ s. ⟦<CountThen<'a> as Script>⟧.refuses s.script };
-
-    ghost waits = { λ s. ⟦<CountThen<'a> as Script>⟧.waits s.script };
-
-    ghost steps = { λ s. ⟦<CountThen<'a> as Script>⟧.steps s.script };
-
-    fn next(&mut self, alloc: Global) -> Result<Want<u64>, AllocError> {
-        self.script.next(alloc)
-    }
-
-    fn message(
-        &mut self,
-        alloc: Global,
-        message: &Result<Message, WireFault>,
-    ) -> Result<Want<u64>, AllocError> {
-        self.script.message(alloc, message)
-    }
-
-    fn reply(&mut self, alloc: Global, reply: Reply) -> Result<Want<u64>, AllocError> {
-        self.script.reply(alloc, reply)
-    }
-
-    fn refused(&mut self, alloc: Global, error: Error) -> Result<Want<u64>, AllocError> {
-        self.script.refused(alloc, error)
-    }
-
-    fn cleanup(&self, alloc: Global) -> Result<VecDeque<Cleanup>, AllocError> {
-        self.script.cleanup(alloc)
-    }
+/// Executes this text with these values under these types. It takes no memory; the request is written in its first step.
+pub fn executes_typed<'a>(text: &'a str, types: Types<'a>, values: &'a [Value]) -> ExecuteTyped<'a>
+    ensures dialogue { ⟦<ExecuteTyped<'a> as Script>⟧.dialogue result ≡ execute_typed text.now (types_in types.entry) values.now }
+    ensures steps { ⟦<ExecuteTyped<'a> as Script>⟧.steps result ≤ 2 }
+{
+    let go = AsksCount {
+        text,
+        types,
+        values,
+    };
+    Then::First(Maybe::Answers(Ok(())), OrAnswer { go })
 }

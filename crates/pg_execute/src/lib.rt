@@ -44,7 +44,7 @@ mod widths;
 pub use closing::{Posts, PostsBefore};
 pub use count_reading::CountReading;
 pub use either::Either;
-pub use execute_typed::{AsksCount, ExecuteTyped};
+pub use execute_typed::{AsksCount, ExecuteTyped, executes_typed};
 pub use executes::Executes;
 pub use first_rows::FirstRows;
 pub use form::{Count, First, Form, Query};
@@ -64,7 +64,7 @@ pub use laws::{
 pub use make::{Make, Scalars, WholeRows};
 pub use on_statement::{OnStatement, executes_borrowed, executes_owned};
 pub use on_text::{Closes, OnText, executes_text};
-pub use query_typed::{AsksTyped, QueryTyped};
+pub use query_typed::{AsksTyped, QueryTyped, queries_typed};
 pub use reads_on::ReadsOn;
 pub use request::{ask, close_bytes, close_request, execute_request};
 pub use rest_rows::{FindsTyped, RestRows};

@@ -2,6 +2,7 @@
 //! A turn whose number no handle has is the connection's, so no list of given turns has to be refused.
 
 ghost use Rattle.std.specs.Prelude.{◌≡◌, ◌^◌, ◌<◌, ◌≤◌, ◌++◌, ◌∷◌, [], length, slice_get, Some, Ok, false, IfOk, IfErr, OnOk};
+ghost use Rattle.std.specs.List.{All};
 ghost use Rattle.pg_connect.specs.Calm.{StaysCalm};
 ghost use Rattle.pg_session.specs.Failures.{HasFailed, TurnFails};
 ghost use Rattle.pg_session.specs.Speeches.{BookWhole};
@@ -11,6 +12,7 @@ ghost use Rattle.pg_session.specs.Turns.{Closes, ClosesBehind, Turns, left_behin
 ghost use Rattle.pg_text.specs.Scripts.{AreScripts};
 ghost use Rattle.pg_wire.specs.LinkCalls.{Continues};
 ghost use Rattle.pg_session.specs.Measure.{left_to_do};
+ghost use Rattle.pg_play.specs.Handles.{IsIdleHandle};
 ghost use Rattle.pg_play.specs.Plays.{ConnectionPolled, Crosses, HandlePolled, IsFirstHub, IsGoing, IsLater, IsLimited, IsReady, IsShort, Leaves, RoundFails, RoundMade, RoundsEnd, state_of};
 
 use crate::handle::{Handle, new_handles, turn_at};
@@ -37,6 +39,14 @@ pub struct Play<S, A, E> {
     pub(crate) asynchronous: Vec<AsyncMessage>,
 }
 
+/// What a session has before its first turn, but for its connection.
+#[derive(Drop)]
+struct FirstParts<S, A, E> {
+    hub: Hub,
+    handles: Vec<Handle<S, A, E>>,
+    unanswered: usize,
+}
+
 impl<'a, S: Spoken<'a>> Play<S, S::Answer, S::Slots> {
     /// A session before its first turn. Requests are closed at once where there is no command.
     pub fn new(
@@ -53,22 +63,50 @@ impl<'a, S: Spoken<'a>> Play<S, S::Answer, S::Slots> {
         ensures going { IfOk result (λ p. IsGoing S.place scripts.now p) }
         ensures error { IfErr result (λ e. e ≡ Error.OutOfMemory) }
     {
-        let unanswered = count_commands(scripts);
-        match both(
-            first_hub(alloc, unanswered),
-            new_handles(alloc, scripts.len()),
-        ) {
-            Ok((hub, handles)) => Ok(Play {
-                hub,
-                streams,
-                handles,
-                unanswered,
-                trace: Vec::new(alloc),
-                asynchronous: Vec::new(alloc),
-            }),
+        match Self::first_parts(alloc, scripts) {
+            Ok(parts) => {
+                let FirstParts {
+                    hub,
+                    handles,
+                    unanswered,
+                } = parts;
+                Ok(Play {
+                    hub,
+                    streams,
+                    handles,
+                    unanswered,
+                    trace: Vec::new(alloc),
+                    asynchronous: Vec::new(alloc),
+                })
+            }
             Err(_) => {
                 drop(streams);
                 Err(Error::OutOfMemory)
+            }
+        }
+    }
+
+    /// What stands before the first turn, but for the connection.
+    fn first_parts(
+        alloc: Global,
+        scripts: &[List<S::Command>],
+    ) -> Result<FirstParts<S, S::Answer, S::Slots>, OutOfMemory>
+        requires { AreScripts scripts.now }
+        ensures hub { IfOk result (λ parts. IsFirstHub (commands_in scripts.now) parts.hub) }
+        ensures handles { IfOk result (λ parts. (length parts.handles.items ≡ length scripts.now) × All (IsIdleHandle S.speech.begins) parts.handles.items) }
+        ensures unanswered { IfOk result (λ parts. parts.unanswered ≡ commands_in scripts.now) }
+    {
+        let unanswered = count_commands(scripts);
+        let hub = first_hub(alloc, unanswered)?;
+        match new_handles(alloc, scripts.len()) {
+            Ok(handles) => Ok(FirstParts {
+                hub,
+                handles,
+                unanswered,
+            }),
+            Err(_) => {
+                drop(hub);
+                Err(OutOfMemory)
             }
         }
     }
@@ -293,19 +331,6 @@ fn first_hub(alloc: Global, unanswered: usize) -> Result<Hub, OutOfMemory>
             Err(OutOfMemory)
         }
     }
-}
-
-/// Two values, where there was room for both.
-fn both<A: Drop, B: Drop>(
-    first: Result<A, OutOfMemory>,
-    second: Result<B, OutOfMemory>,
-) -> Result<(A, B), OutOfMemory>
-    ensures first { IfOk result (λ got. first ≡ Ok got.0) }
-    ensures second { IfOk result (λ got. second ≡ Ok got.1) }
-{
-    let first = first?;
-    let second = second?;
-    Ok((first, second))
 }
 
 /// Where every command is answered, no request will be booked any more.

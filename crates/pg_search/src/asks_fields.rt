@@ -6,6 +6,7 @@ ghost use Rattle.pg_core.specs.Lookups as spec;
 ghost use Rattle.pg_search.specs.Asking.{ask_steps};
 ghost use Rattle.pg_search.specs.Rows.{given_at};
 
+use crate::boxed::Boxed;
 use crate::lookup_statement::LookupStatement;
 use crate::{FieldRows, FieldsReading, ask, oid_request, settled};
 use pg_core::{Go, Maybe, OrAnswer, Then};
@@ -138,21 +139,16 @@ impl Go for AsksFields {
 type FieldsThen = Then<LookupStatement, OrAnswer<AsksFields>, Maybe<FieldRows, RowsThen>>;
 
 /// Asks for the rows of a relation's columns; none of them is read yet.
-#[derive(Drop)]
-pub struct FieldsOf {
-    script: Box<FieldsThen>,
-}
+pub type FieldsOf = Boxed<FieldsThen>;
 
-impl FieldsOf {
-    /// The columns of this relation. Its error is want of memory.
-    pub fn new(alloc: Global, relation: Oid) -> Result<FieldsOf, AllocError>
-        ensures dialogue { IfOk result (λ s. ⟦<FieldsOf as Script>⟧.dialogue s ≡ spec.field_rows relation) }
-        ensures steps { IfOk result (λ s. ⟦<FieldsOf as Script>⟧.steps s ≤ ask_steps) }
-    {
-        match Box::new(alloc, fields_then(relation)) {
-            Ok(script) => Ok(FieldsOf { script }),
-            Err(_) => Err(AllocError),
-        }
+/// The columns of this relation. Its error is want of memory.
+pub fn fields_of(alloc: Global, relation: Oid) -> Result<FieldsOf, AllocError>
+    ensures dialogue { IfOk result (λ s. ⟦<FieldsOf as Script>⟧.dialogue s ≡ spec.field_rows relation) }
+    ensures steps { IfOk result (λ s. ⟦<FieldsOf as Script>⟧.steps s ≤ ask_steps) }
+{
+    match Box::new(alloc, fields_then(relation)) {
+        Ok(script) => Ok(Boxed { script }),
+        Err(_) => Err(AllocError),
     }
 }
 
@@ -162,40 +158,4 @@ fn fields_then(relation: Oid) -> FieldsThen
 {
     let go = AsksFields { relation };
     Then::First(LookupStatement::new(Lookup::Composite), OrAnswer { go })
-}
-
-impl Script for FieldsOf {
-    type Output = FieldRows;
-
-    ghost dialogue = { λ s. ⟦<FieldsThen as Script>⟧.dialogue s.script.value };
-
-    ghost refuses = { λ s. ⟦<FieldsThen as Script>⟧.refuses s.script.value };
-
-    ghost waits = { λ s. ⟦<FieldsThen as Script>⟧.waits s.script.value };
-
-    ghost steps = { λ s. ⟦<FieldsThen as Script>⟧.steps s.script.value };
-
-    fn next(&mut self, alloc: Global) -> Result<Want<FieldRows>, AllocError> {
-        self.script.next(alloc)
-    }
-
-    fn message(
-        &mut self,
-        alloc: Global,
-        message: &Result<Message, WireFault>,
-    ) -> Result<Want<FieldRows>, AllocError> {
-        self.script.message(alloc, message)
-    }
-
-    fn reply(&mut self, alloc: Global, reply: Reply) -> Result<Want<FieldRows>, AllocError> {
-        self.script.reply(alloc, reply)
-    }
-
-    fn refused(&mut self, alloc: Global, error: Error) -> Result<Want<FieldRows>, AllocError> {
-        self.script.refused(alloc, error)
-    }
-
-    fn cleanup(&self, alloc: Global) -> Result<VecDeque<Cleanup>, AllocError> {
-        self.script.cleanup(alloc)
-    }
 }

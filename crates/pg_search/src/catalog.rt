@@ -1,7 +1,7 @@
 //! The scripts that ask the server's catalog, as a search wants them.
 
-use crate::asks::{LabelsOf, RowOf};
-use crate::asks_fields::FieldsOf;
+use crate::asks::{LabelsOf, RowOf, labels_of, row_of};
+use crate::asks_fields::{FieldsOf, fields_of};
 use crate::{Asker, FieldRow, field_row, settled};
 use pg_desk::Column;
 use pg_errors::Error;
@@ -24,15 +24,15 @@ impl Asker for Catalog {
     ghost most = { ask_steps };
 
     fn row(&self, alloc: Global, oid: Oid) -> Result<RowOf, AllocError> {
-        RowOf::new(alloc, oid)
+        row_of(alloc, oid)
     }
 
     fn labels(&self, alloc: Global, oid: Oid) -> Result<LabelsOf, AllocError> {
-        LabelsOf::new(alloc, oid)
+        labels_of(alloc, oid)
     }
 
     fn fields(&self, alloc: Global, relation: Oid) -> Result<FieldsOf, AllocError> {
-        FieldsOf::new(alloc, relation)
+        fields_of(alloc, relation)
     }
 
     fn field(

@@ -7,6 +7,7 @@
 mod asker;
 mod asks;
 mod asks_fields;
+mod boxed;
 mod catalog;
 mod catalog_rows;
 mod cells;
@@ -26,8 +27,9 @@ mod stack;
 mod texts;
 
 pub use asker::Asker;
-pub use asks::{LabelsOf, RowOf};
-pub use asks_fields::FieldsOf;
+pub use asks::{LabelsOf, RowOf, labels_of, row_of};
+pub use asks_fields::{FieldsOf, fields_of};
+pub use boxed::Boxed;
 pub use catalog::Catalog;
 pub use catalog_rows::field_row;
 pub use fields_reading::FieldsReading;

@@ -5,22 +5,19 @@ ghost use Rattle.pg_execute.specs.Executes.{execute};
 ghost use Rattle.pg_execute.specs.Targets.{on_target};
 ghost use Rattle.pg_states.specs.Texts.{prepare_text};
 
-use crate::Finds;
+use crate::executed::Executed;
 use futures::task::Poll;
-use pg_core::Finder;
 use pg_desk::{Desk, Stamp};
 use pg_errors::Error;
-use pg_execute::{Count, CountReading, OnTarget, Target, on_target};
-use pg_query::{Command, Polled, Script};
+use pg_execute::{Count, Target};
+use pg_query::Polled;
 use pg_types::Value;
 use std::alloc::Global;
-
-type Executed<'a> = OnTarget<'a, Finds, <Finds as Finder>::Search, Count, CountReading, u64>;
 
 /// The state that executes a statement or a text as an execution. How many rows it affected is the answer.
 #[derive(Drop)]
 pub struct ExecuteState<'a> {
-    command: Command<Executed<'a>>,
+    state: Executed<'a, Count>,
 }
 
 impl<'a> ExecuteState<'a> {
@@ -31,19 +28,17 @@ impl<'a> ExecuteState<'a> {
         ensures asks { (⟦<ExecuteState<'a> as Polled>⟧.place result).dialogue ≡ on_target prepare_text (λ s. execute s values.now) target.entry }
     {
         ExecuteState {
-            command: Command::new(on_target(target, Finds {}, Count, values)),
+            state: Executed::new(target, Count, values),
         }
     }
 }
 
 impl<'a> Polled for ExecuteState<'a> {
-    ghost use Rattle.pg_query.specs.Commands.{place_of, IsLive};
-
     type Output = u64;
 
-    ghost place = { λ s. place_of ⟦<Executed<'a> as Script>⟧.dialogue s.command };
+    ghost place = { λ s. ⟦<Executed<'a, Count> as Polled>⟧.place s.state };
 
-    ghost is_live = { λ s. IsLive ⟦<Executed<'a> as Script>⟧.dialogue ⟦<Executed<'a> as Script>⟧.waits s.command };
+    ghost is_live = { λ s. ⟦<Executed<'a, Count> as Polled>⟧.is_live s.state };
 
     fn poll<D: Desk>(
         &mut self,
@@ -51,11 +46,11 @@ impl<'a> Polled for ExecuteState<'a> {
         desk: &mut D,
         stamp: Stamp,
     ) -> Poll<Result<u64, Error>> {
-        self.command.poll(alloc, desk, stamp)
+        self.state.poll(alloc, desk, stamp)
     }
 
     fn hang_up<D: Desk>(self, alloc: Global, desk: &mut D, stamp: Stamp) -> Result<(), Error> {
-        let ExecuteState { command } = self;
-        command.hang_up(alloc, desk, stamp)
+        let ExecuteState { state } = self;
+        state.hang_up(alloc, desk, stamp)
     }
 }

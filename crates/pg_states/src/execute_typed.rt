@@ -10,7 +10,7 @@ use futures::task::Poll;
 use pg_core::Maybe;
 use pg_desk::{Desk, Stamp};
 use pg_errors::Error;
-use pg_execute::{ExecuteTyped, Types};
+use pg_execute::{ExecuteTyped, Types, executes_typed};
 use pg_query::{Command, Polled, Script};
 use pg_types::{Oid, Type, Value};
 use std::alloc::Global;
@@ -24,7 +24,7 @@ fn of_pairs<'a>(text: &'a str, types: Types<'a>, count: usize, values: &'a [Valu
     if values.len() != count {
         return Maybe::Answers(Err(Error::Parameters(values.len(), count)));
     }
-    Maybe::Goes(ExecuteTyped::new(text, types, values))
+    Maybe::Goes(executes_typed(text, types, values))
 }
 
 /// The state that executes a text with values of given types, in one request. How many rows its last command affected is
@@ -41,10 +41,7 @@ impl<'a> ExecuteTypedState<'a> {
         ensures live { ⟦<ExecuteTypedState<'a> as Polled>⟧.is_live result }
         ensures asks { (⟦<ExecuteTypedState<'a> as Polled>⟧.place result).dialogue ≡ paired (length types.now) values.now (execute_typed text.now types.now values.now) }
     {
-        let script = of_pairs(text, Types::Given(types), types.len(), values);
-        ExecuteTypedState {
-            command: Command::new(script),
-        }
+        ExecuteTypedState::of_types(text, Types::Given(types), types.len(), values)
     }
 
     /// The same, where the types are built-in, and these are their oids. An oid of no such type is left out: the types behind
@@ -57,7 +54,20 @@ impl<'a> ExecuteTypedState<'a> {
         ensures live { ⟦<ExecuteTypedState<'a> as Polled>⟧.is_live result }
         ensures asks { (⟦<ExecuteTypedState<'a> as Polled>⟧.place result).dialogue ≡ paired (length oids.now) values.now (execute_typed text.now (built_in_types oids.now) values.now) }
     {
-        let script = of_pairs(text, Types::BuiltIn(oids), oids.len(), values);
+        ExecuteTypedState::of_types(text, Types::BuiltIn(oids), oids.len(), values)
+    }
+
+    /// The same of types that are told in either way, which are so many.
+    fn of_types(
+        text: &'a str,
+        types: Types<'a>,
+        count: usize,
+        values: &'a [Value],
+    ) -> ExecuteTypedState<'a>
+        ensures live { ⟦<ExecuteTypedState<'a> as Polled>⟧.is_live result }
+        ensures asks { (⟦<ExecuteTypedState<'a> as Polled>⟧.place result).dialogue ≡ paired count values.now (execute_typed text.now (types_in types.entry) values.now) }
+    {
+        let script = of_pairs(text, types, count, values);
         ExecuteTypedState {
             command: Command::new(script),
         }

@@ -5,30 +5,20 @@ ghost use Rattle.pg_execute.specs.Executes.{query_raw};
 ghost use Rattle.pg_execute.specs.Targets.{on_target};
 ghost use Rattle.pg_states.specs.Texts.{prepare_text};
 
-use crate::Finds;
+use crate::executed::Executed;
 use futures::task::Poll;
-use pg_core::Finder;
 use pg_desk::{Desk, Stamp};
 use pg_errors::Error;
-use pg_execute::{First, FirstRows, OnTarget, ResultSet, Target, WholeRows, on_target};
-use pg_query::{Command, Polled, Script};
+use pg_execute::{First, ResultSet, Target, WholeRows};
+use pg_query::Polled;
 use pg_types::Value;
 use std::alloc::Global;
-
-type FirstQueried<'a> = OnTarget<
-    'a,
-    Finds,
-    <Finds as Finder>::Search,
-    First<WholeRows>,
-    FirstRows<WholeRows>,
-    ResultSet,
->;
 
 /// The state that executes a statement or a text as a query. Its first rows are the answer; once so many came the request is
 /// hung up.
 #[derive(Drop)]
 pub struct FirstRowsState<'a> {
-    command: Command<FirstQueried<'a>>,
+    state: Executed<'a, First<WholeRows>>,
 }
 
 impl<'a> FirstRowsState<'a> {
@@ -43,19 +33,17 @@ impl<'a> FirstRowsState<'a> {
             make: WholeRows,
         };
         FirstRowsState {
-            command: Command::new(on_target(target, Finds {}, form, values)),
+            state: Executed::new(target, form, values),
         }
     }
 }
 
 impl<'a> Polled for FirstRowsState<'a> {
-    ghost use Rattle.pg_query.specs.Commands.{place_of, IsLive};
-
     type Output = ResultSet;
 
-    ghost place = { λ s. place_of ⟦<FirstQueried<'a> as Script>⟧.dialogue s.command };
+    ghost place = { λ s. ⟦<Executed<'a, First<WholeRows>> as Polled>⟧.place s.state };
 
-    ghost is_live = { λ s. IsLive ⟦<FirstQueried<'a> as Script>⟧.dialogue ⟦<FirstQueried<'a> as Script>⟧.waits s.command };
+    ghost is_live = { λ s. ⟦<Executed<'a, First<WholeRows>> as Polled>⟧.is_live s.state };
 
     fn poll<D: Desk>(
         &mut self,
@@ -63,11 +51,11 @@ impl<'a> Polled for FirstRowsState<'a> {
         desk: &mut D,
         stamp: Stamp,
     ) -> Poll<Result<ResultSet, Error>> {
-        self.command.poll(alloc, desk, stamp)
+        self.state.poll(alloc, desk, stamp)
     }
 
     fn hang_up<D: Desk>(self, alloc: Global, desk: &mut D, stamp: Stamp) -> Result<(), Error> {
-        let FirstRowsState { command } = self;
-        command.hang_up(alloc, desk, stamp)
+        let FirstRowsState { state } = self;
+        state.hang_up(alloc, desk, stamp)
     }
 }

@@ -9,6 +9,7 @@ mod close;
 mod closing;
 mod execute;
 mod execute_typed;
+mod executed;
 mod finds;
 mod first_rows;
 mod laws;

@@ -5,29 +5,19 @@ ghost use Rattle.pg_execute.specs.Executes.{query};
 ghost use Rattle.pg_execute.specs.Targets.{on_target};
 ghost use Rattle.pg_states.specs.Texts.{prepare_text};
 
-use crate::Finds;
+use crate::executed::Executed;
 use futures::task::Poll;
-use pg_core::Finder;
 use pg_desk::{Desk, Stamp};
 use pg_errors::Error;
-use pg_execute::{HowMany, OnTarget, Query, ResultSet, RowsReading, Target, WholeRows, on_target};
-use pg_query::{Command, Polled, Script};
+use pg_execute::{HowMany, Query, ResultSet, Target, WholeRows};
+use pg_query::Polled;
 use pg_types::Value;
 use std::alloc::Global;
-
-type Queried<'a> = OnTarget<
-    'a,
-    Finds,
-    <Finds as Finder>::Search,
-    Query<WholeRows>,
-    RowsReading<WholeRows>,
-    ResultSet,
->;
 
 /// The state that executes a statement or a text as a query. Its rows are the answer.
 #[derive(Drop)]
 pub struct QueryState<'a> {
-    command: Command<Queried<'a>>,
+    state: Executed<'a, Query<WholeRows>>,
 }
 
 impl<'a> QueryState<'a> {
@@ -42,19 +32,17 @@ impl<'a> QueryState<'a> {
             make: WholeRows,
         };
         QueryState {
-            command: Command::new(on_target(target, Finds {}, form, values)),
+            state: Executed::new(target, form, values),
         }
     }
 }
 
 impl<'a> Polled for QueryState<'a> {
-    ghost use Rattle.pg_query.specs.Commands.{place_of, IsLive};
-
     type Output = ResultSet;
 
-    ghost place = { λ s. place_of ⟦<Queried<'a> as Script>⟧.dialogue s.command };
+    ghost place = { λ s. ⟦<Executed<'a, Query<WholeRows>> as Polled>⟧.place s.state };
 
-    ghost is_live = { λ s. IsLive ⟦<Queried<'a> as Script>⟧.dialogue ⟦<Queried<'a> as Script>⟧.waits s.command };
+    ghost is_live = { λ s. ⟦<Executed<'a, Query<WholeRows>> as Polled>⟧.is_live s.state };
 
     fn poll<D: Desk>(
         &mut self,
@@ -62,11 +50,11 @@ impl<'a> Polled for QueryState<'a> {
         desk: &mut D,
         stamp: Stamp,
     ) -> Poll<Result<ResultSet, Error>> {
-        self.command.poll(alloc, desk, stamp)
+        self.state.poll(alloc, desk, stamp)
     }
 
     fn hang_up<D: Desk>(self, alloc: Global, desk: &mut D, stamp: Stamp) -> Result<(), Error> {
-        let QueryState { command } = self;
-        command.hang_up(alloc, desk, stamp)
+        let QueryState { state } = self;
+        state.hang_up(alloc, desk, stamp)
     }
 }

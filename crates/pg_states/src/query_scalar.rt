@@ -5,29 +5,19 @@ ghost use Rattle.pg_execute.specs.Executes.{query_scalar};
 ghost use Rattle.pg_execute.specs.Targets.{on_target};
 ghost use Rattle.pg_states.specs.Texts.{prepare_text};
 
-use crate::Finds;
+use crate::executed::Executed;
 use futures::task::Poll;
-use pg_core::Finder;
 use pg_desk::{Desk, Stamp};
 use pg_errors::Error;
-use pg_execute::{HowMany, OnTarget, Query, RowsReading, Scalars, Target, on_target};
-use pg_query::{Command, Polled, Script};
+use pg_execute::{HowMany, Query, Scalars, Target};
+use pg_query::Polled;
 use pg_types::{List, Value};
 use std::alloc::Global;
-
-type ScalarsQueried<'a> = OnTarget<
-    'a,
-    Finds,
-    <Finds as Finder>::Search,
-    Query<Scalars>,
-    RowsReading<Scalars>,
-    List<Value>,
->;
 
 /// The state that executes a statement or a text as a query of one column. The values of its column are the answer.
 #[derive(Drop)]
 pub struct QueryScalarState<'a> {
-    command: Command<ScalarsQueried<'a>>,
+    state: Executed<'a, Query<Scalars>>,
 }
 
 impl<'a> QueryScalarState<'a> {
@@ -42,19 +32,17 @@ impl<'a> QueryScalarState<'a> {
             make: Scalars,
         };
         QueryScalarState {
-            command: Command::new(on_target(target, Finds {}, form, values)),
+            state: Executed::new(target, form, values),
         }
     }
 }
 
 impl<'a> Polled for QueryScalarState<'a> {
-    ghost use Rattle.pg_query.specs.Commands.{place_of, IsLive};
-
     type Output = List<Value>;
 
-    ghost place = { λ s. place_of ⟦<ScalarsQueried<'a> as Script>⟧.dialogue s.command };
+    ghost place = { λ s. ⟦<Executed<'a, Query<Scalars>> as Polled>⟧.place s.state };
 
-    ghost is_live = { λ s. IsLive ⟦<ScalarsQueried<'a> as Script>⟧.dialogue ⟦<ScalarsQueried<'a> as Script>⟧.waits s.command };
+    ghost is_live = { λ s. ⟦<Executed<'a, Query<Scalars>> as Polled>⟧.is_live s.state };
 
     fn poll<D: Desk>(
         &mut self,
@@ -62,11 +50,11 @@ impl<'a> Polled for QueryScalarState<'a> {
         desk: &mut D,
         stamp: Stamp,
     ) -> Poll<Result<List<Value>, Error>> {
-        self.command.poll(alloc, desk, stamp)
+        self.state.poll(alloc, desk, stamp)
     }
 
     fn hang_up<D: Desk>(self, alloc: Global, desk: &mut D, stamp: Stamp) -> Result<(), Error> {
-        let QueryScalarState { command } = self;
-        command.hang_up(alloc, desk, stamp)
+        let QueryScalarState { state } = self;
+        state.hang_up(alloc, desk, stamp)
     }
 }

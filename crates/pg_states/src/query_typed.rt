@@ -12,7 +12,7 @@ use futures::task::Poll;
 use pg_core::{Finder, Maybe};
 use pg_desk::{Desk, Stamp};
 use pg_errors::Error;
-use pg_execute::{HowMany, QueryTyped, ResultSet, Types};
+use pg_execute::{HowMany, QueryTyped, ResultSet, Types, queries_typed};
 use pg_query::{Command, Polled, Script};
 use pg_types::{Oid, Type, Value};
 use std::alloc::Global;
@@ -34,7 +34,7 @@ fn of_pairs<'a>(
     if values.len() != count {
         return Maybe::Answers(Err(Error::Parameters(values.len(), count)));
     }
-    Maybe::Goes(QueryTyped::new(how_many, text, types, values, Finds {}))
+    Maybe::Goes(queries_typed(how_many, text, types, values, Finds {}))
 }
 
 /// The state that queries a text with values of given types, in one request. Its rows are the answer.
@@ -56,10 +56,7 @@ impl<'a> QueryTypedState<'a> {
         ensures live { ⟦<QueryTypedState<'a> as Polled>⟧.is_live result }
         ensures asks { (⟦<QueryTypedState<'a> as Polled>⟧.place result).dialogue ≡ paired (length types.now) values.now (query_typed find_all how_many text.now types.now values.now) }
     {
-        let script = of_pairs(how_many, text, Types::Given(types), types.len(), values);
-        QueryTypedState {
-            command: Command::new(script),
-        }
+        QueryTypedState::of_types(how_many, text, Types::Given(types), types.len(), values)
     }
 
     /// The same, where the types are built-in, and these are their oids. An oid of no such type is left out: the types behind
@@ -73,7 +70,21 @@ impl<'a> QueryTypedState<'a> {
         ensures live { ⟦<QueryTypedState<'a> as Polled>⟧.is_live result }
         ensures asks { (⟦<QueryTypedState<'a> as Polled>⟧.place result).dialogue ≡ paired (length oids.now) values.now (query_typed find_all how_many text.now (built_in_types oids.now) values.now) }
     {
-        let script = of_pairs(how_many, text, Types::BuiltIn(oids), oids.len(), values);
+        QueryTypedState::of_types(how_many, text, Types::BuiltIn(oids), oids.len(), values)
+    }
+
+    /// The same of types that are told in either way, which are so many.
+    fn of_types(
+        how_many: HowMany,
+        text: &'a str,
+        types: Types<'a>,
+        count: usize,
+        values: &'a [Value],
+    ) -> QueryTypedState<'a>
+        ensures live { ⟦<QueryTypedState<'a> as Polled>⟧.is_live result }
+        ensures asks { (⟦<QueryTypedState<'a> as Polled>⟧.place result).dialogue ≡ paired count values.now (query_typed find_all how_many text.now (types_in types.entry) values.now) }
+    {
+        let script = of_pairs(how_many, text, types, count, values);
         QueryTypedState {
             command: Command::new(script),
         }

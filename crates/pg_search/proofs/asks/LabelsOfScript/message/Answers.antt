@@ -1,9 +1,0 @@
-use Rattle.pg_search.specs.declared.asks.LabelsOf.{LabelsOf}
-use Rattle.pg_search.proofs.Forwarding.{reads-forward}
-use Rattle.pg_search.proofs.asks.LabelsOfScript.message.Goals as goal
-
-pub returns-clause-goes_on : goal.returns-clause-goes_on
-returns-clause-goes_on c raw means = reads-forward _ _ _ (λ (s : LabelsOf). s.script.value) raw c.args.self.now c.deref_mut.result.now c.deref_mut.ensures.value c.message.result _ (c.message.ensures.goes_on raw means)
-
-pub returns-clause-stops : goal.returns-clause-stops
-returns-clause-stops c raw means waits = c.message.ensures.stops raw means (rw c.deref_mut.ensures.value waits)
