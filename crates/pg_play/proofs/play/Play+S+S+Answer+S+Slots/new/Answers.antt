@@ -14,7 +14,7 @@ returns-in-Ok-clause-fresh g c =
       handles = idle_views g.S.Spoken.speech g.S.Polled.place c.in-Ok.parts.handles.items c.args.scripts.now parts.handles.0 parts.handles.1;
       unanswered = parts.unanswered;
       trace = c.new.ensures.items;
-      asynchronous = c.new-2.ensures.items;
+      asynchronous = c.new-in-Ok.ensures.items;
     }
 
 pub returns-in-Ok-clause-going : goal.returns-in-Ok-clause-going
@@ -25,7 +25,7 @@ returns-in-Ok-clause-going g c =
       handles = c.in-Ok.parts.handles;
       unanswered = c.in-Ok.parts.unanswered;
       trace = c.new.result;
-      asynchronous = c.new-2.result;
+      asynchronous = c.new-in-Ok.result;
     }) in
     record {
       under_way = new-under-way g.S.Spoken.speech c.args.scripts.now s (returns-in-Ok-clause-fresh g c);
