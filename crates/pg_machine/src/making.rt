@@ -32,7 +32,10 @@ fn body_of(alloc: Global, refusal: &[u8]) -> Option<ErrorResponseBody>
         return None;
     };
     match Message::parse(&mut bytes) {
-        Ok(Some(message)) => message.error_body(),
+        Ok(Some(message)) => match &message {
+            Message::ErrorResponse(_) => message.error_body(),
+            _ => None,
+        },
         _ => None,
     }
 }
