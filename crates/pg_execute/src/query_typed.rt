@@ -4,7 +4,7 @@ ghost use Rattle.std.specs.Prelude.{◌≡◌, ◌≤◌, ◌+◌, ◌^◌};
 ghost use Rattle.pg_execute.specs.Typed.{query_typed};
 ghost use Rattle.pg_execute.specs.Types.{types_in};
 
-use crate::head_rows::{HeadRows, by_request};
+use crate::head_rows::HeadRows;
 use crate::{HowMany, ResultSet, Types, request_under};
 use pg_core::{Answered, Finder, Go, Maybe, OrAnswer, Then};
 use pg_query::Script;
@@ -36,7 +36,7 @@ impl<'a, F: Finder> Go for AsksTyped<'a, F> {
 
     fn go(self, alloc: Global, _start: ()) -> Result<HeadRows<F, F::Search>, AllocError> {
         let request = request_under(alloc, self.text, &self.types, self.values)?;
-        Ok(by_request(self.how_many, request, self.finder))
+        Ok(HeadRows::new(self.how_many, request, self.finder))
     }
 }
 
