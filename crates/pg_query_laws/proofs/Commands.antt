@@ -1,9 +1,7 @@
 -- The lookups of types are commands that a session takes.
-use Rattle.std.proofs.Common.{◌≡◌, ℕ, zero, suc, List, [], ◌∷◌, ◌++◌, length, Bool, true, false, not, if◌then◌else◌, Option, Some, None, Result, Ok, Err, refl, sym, ap, subst, ◌==◌}
-use Rattle.std.specs.Prelude.{is_some, pos}
-use Rattle.pg_spec.specs.Faults.{FrameFault, ToSql, UnexpectedMessage, Value}
-use Rattle.pg_spec.specs.RawMessages.{RawMessage, is_ready, ends_in}
-use Rattle.pg_spec.specs.Readings.{Next}
+use Rattle.std.proofs.Common.{◌≡◌, ℕ, zero, suc, List, [], ◌∷◌, ◌++◌, length, Bool, true, false, not, if◌then◌else◌, Option, Some, None, Result, Ok, Err, refl, sym, subst, ◌==◌}
+use Rattle.std.specs.Prelude.{pos}
+use Rattle.pg_spec.specs.Faults.{ToSql, UnexpectedMessage, Value}
 use Rattle.pg_types.specs.declared.pg_type.PgType.{PgType}
 use Rattle.pg_types.specs.declared.pg_type.Field.{Field}
 use Rattle.pg_types.specs.declared.pg_type.Kind.{Kind, Enum as EnumKind, Composite as CompositeKind}
@@ -18,103 +16,67 @@ use Rattle.pg_desk.specs.declared.statement.Described.{Described as Statement}
 use Rattle.pg_desk.specs.declared.statement.Lookup.{Lookup}
 use Rattle.pg_desk.specs.declared.statement.Lookup.TheVariants.{Info, Enum, Composite}
 use Rattle.pg_desk.specs.declared.column.Column.{Column}
-use Rattle.pg_query.specs.Dialogue.{Dialogue, Answer, fits}
-use Rattle.pg_query.specs.Leaving.{LetsGo, Nothing, Request}
-use Rattle.pg_query.specs.Reading.{ends, reads}
-use Rattle.pg_query.specs.declared.desk_call.Cleanup.{Cleanup}
-use Rattle.pg_query.specs.declared.desk_call.DeskCall.{DeskCall}
+use Rattle.pg_query.specs.Dialogue.{Dialogue, Answer}
+use Rattle.pg_query.specs.Reading.{reads}
 use Rattle.pg_query.specs.declared.desk_call.DeskCall.TheVariants as desk_call
 use Rattle.pg_query.specs.declared.desk_call.Reply.{Reply}
 use Rattle.pg_query.specs.declared.desk_call.Reply.TheVariants as reply
-use Rattle.pg_core.specs.Behind.{behind}
-use Rattle.pg_core.specs.Times.{EndsNone, IsCommand, LacksMemory}
-use Rattle.pg_core.proofs.Behind.{command-behind}
-use Rattle.pg_core.proofs.Requests.{request-so}
+use Rattle.pg_core.specs.Times.{LacksMemory}
 use Rattle.pg_core.specs.Numbers.{draws, number_told}
-use Rattle.pg_core.specs.Sequences.{or_answer, then_do}
-use Rattle.pg_session.specs.Speeches.{BooksWhole, IsWholeRequest}
+use Rattle.pg_core.specs.Sequences.{then_do}
+use Rattle.pg_session.specs.Speeches.{IsWholeRequest}
 use Rattle.pg_core.specs.Cells.{Cells, text_in, value_at}
-use Rattle.pg_core.specs.Composing.{asks_desk, asks_for, or_encode}
+use Rattle.pg_core.specs.Composing.{asks_for, or_encode}
 use Rattle.pg_core.specs.Descriptions as described
 use Rattle.pg_core.specs.Descriptions.{Description, description, description_next, oids_in}
 use Rattle.pg_core.specs.Lookups as lookup
 use Rattle.pg_core.specs.Lookups.{FieldRow, FieldRows, Sort, TypeRow, asks_oid, clear, cleared_told, field_row, field_rows, fields_by, find, find_all, find_each, is_among, is_unknown, keeps, keeps_statement, kept_told, labels_of, lookup_statement, lookup_text, made_by, oid_frames, oid_request, or_prepared, or_second, prepare, prepared, row_of, sort_of, statement_told, type_row, unknown_code, unless_known, wraps}
 use Rattle.pg_core.specs.Prepares.{NewStatement, describes, known, known_or, known_types, needs_type, prepare_request, prepares, statement_name, statement_of, type_told}
-use Rattle.pg_core.specs.QueryReplies.{all_rows, first_row, told_by}
-use Rattle.pg_query_laws.proofs.Behind.{lets-behind, whole-behind}
-use Rattle.pg_query_laws.proofs.Readings.{all-decides, all-free, all_next, description-decides, first-decides, first_next, none_yet, stops-free}
-use Rattle.pg_query_laws.proofs.Requests.{whole-execute, whole-prepare}
+use Rattle.pg_core.specs.QueryReplies.{Said, Row, Ready, Collected, all_rows, all_rows_by, collects, first_row, first_row_by}
+use Rattle.pg_query_laws.specs.Taken.{IsTaken}
+use Rattle.pg_query_laws.proofs.Steps.{AnswersAtReady, SaysReady, TellsNone, reads-last, reads-stop, said-answers, said_next, said-tells}
+use Rattle.pg_query_laws.proofs.Requests.{made-ok, whole-execute, whole-prepare}
+use Rattle.pg_query_laws.proofs.Taken.{IsReadOn, answers, asks, behinds, booked, or-answers, thens}
 
--- what a session asks of a dialogue
-pub record IsTaken {T : Type 0} (d : Dialogue T) : Type 0 where
-  pub command : IsCommand d
-  pub lets_go : LetsGo Nothing d
-  pub whole : BooksWhole d
+-- ---- the replies that are read
 
--- ---- dialogues put together
+description-last : AnswersAtReady description_next
+description-last described.Nothing [] = tt
+description-last described.Nothing (b ∷ []) = tt
+description-last described.Nothing (b ∷ c ∷ rest) = tt
+description-last described.Parsed [] = tt
+description-last described.Parsed (b ∷ []) = tt
+description-last described.Parsed (b ∷ c ∷ rest) = tt
+description-last (described.Params oids) [] = tt
+description-last (described.Params oids) (b ∷ []) = tt
+description-last (described.Params oids) (b ∷ c ∷ rest) = tt
 
-pub answers : {T : Type 0} (r : Result T Error) → IsTaken (Answer r)
-answers r = record { command = record { tidy = tt; nothing = tt; sane = tt; in_time = tt; faithful = tt }; lets_go = tt; whole = tt }
+-- the first row
+reads-first : {A : Type 0} (read : Cells → Result A Error) (columns : ℕ) → IsReadOn (reads true (first_row read columns))
+reads-first read columns = reads-stop (said_next (λ b. b) columns (first_row_by read)) false (said-answers (λ b. b) columns (first_row_by read) (λ bound. tt) (λ bound e. tt))
 
-pub asks : {T : Type 0} (q : DeskCall) (told : Reply → Dialogue T) → ((r : Reply) → fits q r ≡ true → IsTaken (told r)) → IsTaken (asks_desk q told)
-asks q told h = record {
-  command = record {
-    tidy = (λ e. tt, λ r fit. (h r fit).command.tidy);
-    nothing = (λ e. tt, λ r fit. (h r fit).command.nothing);
-    sane = (λ e. tt, λ r fit. (h r fit).command.sane);
-    in_time = (λ e. tt, λ r fit. (h r fit).command.in_time);
-    faithful = (refl, λ r fit. (h r fit).command.faithful);
-  };
-  lets_go = (λ e. tt, λ r fit. (h r fit).lets_go);
-  whole = (λ e. tt, λ r fit. (h r fit).whole);
-}
+-- all rows
+collects-none : {A : Type 0} (c : Collected A) (r : Result A Error) → TellsNone (collects c r)
+collects-none c (Ok x) = tt
+collects-none c (Err e) = tt
 
-pub behinds : {A T : Type 0} (extra : List Cleanup) → EndsNone extra → (d : Dialogue A) (f : Result A Error → Dialogue T) → IsTaken d → ((r : Result A Error) → IsTaken (f r)) → ((r : Result A Error) → r ≡ Err OutOfMemory → LacksMemory (f r)) →
-    IsTaken (behind extra d f)
-behinds extra none d f h later lacks = record {
-  command = command-behind extra none f (λ r. (later r).command) lacks d h.command;
-  lets_go = lets-behind extra f (λ r. (later r).lets_go) Nothing d h.lets_go;
-  whole = whole-behind extra f (λ r. (later r).whole) d h.whole;
-}
+reads-all : {A : Type 0} (read : Cells → Result A Error) (columns : ℕ) → IsReadOn (reads false (all_rows read columns))
+reads-all {A} read columns =
+    reads-last (said_next bound columns (all_rows_by read)) (record { bound = false; items = [] }) (said-answers bound columns (all_rows_by read) (λ c. tt) (λ c e. tt)) (said-tells bound columns (all_rows_by read) alone)
+  where
+    bound : Collected A → Bool
+    bound c = c.bound
 
-or-answers : {A T : Type 0} (f : A → Dialogue T) → ((x : A) → IsTaken (f x)) → (r : Result A Error) → IsTaken (or_answer f r)
-or-answers f h (Ok x) = h x
-or-answers f h (Err e) = answers (Err e)
-
-or-lacks : {A T : Type 0} (f : A → Dialogue T) (r : Result A Error) → r ≡ Err OutOfMemory → LacksMemory (or_answer f r)
-or-lacks {A} {T} f r is = subst (λ (x : Result A Error). LacksMemory (or_answer f x)) (sym is) refl
-
-pub thens : {A T : Type 0} (d : Dialogue A) (f : A → Dialogue T) → IsTaken d → ((x : A) → IsTaken (f x)) → IsTaken (then_do d f)
-thens d f h later = behinds [] tt d (or_answer f) h (or-answers f later) (or-lacks f)
-
-ends-whole : {T : Type 0} (stops : Bool) (o : Option (Result T Error)) → BooksWhole (ends stops o)
-ends-whole true (Some (Ok x)) = tt
-ends-whole false (Some (Ok x)) = tt
-ends-whole stops (Some (Err e)) = tt
-ends-whole stops None = tt
-
-request : {S T : Type 0} (next : S → RawMessage → Next S (Result T Error)) (state : S) (stops : Bool) (part : Result (List ℕ) Error) → ((x : List ℕ) → part ≡ Ok x → IsWholeRequest x) →
-    ((ms : List RawMessage) → ends_in is_ready ms ≡ true → is_some (told_by next state ms) ≡ true) → LetsGo Request (reads stops (told_by next state)) → IsTaken (asks_for part (reads stops (told_by next state)))
-request next state stops (Err e) whole decides free = answers (Err e)
-request next state stops (Ok part) whole decides free = record {
-  command = request-so stops part (told_by next state) decides;
-  lets_go = (tt, free);
-  whole = (whole part refl, refl, λ ms. ends-whole stops (told_by next state ms));
-}
-
--- a request that can't be made is an error
-made-ok : (o : Result (List ℕ) FrameFault) (x : List ℕ) → or_encode o ≡ Ok x → o ≡ Ok x
-made-ok (Ok part) x e = let same : part ≡ x = cc in ap (λ (l : List ℕ). let r : Result (List ℕ) FrameFault = Ok l in r) same
-made-ok (Err fault) x e = absurd cc
+    alone : (c : Collected A) (s : Said) → (SaysReady s → ⊥) → TellsNone (all_rows_by read c s)
+    alone c (Row cells) h = collects-none c (read cells)
+    alone c Ready h = absurd (h tt)
+    alone c other h = tt
 
 -- ---- a text is prepared
 
 number-told : (r : Reply) → IsTaken (number_told r)
 number-told (reply.Number n) = answers _
-number-told reply.Spent = answers _
-number-told (reply.Type found) = answers _
-number-told reply.Cleared = answers _
-number-told (reply.Statement found) = answers _
+number-told other = answers _
 
 -- behind the number, and behind the description
 abbrev described_as : ℕ → Description → Dialogue NewStatement
@@ -126,7 +88,7 @@ sent_as text oids n = then_do (asks_for (or_encode (prepare_request n text oids)
 describing : (text oids : List ℕ) → IsTaken (describes text oids)
 describing text oids = thens draws (sent_as text oids) (asks desk_call.NextStatement number_told (λ r fit. number-told r)) (λ n.
     thens (asks_for (or_encode (prepare_request n text oids)) (reads true description)) (described_as n)
-    (request description_next described.Nothing true (or_encode (prepare_request n text oids)) (λ part e. whole-prepare (statement_name n) text oids part (made-ok (prepare_request n text oids) part e)) description-decides (stops-free description))
+    (booked (or_encode (prepare_request n text oids)) (reads true description) (λ part e. whole-prepare (statement_name n) text oids part (made-ok (prepare_request n text oids) part e)) (reads-stop description_next described.Nothing description-last))
     (λ d. answers _))
 
 -- with the types of its oids
@@ -143,10 +105,7 @@ preparing search h text oids = thens (describes text oids) (typed_by search) (de
 
 type-told : {T : Type 0} (next : Option PgType → Dialogue T) → ((o : Option PgType) → IsTaken (next o)) → (r : Reply) → IsTaken (type_told next r)
 type-told next h (reply.Type found) = h found
-type-told next h (reply.Number n) = answers _
-type-told next h reply.Spent = answers _
-type-told next h reply.Cleared = answers _
-type-told next h (reply.Statement found) = answers _
+type-told next h other = answers _
 
 known-or : {T : Type 0} (oid : ℕ) (o : Option PgType) (next : Option PgType → Dialogue T) → ((o : Option PgType) → IsTaken (next o)) → IsTaken (known_or oid o next)
 known-or oid (Some ty) next h = h (Some ty)
@@ -168,10 +127,7 @@ all-known (oid ∷ oids) found = knowing oid (needs_type (λ ty. known_types oid
 statement-told : (r : Reply) → IsTaken (statement_told r)
 statement-told (reply.Statement (Some s)) = answers _
 statement-told (reply.Statement None) = answers _
-statement-told (reply.Number n) = answers _
-statement-told reply.Spent = answers _
-statement-told (reply.Type found) = answers _
-statement-told reply.Cleared = answers _
+statement-told other = answers _
 
 keeping-statement : (which : Lookup) (s : Statement) → IsTaken (keeps_statement which s)
 keeping-statement which s = asks (desk_call.SetLookup which s) statement_told (λ r fit. statement-told r)
@@ -197,10 +153,7 @@ or-prepared which (reply.Statement (Some s)) = answers _
 or-prepared which (reply.Statement None) =
     behinds [] tt (prepared which true) (or_second which) (preparing-lookup which true) (or-second which)
     (λ r is. subst (λ (x : Result Statement Error). LacksMemory (or_second which x)) (sym is) (lacks-second which))
-or-prepared which (reply.Number n) = answers _
-or-prepared which reply.Spent = answers _
-or-prepared which (reply.Type found) = answers _
-or-prepared which reply.Cleared = answers _
+or-prepared which other = answers _
 
 looking-up : (which : Lookup) → IsTaken (lookup_statement which)
 looking-up which = asks (desk_call.LookupOf which) (or_prepared which) (λ r fit. or-prepared which r)
@@ -215,9 +168,8 @@ whole-oid name (ty ∷ []) oid part e = by (ty.oid == oids.oid) e
 whole-oid name (ty ∷ other ∷ params) oid part e = absurd cc
 
 -- a statement asked for an oid, whose reply is read so
-asking : {S T : Type 0} (next : S → RawMessage → Next S (Result T Error)) (state : S) (stops : Bool) (s : Statement) (oid : ℕ) → ((ms : List RawMessage) → ends_in is_ready ms ≡ true → is_some (told_by next state ms) ≡ true) →
-    LetsGo Request (reads stops (told_by next state)) → IsTaken (asks_oid s oid (reads stops (told_by next state)))
-asking next state stops s oid decides free = request next state stops (oid_request s.name s.params oid) (whole-oid s.name s.params oid) decides free
+asking : {T : Type 0} (s : Statement) (oid : ℕ) (d : Dialogue T) → IsReadOn d → IsTaken (asks_oid s oid d)
+asking s oid d h = booked (oid_request s.name s.params oid) d (whole-oid s.name s.params oid) h
 
 -- ---- a type's own row, labels and fields
 
@@ -226,8 +178,7 @@ abbrev row_by : ℕ → Statement → Dialogue TypeRow
 row_by oid s = asks_oid s oid (reads true (first_row (type_row s.columns) (length s.columns)))
 
 finding-row : (oid : ℕ) → IsTaken (row_of oid)
-finding-row oid = thens (lookup_statement Info) (row_by oid) (looking-up Info) (λ s.
-    asking (first_next (type_row s.columns) (length s.columns)) false true s oid (first-decides (type_row s.columns) (length s.columns)) (stops-free (first_row (type_row s.columns) (length s.columns))))
+finding-row oid = thens (lookup_statement Info) (row_by oid) (looking-up Info) (λ s. asking s oid (reads true (first_row (type_row s.columns) (length s.columns))) (reads-first (type_row s.columns) (length s.columns)))
 
 -- a label of a row
 abbrev label_in : Statement → Cells → Result (List ℕ) Error
@@ -237,8 +188,7 @@ abbrev labels_by : ℕ → Statement → Dialogue (List (List ℕ))
 labels_by oid s = asks_oid s oid (reads false (all_rows (label_in s) (length s.columns)))
 
 finding-labels : (oid : ℕ) → IsTaken (labels_of oid)
-finding-labels oid = thens (lookup_statement Enum) (labels_by oid) (looking-up Enum) (λ s.
-    asking (all_next (label_in s) (length s.columns)) none_yet false s oid (all-decides (label_in s) (length s.columns)) (all-free (label_in s) (length s.columns)))
+finding-labels oid = thens (lookup_statement Enum) (labels_by oid) (looking-up Enum) (λ s. asking s oid (reads false (all_rows (label_in s) (length s.columns))) (reads-all (label_in s) (length s.columns)))
 
 -- a row as it is
 abbrev as_it_is : Cells → Result Cells Error
@@ -253,7 +203,7 @@ rows_by relation s = then_do (asks_oid s relation (reads false (all_rows as_it_i
 finding-rows : (relation : ℕ) → IsTaken (field_rows relation)
 finding-rows relation = thens (lookup_statement Composite) (rows_by relation) (looking-up Composite) (λ s.
     thens (asks_oid s relation (reads false (all_rows as_it_is (length s.columns)))) (with_columns s)
-    (asking (all_next as_it_is (length s.columns)) none_yet false s relation (all-decides as_it_is (length s.columns)) (all-free as_it_is (length s.columns))) (λ rows. answers _))
+    (asking s relation (reads false (all_rows as_it_is (length s.columns))) (reads-all as_it_is (length s.columns))) (λ rows. answers _))
 
 finding-fields : {T : Type 0} (search : ℕ → Dialogue PgType) → ((oid : ℕ) → IsTaken (search oid)) → (columns : List Column) (rows : List Cells) (found : List Field) (done : List Field → Dialogue T) → ((fields : List Field) → IsTaken (done fields)) →
     IsTaken (fields_by search columns rows found done)
@@ -270,10 +220,7 @@ finding-fields {T} search h columns (cells ∷ rows) found done last = or-answer
 kept-told : (r : Reply) → IsTaken (kept_told r)
 kept-told (reply.Type (Some ty)) = answers _
 kept-told (reply.Type None) = answers _
-kept-told (reply.Number n) = answers _
-kept-told reply.Spent = answers _
-kept-told reply.Cleared = answers _
-kept-told (reply.Statement found) = answers _
+kept-told other = answers _
 
 keeping : (oid : ℕ) (row : TypeRow) (kind : Kind) → IsTaken (keeps oid row kind)
 keeping oid row kind = asks (desk_call.SetType oid (record { name = row.name; oid = oid; kind = kind; schema = row.schema })) kept_told (λ r fit. kept-told r)
@@ -310,10 +257,7 @@ preparing-text text oids = preparing find_all finding-all text oids
 
 cleared-told : (r : Reply) → IsTaken (cleared_told r)
 cleared-told reply.Cleared = answers _
-cleared-told (reply.Number n) = answers _
-cleared-told reply.Spent = answers _
-cleared-told (reply.Type found) = answers _
-cleared-told (reply.Statement found) = answers _
+cleared-told other = answers _
 
 pub clearing : IsTaken clear
 clearing = asks desk_call.ClearTypes cleared_told (λ r fit. cleared-told r)

@@ -2,7 +2,6 @@
 use Rattle.std.proofs.Common.{◌≡◌, ◌≢◌, ◌<◌, ◌≤◌, ℕ, zero, suc, ◌+◌, ◌^◌, List, [], ◌∷◌, ◌++◌, length, Bool, true, false, ◌||◌, if◌then◌else◌, nat_lt, ◌==◌, Option, Some, None, Result, Ok, Err, decimal, refl, sym, ap, subst, ◌∙◌, append-nil, arith, ne_eqb}
 use Rattle.std.specs.Prelude.{pos, map}
 use Rattle.std.specs.Char.{digit_value}
-use Rattle.std.specs.List.{list_any}
 use Rattle.std.specs.Str.{byte}
 use Rattle.std.specs.Str.Parse.{AllDigits}
 use Rattle.std.proofs.lemmas.Bool.Decides.{nat_tests}
@@ -18,16 +17,11 @@ use Rattle.pg_desk.specs.declared.statement.Described.{Described as Statement}
 use Rattle.pg_session.specs.Speeches.{IsWholeRequest}
 use Rattle.pg_core.specs.Composing.{or_encode}
 use Rattle.pg_core.specs.Prepares.{statement_name}
-use Rattle.pg_query_laws.proofs.Requests.{IsOne, whole-execute, whole-of}
+use Rattle.pg_query_laws.proofs.Requests.{IsOne, frame-in, made-ok, one-tagged, sync-fits, whole-execute, whole-of}
 use Rattle.pg_execute.specs.Executes.{close_part, close_request, written}
 use Rattle.pg_execute.specs.Parameters.{execute_frames, execute_request, given_behind}
 
 -- ---- an execution
-
--- a request that can't be made is an error
-pub made-ok : (o : Result (List ℕ) FrameFault) (x : List ℕ) → or_encode o ≡ Ok x → o ≡ Ok x
-made-ok (Ok part) x e = let same : part ≡ x = cc in ap (λ (l : List ℕ). let r : Result (List ℕ) FrameFault = Ok l in r) same
-made-ok (Err fault) x e = absurd cc
 
 with-values : (s : Statement) (given : Result (List (Option (List ℕ))) Error) (part : List ℕ) → (given >>= λ values. or_encode (execute_frames s.name values)) ≡ Ok part → IsWholeRequest part
 with-values s (Ok values) part e = whole-execute [] s.name (map (λ v. pos 1) values) values (pos 1) (pos 0) part (made-ok (execute_frames s.name values) part e)
@@ -41,28 +35,6 @@ whole-execution s vs part e = by (length vs == length s.params) e
     by false e = absurd cc
 
 -- ---- a closing
-
--- the frame that was written
-abbrev frame-in : Result (List ℕ) FrameFault → List ℕ
-frame-in (Ok frame) = frame
-frame-in (Err fault) = []
-
-one-tagged : (tag : ℕ) (texts : List (List ℕ)) (counts : List ℕ) (body frame : List ℕ) → tagged_frame tag texts counts body ≡ Ok frame → IsOne tag frame
-one-tagged tag texts counts body frame e = by (list_any has_zero texts) (list_any (λ count. nat_lt 65535 count) counts) (nat_lt 2147483647 (4 + length body)) refl e
-  where
-    by : (a b c : Bool) → nat_lt 2147483647 (4 + length body) ≡ c →
-        unless_fault (if a then Some ZeroByte else if b then Some TooMany else if c then Some TooLong else None) (tagged tag body) ≡ Ok frame → IsOne tag frame
-    by true b c is e = absurd cc
-    by false true c is e = absurd cc
-    by false false true is e = absurd cc
-    by false false false is e = record {
-      body = body;
-      is = sym (ap frame-in e);
-      fits = let high : 4 + length body ≤ 2147483647 = grind (arith, nat_tests) in omega (arith, high);
-    }
-
-sync-fits : 4 + length {A = ℕ} [] < 2 ^ 31
-sync-fits = omega arith
 
 -- a Close and a Sync
 closing : (one : List ℕ) → IsOne (byte "C") one → IsWholeRequest (one ++ sync_frame)

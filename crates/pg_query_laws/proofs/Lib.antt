@@ -1,13 +1,12 @@
 pub mod Behind
-pub mod Requests
-pub mod Readings
+mod Requests
+pub mod Taken
+mod Steps
 pub mod Commands
-pub mod ExecutionCommands
 mod Leaving
 mod ExecutionReadings
 mod ExecutionRequests
-mod Columns
-pub mod TypedCommands
-mod ReadingOn
+pub mod ExecutionCommands
 mod TypedReadings
 mod TypedRequests
+pub mod TypedCommands

@@ -11,6 +11,7 @@ use Rattle.pg_spec.specs.Frames.{bind_frame, describe_frame, execute_frame, has_
 use Rattle.pg_spec.specs.RawMessages.{RawMessage, message_at, message_bytes, messages, bytes_left}
 use Rattle.pg_spec.proofs.MessageLaws.{Fits, messages-join, message_at_front, message_at-Shrinks}
 use Rattle.pg_spec.proofs.Readers.{items_of-some}
+use Rattle.pg_core.specs.Composing.{or_encode}
 use Rattle.pg_session.specs.Speeches.{EndsAlone, IsWholeRequest}
 
 -- ---- frames by their messages
@@ -30,20 +31,25 @@ whole-of ms part fits ends is = record {
   frames = subst EndsAlone (sym (ap messages (is ∙ sym (append-nil (flat_map message_bytes ms))) ∙ messages-join ms [] fits ∙ append-nil ms)) ends;
 }
 
--- ---- a frame that was written
+-- ---- frames that were written
 
--- it is one message of this tag
+-- a request that can't be made is an error
+pub made-ok : (o : Result (List ℕ) FrameFault) (x : List ℕ) → or_encode o ≡ Ok x → o ≡ Ok x
+made-ok (Ok part) x e = let same : part ≡ x = cc in ap (λ (l : List ℕ). let r : Result (List ℕ) FrameFault = Ok l in r) same
+made-ok (Err fault) x e = absurd cc
+
+-- a frame is one message of this tag
 pub record IsOne (tag : ℕ) (frame : List ℕ) : Type 0 where
   pub body : List ℕ
   pub is : frame ≡ message_bytes (record { tag = tag; body = body })
   pub fits : 4 + length body < 2 ^ 31
 
 -- the frame that was written
-abbrev frame-in : Result (List ℕ) FrameFault → List ℕ
+abbrev pub frame-in : Result (List ℕ) FrameFault → List ℕ
 frame-in (Ok frame) = frame
 frame-in (Err fault) = []
 
-one-tagged : (tag : ℕ) (texts : List (List ℕ)) (counts : List ℕ) (body frame : List ℕ) → tagged_frame tag texts counts body ≡ Ok frame → IsOne tag frame
+pub one-tagged : (tag : ℕ) (texts : List (List ℕ)) (counts : List ℕ) (body frame : List ℕ) → tagged_frame tag texts counts body ≡ Ok frame → IsOne tag frame
 one-tagged tag texts counts body frame e = by (list_any has_zero texts) (list_any (λ count. nat_lt 65535 count) counts) (nat_lt 2147483647 (4 + length body)) refl e
   where
     by : (a b c : Bool) → nat_lt 2147483647 (4 + length body) ≡ c →
@@ -57,7 +63,7 @@ one-tagged tag texts counts body frame e = by (list_any has_zero texts) (list_an
       fits = let high : 4 + length body ≤ 2147483647 = grind (arith, nat_tests) in omega (arith, high);
     }
 
-sync-fits : 4 + length {A = ℕ} [] < 2 ^ 31
+pub sync-fits : 4 + length {A = ℕ} [] < 2 ^ 31
 sync-fits = omega arith
 
 -- two frames and a Sync

@@ -1,49 +1,26 @@
 -- The request of a typed query or execute is whole.
-use Rattle.std.proofs.Common.{◌≡◌, ◌<◌, ◌≤◌, ℕ, ◌+◌, ◌^◌, List, [], ◌∷◌, ◌++◌, length, Bool, true, false, if◌then◌else◌, nat_lt, Option, Some, None, Result, Ok, Err, refl, sym, ap, subst, ◌∙◌, append-nil, append_assoc, arith}
+use Rattle.std.proofs.Common.{◌≡◌, ℕ, List, [], ◌∷◌, ◌++◌, length, Option, Result, Ok, Err, refl, sym, ap, subst, ◌∙◌, append-nil, append_assoc}
 use Rattle.std.specs.Prelude.{ℤ, map, pos}
-use Rattle.std.specs.List.{flat_map, list_any}
+use Rattle.std.specs.List.{flat_map}
 use Rattle.std.specs.Int.{w16, w32, to_be_bytes, cast_unsigned}
 use Rattle.std.specs.Str.{byte}
-use Rattle.std.proofs.lemmas.Bool.Decides.{nat_tests}
 use Rattle.pg_spec.specs.Bytes.{text0}
-use Rattle.pg_spec.specs.Faults.{◌>>=◌, FrameFault, ZeroByte, TooMany, TooLong}
-use Rattle.pg_spec.specs.Frames.{bind_frame, describe_frame, execute_frame, has_zero, parse_frame, sync_frame, tagged, tagged_frame, unless_fault, value_bytes}
+use Rattle.pg_spec.specs.Faults.{◌>>=◌, FrameFault}
+use Rattle.pg_spec.specs.Frames.{bind_frame, describe_frame, execute_frame, parse_frame, sync_frame, value_bytes}
 use Rattle.pg_spec.specs.RawMessages.{RawMessage, message_bytes}
 use Rattle.pg_types.specs.declared.pg_type.PgType.{PgType}
 use Rattle.pg_types.specs.declared.value.Value.{Value}
 use Rattle.pg_types.specs.declared.error.Error.{Error}
 use Rattle.pg_session.specs.Speeches.{IsWholeRequest}
 use Rattle.pg_core.specs.Composing.{or_encode}
-use Rattle.pg_query_laws.proofs.Requests.{IsOne, whole-of}
+use Rattle.pg_query_laws.proofs.Requests.{IsOne, one-tagged, sync-fits, whole-of}
 use Rattle.pg_execute.specs.Parameters.{given_behind}
 use Rattle.pg_execute.specs.Typed.{or_parse, typed_frames, typed_request}
-
--- the frame that was written
-abbrev frame-in : Result (List ℕ) FrameFault → List ℕ
-frame-in (Ok frame) = frame
-frame-in (Err fault) = []
 
 -- the request that was made
 abbrev part-in : Result (List ℕ) Error → List ℕ
 part-in (Ok part) = part
 part-in (Err e) = []
-
-one-tagged : (tag : ℕ) (texts : List (List ℕ)) (counts : List ℕ) (body frame : List ℕ) → tagged_frame tag texts counts body ≡ Ok frame → IsOne tag frame
-one-tagged tag texts counts body frame e = by (list_any has_zero texts) (list_any (λ count. nat_lt 65535 count) counts) (nat_lt 2147483647 (4 + length body)) refl e
-  where
-    by : (a b c : Bool) → nat_lt 2147483647 (4 + length body) ≡ c →
-        unless_fault (if a then Some ZeroByte else if b then Some TooMany else if c then Some TooLong else None) (tagged tag body) ≡ Ok frame → IsOne tag frame
-    by true b c is e = absurd cc
-    by false true c is e = absurd cc
-    by false false true is e = absurd cc
-    by false false false is e = record {
-      body = body;
-      is = sym (ap frame-in e);
-      fits = let high : 4 + length body ≤ 2147483647 = grind (arith, nat_tests) in omega (arith, high);
-    }
-
-sync-fits : 4 + length {A = ℕ} [] < 2 ^ 31
-sync-fits = omega arith
 
 -- four frames and what follows, one by one
 one-by-one : (n o q rest : List ℕ) → n ++ o ++ q ++ rest ≡ n ++ (o ++ (q ++ rest))

@@ -4,7 +4,8 @@ use Rattle.std.proofs.Common.{ℕ, List, Bool, true, false, Err}
 use Rattle.pg_spec.specs.Faults.{Parameters}
 use Rattle.pg_types.specs.declared.value.Value.{Value}
 use Rattle.pg_query.specs.Dialogue.{Dialogue, Answer}
-use Rattle.pg_query_laws.proofs.Commands.{IsTaken, answers}
+use Rattle.pg_query_laws.specs.Taken.{IsTaken}
+use Rattle.pg_query_laws.proofs.Taken.{answers}
 use Rattle.pg_states.specs.Paired.{paired}
 
 -- as many values as types are taken, and others are refused

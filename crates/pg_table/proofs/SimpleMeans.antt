@@ -11,7 +11,9 @@ use Rattle.pg_client.proofs.Done.{batch-free, done-free}
 use Rattle.pg_client.proofs.Leaving.{query-free}
 use Rattle.pg_types.specs.declared.error.Error.{Error}
 use Rattle.pg_core.specs.Lookups.{clear, find_all, prepare}
-use Rattle.pg_query_laws.proofs.Commands.{IsTaken, answers, clearing, preparing-text}
+use Rattle.pg_query_laws.specs.Taken.{IsTaken}
+use Rattle.pg_query_laws.proofs.Commands.{clearing, preparing-text}
+use Rattle.pg_query_laws.proofs.Taken.{answers}
 use Rattle.pg_execute.specs.Executes as execution
 use Rattle.pg_execute.specs.declared.how_many.HowMany.{HowMany}
 use Rattle.pg_execute.specs.declared.how_many.HowMany.TheVariants.{Any, AtMostOne, One}
