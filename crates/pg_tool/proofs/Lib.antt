@@ -4,6 +4,7 @@ pub mod AskedFew
 pub mod Limits
 pub mod Playing
 pub mod Telling
+pub mod Owning
 pub mod Played
 pub mod Promised
 pub mod Causing

@@ -16,15 +16,25 @@ use Rattle.pg_session.specs.Speeches.{meaning_of}
 use Rattle.pg_table.specs.Headlines.{told_in}
 use Rattle.pg_table.specs.Table.{table}
 use Rattle.pg_tool.specs.Fails.{PlaysWithin}
+use Rattle.pg_tool.specs.ReadsOwn.{ReadsOwn}
 use Rattle.pg_tool.specs.TableContract.{EndedApart, IsEndedWell, RanApart, session_of, table_result}
 use Rattle.pg_tool.proofs.AtTable.{ends-well, is-run}
 use Rattle.pg_tool.proofs.Limiting.{map_bytes}
+use Rattle.pg_tool.proofs.Owning.{reads_own}
 
 pub played_as : (config : List ℕ) (settings : Settings) (nonce : List ℕ) (scripts : List (List Command)) (given : List ℕ) (limit : ℕ) (before after : LinkView) (r : Result Report Error) →
     Means config settings → IfOk r (PlaysWithin settings nonce scripts given limit before after) →
     IfOk r (λ report. (s : Settings) × Means config s × HasPlayed table s nonce scripts given before after (told_in report))
 played_as config settings nonce scripts given limit before after (Err e) means played = tt
 played_as config settings nonce scripts given limit before after (Ok report) means played = (settings, means, played.0)
+
+-- and in its turns each request read of its own reply
+pub read_own : (config : List ℕ) (settings : Settings) (nonce : List ℕ) (scripts : List (List Command)) (given : List ℕ) (limit : ℕ) (before after : LinkView) (r : Result Report Error) →
+    Means config settings → IfOk r (PlaysWithin settings nonce scripts given limit before after) →
+    IfOk r (λ report. (s : Settings) × Means config s × ReadsOwn table s nonce scripts given before after (told_in report))
+read_own config settings nonce scripts given limit before after (Err e) means played = tt
+read_own config settings nonce scripts given limit before after (Ok report) means played =
+    (settings, means, reads_own table settings nonce scripts given before after (told_in report) played.0)
 
 -- the main theorem, of what was asked
 pub ended_well : (call : Call Command) (settings : Settings) (r : Result Report Error) → Means call.config settings → IfOk r (PlaysWithin settings call.nonce call.scripts call.turns call.limit call.before call.after) →

@@ -6,4 +6,5 @@ pub mod RunContract
 pub mod Fails
 pub mod SessionContract
 pub mod TableContract
+pub mod ReadsOwn
 pub mod Required

@@ -14,6 +14,7 @@ ghost use Rattle.pg_text.specs.Views.{as_scripts};
 ghost use Rattle.pg_table.specs.Headlines.{told_in};
 ghost use Rattle.pg_table.specs.Table.{table};
 ghost use Rattle.pg_play.specs.Told.{told_of};
+ghost use Rattle.pg_tool.specs.ReadsOwn.{ReadsOwn};
 ghost use Rattle.pg_tool.specs.SessionContract.{SessionContract, ToldSimply};
 ghost use Rattle.pg_tool.specs.TableContract.{TableContract, table_call, table_result};
 ghost use Rattle.pg_tool.specs.Fails.{PlaysWithin, SessionFails};
@@ -40,7 +41,8 @@ use std::alloc::Global;
 /// connector is `NoTls`, or in an error of the link before the server's byte. Else come the errors of the startup: Encode,
 /// Config(NoPassword), Authentication, Db, Parse, UnexpectedMessage and Io. LimitReached comes where the
 /// link gave more than `max_bytes` bytes, Stalled where two rounds or polls moved nothing, or the link has
-/// nothing to wait for. Over a link that conforms valid input answers Ok, or OutOfMemory.
+/// nothing to wait for. Over a link that conforms valid input answers Ok, or OutOfMemory. Where it answers Ok
+/// over a link that tells its bytes, request k read only a front of the server's k-th group.
 pub fn run_session<L: Link>(
     alloc: Global,
     config: &str,
@@ -57,6 +59,8 @@ pub fn run_session<L: Link>(
         (SessionContract (call_of config.now nonce.now simple turns.now max_bytes (L.view link.old) (L.view link.new))) }
     ensures played { IfOk result (λ report. (s : Settings) × Means config.now s
         × HasPlayed table s nonce.now scripts.now turns.now (L.view link.old) (L.view link.new) (told_in report)) }
+    ensures reads_own { IfOk result (λ report. (s : Settings) × Means config.now s
+        × ReadsOwn table s nonce.now scripts.now turns.now (L.view link.old) (L.view link.new) (told_in report)) }
 {
     let settings = Config::from_str(alloc, config)?;
     match may_start(&settings, nonce) {

@@ -1,6 +1,6 @@
 use Rattle.std.proofs.lemmas.Result.{err_from_is_err_and}
 use Rattle.pg_config.specs.Views.{settings_of}
-use Rattle.pg_tool.proofs.Played.{played_as}
+use Rattle.pg_tool.proofs.Played.{played_as, read_own}
 use Rattle.pg_open.specs.declared.choice.TlsChoice.TheVariants.{Asks, Fails, Raw, Shakes}
 use Rattle.pg_tool.proofs.Requiring.{choice_told, fails_so, raw_so}
 use Rattle.pg_tool.proofs.Promised.{asks, plays, read_so, shakes, start_refused, text_fails}
@@ -42,6 +42,13 @@ pub returns-in-Raw-clause-played : goal.returns-in-Raw-clause-played
 returns-in-Raw-clause-played g c =
     let read = c.in_ok-settings.ensures.answer in
     played_as c.args.config.now (settings_of c.in_ok-settings.settings) c.args.nonce.now c.args.scripts.now c.args.turns.now c.args.max_bytes
+    (g.L.Link.view c.args.link.now) (g.L.Link.view c.play_as.new.link) c.play_as.result
+    (read_so c.args.config.now read.0 c.in_ok-settings.settings read.1 read.2) c.play_as.ensures.played
+
+pub returns-in-Raw-clause-reads_own : goal.returns-in-Raw-clause-reads_own
+returns-in-Raw-clause-reads_own g c =
+    let read = c.in_ok-settings.ensures.answer in
+    read_own c.args.config.now (settings_of c.in_ok-settings.settings) c.args.nonce.now c.args.scripts.now c.args.turns.now c.args.max_bytes
     (g.L.Link.view c.args.link.now) (g.L.Link.view c.play_as.new.link) c.play_as.result
     (read_so c.args.config.now read.0 c.in_ok-settings.settings read.1 read.2) c.play_as.ensures.played
 
