@@ -3,10 +3,57 @@
 ghost use Rattle.std.specs.Prelude.{◌≡◌, ◌≤◌, IfOk};
 
 use pg_core::Finder;
+use pg_errors::Error;
+use pg_query::{Cleanup, Reply, Script, Want};
 use pg_search::{Catalog, FieldsOf, LabelsOf, RowOf, Search};
-use pg_types::Oid;
+use pg_types::{List, Oid, Type};
+use pg_wire::{Message, WireFault};
 use std::alloc::{AllocError, Global};
 use std::collections::VecDeque;
+
+type Searched = Search<Catalog, RowOf, LabelsOf, FieldsOf>;
+
+/// The search for types in the server's catalog. It is a type of its own, so that what holds one doesn't spell out all of it.
+#[derive(Drop)]
+pub struct Searches {
+    search: Searched,
+}
+
+impl Script for Searches {
+    type Output = List<Type>;
+
+    ghost dialogue = { λ s. ⟦<Searched as Script>⟧.dialogue s.search };
+
+    ghost refuses = { λ s. ⟦<Searched as Script>⟧.refuses s.search };
+
+    ghost waits = { λ s. ⟦<Searched as Script>⟧.waits s.search };
+
+    ghost steps = { λ s. ⟦<Searched as Script>⟧.steps s.search };
+
+    fn next(&mut self, alloc: Global) -> Result<Want<List<Type>>, AllocError> {
+        self.search.next(alloc)
+    }
+
+    fn message(
+        &mut self,
+        alloc: Global,
+        message: &Result<Message, WireFault>,
+    ) -> Result<Want<List<Type>>, AllocError> {
+        self.search.message(alloc, message)
+    }
+
+    fn reply(&mut self, alloc: Global, reply: Reply) -> Result<Want<List<Type>>, AllocError> {
+        self.search.reply(alloc, reply)
+    }
+
+    fn refused(&mut self, alloc: Global, error: Error) -> Result<Want<List<Type>>, AllocError> {
+        self.search.refused(alloc, error)
+    }
+
+    fn cleanup(&self, alloc: Global) -> Result<VecDeque<Cleanup>, AllocError> {
+        self.search.cleanup(alloc)
+    }
+}
 
 /// Finds types in the server's catalog.
 #[derive(Drop)]
@@ -16,18 +63,16 @@ impl Finder for Finds {
     ghost use Rattle.pg_core.specs.Lookups.{find_all};
     ghost use Rattle.pg_states.specs.Finding.{most_steps};
 
-    type Search = Search<Catalog, RowOf, LabelsOf, FieldsOf>;
+    type Search = Searches;
 
     ghost finds = { λ _ oids. find_all oids };
 
     ghost most = { λ _. most_steps };
 
-    fn find(
-        self,
-        alloc: Global,
-        oids: VecDeque<Oid>,
-    ) -> Result<Search<Catalog, RowOf, LabelsOf, FieldsOf>, AllocError> {
+    fn find(self, alloc: Global, oids: VecDeque<Oid>) -> Result<Searches, AllocError> {
         let _count = oids.len();
-        Ok(Search::new(alloc, Catalog {}, oids))
+        Ok(Searches {
+            search: Search::new(alloc, Catalog {}, oids),
+        })
     }
 }

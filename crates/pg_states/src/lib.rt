@@ -23,7 +23,7 @@ pub use clear::ClearState;
 pub use close::CloseState;
 pub use execute::ExecuteState;
 pub use execute_typed::ExecuteTypedState;
-pub use finds::Finds;
+pub use finds::{Finds, Searches};
 pub use first_rows::FirstRowsState;
 pub use laws::values_are_as_many_as_types;
 pub use missing::MissingState;

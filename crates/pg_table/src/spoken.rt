@@ -1,5 +1,8 @@
 //! The commands of the table as a session speaks them.
 
+ghost use Rattle.std.specs.Prelude.{◌≡◌, ◌≢◌, Err, IfOk, OnOk};
+ghost use Rattle.pg_table.specs.Table.{table};
+
 use crate::making::begin;
 use crate::slots::Slots;
 use crate::state::{AnyAnswer, AnyState, keep};
@@ -20,7 +23,9 @@ impl<'a> Spoken<'a> for AnyState<'a> {
 
     ghost speech = { table };
 
-    fn first_slots(alloc: Global) -> Slots {
+    fn first_slots(alloc: Global) -> Slots
+        ensures { result ≡ table.begins }
+    {
         Slots::new(alloc)
     }
 
@@ -36,7 +41,11 @@ impl<'a> Spoken<'a> for AnyState<'a> {
         slots: &mut Slots,
         command: &Command,
         answer: Result<AnyAnswer, Error>,
-    ) -> Result<Answer, OutOfMemory> {
+    ) -> Result<Answer, OutOfMemory>
+        ensures answer { IfOk result (λ told. told ≡ (table.ends slots.old command.now answer).answer) }
+        ensures memory { OnOk result (answer ≢ Err Error.OutOfMemory) }
+        ensures slots { OnOk result (slots.new ≡ (table.ends slots.old command.now answer).own) }
+    {
         match answer {
             Err(Error::OutOfMemory { .. }) => Err(OutOfMemory),
             answer => keep(slots, command, answer),
