@@ -8,7 +8,7 @@ use Rattle.pg_tool.proofs.session.play_as.Goals as goal
 pub play_over-requires : goal.play_over-requires
 play_over-requires g c = λ k. (
   (refl, tt),
-  (c.requires.limit, (book-whole, (rw c.as_slice.ensures.scripts at c.as_slice.ensures.bounds, (c.requires.nonce, c.requires.no_tls)))),
+  (c.requires.limit, (book-whole, (rw (← c.as_slice.ensures.scripts) at c.as_slice.ensures.bounds, (c.requires.nonce, c.requires.no_tls)))),
 )
 
 pub returns-in-Ok-clause-played : goal.returns-in-Ok-clause-played
