@@ -18,21 +18,12 @@ pub struct Notification {
 }
 
 /// A notice or a notification.
-#[derive(Debug, PartialEq, Eq)]
+#[derive(Debug, Drop, PartialEq, Eq)]
 pub enum AsyncMessage {
     /// What the server says that is no error.
     Notice(Held<DbError>),
     /// What another session, or this one, said on a channel.
     Notification(Notification),
-}
-
-impl Drop for AsyncMessage {
-    fn drop(self) {
-        match self {
-            AsyncMessage::Notice(_it) => {}
-            AsyncMessage::Notification(_it) => {}
-        }
-    }
 }
 
 impl Notification {
