@@ -202,7 +202,7 @@ module _ {C T A E : Type 0} (speech : Speech C T A E) where
         let tame = tame-in st t.hub h.fits asks.hub.tame in
         front-requests st.gone_out front.0 (subst AreRequests (sym front.1) (wire-asks st.book tame.asks))
 
-    taken-is : h.taken ≡ opening ++ joined st.gone_out
+    pub taken-is : h.taken ≡ opening ++ joined st.gone_out
     taken-is =
         sym (append-nil h.taken) ∙ ap (λ (x : List ℕ). h.taken ++ x) (sym settled.sent) ∙ sym h.out
         ∙ ap (λ (c : Bool). (opening ++ bytes_out_by h.events) ++ goodbye false c) settled.active ∙ append-nil (opening ++ bytes_out_by h.events)

@@ -1,5 +1,5 @@
 -- What a session had sent that failed, told in other words, is what it had sent.
-use Rattle.std.proofs.Common.{◌≡◌, inl, inr, ℕ, ◌+◌, ◌≤◌, cond, List, [], ◌∷◌, length, map, Option, Some, None, option_map, Result, Ok, Err, refl, sym, ap, subst, ◌∙◌, nat_lt, slice_get, take, drop}
+use Rattle.std.proofs.Common.{◌≡◌, inl, inr, ℕ, ◌+◌, ◌≤◌, ◌<◌, cond, List, [], ◌∷◌, length, map, Option, Some, None, option_map, Result, Ok, Err, refl, sym, ap, subst, ◌∙◌, nat_lt, slice_get, take, drop}
 use Rattle.std.specs.Prelude.{All, IfSome, IsSome, count_by}
 use Rattle.std.proofs.lemmas.List.{length-map}
 use Rattle.std.proofs.lemmas.List.Sums.{sum_by-cons}
@@ -16,8 +16,9 @@ use Rattle.pg_spec.specs.Courses.{Asked, Course, Met, Outcome, met_in, nothing_y
 use Rattle.pg_spec.specs.Dialogues.{Answers, Asks, Calls, Closes, Dialogue, Puts, Reads, Sends, behind, decided_after}
 use Rattle.pg_spec.specs.Meanings.{Ending, Meaning}
 use Rattle.pg_promises.specs.Calls.{Call, apart}
-use Rattle.pg_promises.specs.Causes.{OfDialogue, startup_after}
-use Rattle.pg_promises.specs.Kept.{AsksAtOnce, BeginsWithRequest, HasNoCopy, NoneKeptBack}
+use Rattle.pg_promises.specs.Causes.{startup_after}
+use Rattle.pg_promises.proofs.Kept.{map-bytes}
+use Rattle.pg_promises.specs.Kept.{AllWentOut, AsksAtOnce, BeginsWithRequest, CopiesNothing, HasNoCopy, NoneKeptBack}
 use Rattle.pg_promises.specs.Sent.{AreBegun, AskedInOrder, InScriptOrder, SentInOrder, course_so_far, outcome_in, parts_of}
 use Rattle.pg_table.proofs.Renamed.{some-back}
 
@@ -145,21 +146,44 @@ module _ {C D A B E Q R : Type 0} (meaning : Meaning C A E Q R) (asks : E → D 
   first-on [] h = tt
   first-on (c ∷ script) h = subst (λ (d : Dialogue Q R (Ending B E)). BeginsWithRequest d) (sym (same meaning.begins c)) (begins-on in_new (meaning.asks meaning.begins c) h)
 
+  copies-on : (script : List C) → CopiesNothing meaning script → CopiesNothing new (map f script)
+  copies-on script h = All-map (λ (c : D). (own : E) → HasNoCopy (asks own c)) f script
+      (All-weaker (λ (c : C). (own : E) → HasNoCopy (meaning.asks own c)) (λ (c : C). (own : E) → HasNoCopy (asks own (f c)))
+      (λ c none own. subst (λ (d : Dialogue Q R (Ending B E)). HasNoCopy d) (sym (same own c)) (no-copy-on in_new (meaning.asks own c) (none own))) script h)
+
   script-on : (script : List C) → AsksAtOnce meaning script → AsksAtOnce new (map f script)
   script-on script h = record {
     first = first-on script h.first;
-    no_copy = All-map (λ (c : D). (own : E) → HasNoCopy (asks own c)) f script
-        (All-weaker (λ (c : C). (own : E) → HasNoCopy (meaning.asks own c)) (λ (c : C). (own : E) → HasNoCopy (asks own (f c)))
-        (λ c none own. subst (λ (d : Dialogue Q R (Ending B E)). HasNoCopy d) (sym (same own c)) (no-copy-on in_new (meaning.asks own c) (none own))) script h.no_copy);
+    no_copy = copies-on script h.no_copy;
   }
 
   all-on : (scripts : List (List C)) → All (AsksAtOnce meaning) scripts → All (AsksAtOnce new) (map (map f) scripts)
   all-on scripts h = All-map (AsksAtOnce new) (map f) scripts (All-weaker (AsksAtOnce meaning) (λ (script : List C). AsksAtOnce new (map f script)) script-on scripts h)
 
+  none-on : (scripts : List (List C)) → All (CopiesNothing meaning) scripts → All (CopiesNothing new) (map (map f) scripts)
+  none-on scripts h = All-map (CopiesNothing new) (map f) scripts (All-weaker (CopiesNothing meaning) (λ (script : List C). CopiesNothing new (map f script)) copies-on scripts h)
+
+  out-back : (call : Call C) (s : Settings) (given taken : List ℕ) → AllWentOut new (in_new_words call) s given taken → AllWentOut meaning call s given taken
+  unfolding sent-back
+  out-back call s given taken h = record {
+    asked = sent-back call s given taken h.asked;
+    whole = h.whole;
+    ended = h.ended;
+    own = λ handle script at some at_once.
+        h.own handle (map f script) (slice_get-map (map f) call.scripts handle ∙ ap (λ (o : Option (List C)). option_map (map f) o) at)
+        (subst (λ (n : ℕ). 0 < n) (sym (length-map script f)) some) (script-on script at_once);
+    count = λ all. subst (λ (n : ℕ). n ≤ whole_units taken) (same-count f call.scripts) (h.count (all-on call.scripts all));
+  }
+
   pub kept-back : {X : Type 0} (call : Call C) (result : Result X Failure) → NoneKeptBack new (in_new_words call) result → NoneKeptBack meaning call result
   kept-back call (Ok report) h = h
-  kept-back call (Err (Stalled before after)) h = λ steady all.
-      subst (λ (n : ℕ). OfDialogue (apart call) (λ s given taken. ((used : ℕ) × ((startup_after (apart call) s given).outcome ≡ Done used)) → n ≤ whole_units taken))
-      (same-count f call.scripts) (h steady (all-on call.scripts all))
+  kept-back call (Err (Stalled before after)) h = λ steady none.
+      let d = h steady (none-on call.scripts none) in (
+        d.0,
+        d.1,
+        map-bytes call.before call.after (λ given taken. ((used : ℕ) × ((startup_after (apart call) d.0 given).outcome ≡ Done used)) → AllWentOut new (in_new_words call) d.0 given taken)
+            (λ given taken. ((used : ℕ) × ((startup_after (apart call) d.0 given).outcome ≡ Done used)) → AllWentOut meaning call d.0 given taken)
+            (λ given taken sent started. out-back call d.0 given taken (sent started)) d.2,
+      )
   kept-back call (Err (Tls cause)) h = h
   kept-back call (Err _) h = h

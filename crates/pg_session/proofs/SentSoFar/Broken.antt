@@ -221,7 +221,7 @@ module _ {C T A E : Type 0} (speech : Speech C T A E) (commands : AreCommands sp
     kept-paused before after out =
         let turns = out.turns ++ numbers (length call.scripts + 1) in
         let made = all-made speech lets whole (apart call) settings call.scripts e means b limit out in
-        none-kept speech commands whole call settings b.opening b.opened.read b.new b.link turns b.is_new b.fresh.active b.fresh.delivered out.state out.link out.last out.passed made before after means
+        none-kept speech commands whole call settings b.opening b.opened.read b.new b.link turns b.is_new b.fresh.active b.fresh.delivered out.state out.link out.last out.passed made before after means b.no_tls
         (done-last speech lets whole (apart call) settings call.scripts e means b limit)
         (open-last speech lets whole (apart call) settings call.scripts e means b limit out.turns out.state out.link out.before).keeps
         (stood-last speech lets whole (apart call) settings call.scripts e means b limit turns out.last out.passed made)

@@ -1,27 +1,30 @@
--- Where a session stalls, as many requests were sent whole as scripts hold a command.
-use Rattle.std.proofs.Common.{◌≡◌, inl, inr, ◌<◌, ◌≤◌, ◌+◌, ◌^◌, ℕ, zero, suc, List, [], ◌∷◌, ◌++◌, length, Bool, true, false, cond, ◌&&◌, ◌==◌, if◌then◌else◌, nat_lt, Option, Some, Result, Ok, Err, refl, sym, ap, subst, ◌∙◌, arith, slice_get}
+-- Where a session stalls, all that was asked went out, and each script that asks at once has a request of its own.
+use Rattle.std.proofs.Common.{◌≡◌, inl, inr, ◌<◌, ◌≤◌, ◌+◌, ◌^◌, ℕ, zero, suc, List, [], ◌∷◌, ◌++◌, length, map, drop, Bool, true, false, cond, ◌&&◌, ◌==◌, if◌then◌else◌, nat_lt, Option, Some, Result, Ok, Err, refl, sym, ap, subst, ◌∙◌, arith, slice_get}
 use Rattle.std.specs.Prelude.{All, count_by, filter}
 use Rattle.std.proofs.lemmas.Bool.Decides.{nat_tests}
 use Rattle.std.proofs.lemmas.List.{length-map}
 use Rattle.std.proofs.lemmas.List.Elements.{All-head, All-tail}
 use Rattle.std.proofs.lemmas.List.Sums.{sum_by-cons}
 use Rattle.std.proofs.lemmas.Option.{same_Some}
+use Rattle.pg_spec.specs.Book as said
 use Rattle.pg_spec.specs.Book.{Booking, is_of}
 use Rattle.pg_spec.specs.Faults as faults
 use Rattle.pg_spec.specs.Links.{LinkView}
-use Rattle.pg_spec.specs.RawMessages.{RawMessage}
-use Rattle.pg_spec.specs.Sent.{whole_units}
+use Rattle.pg_spec.specs.RawMessages.{RawMessage, messages}
 use Rattle.pg_spec.specs.Settings.{Settings}
 use Rattle.pg_spec.specs.Startup.{Outcome, Done, More}
-use Rattle.pg_promises.specs.Causes.{startup_after}
+use Rattle.pg_promises.specs.Causes.{NeedsNoTls, startup_after}
 use Rattle.pg_promises.specs.ConnectionStrings.{Means}
 use Rattle.pg_spec.specs.Courses.{Asked, Course, Given, Point, Request, Unfolds, Who, begun_in, nowhere, numbered, requests_of}
 use Rattle.pg_spec.specs.Dialogues.{Dialogue, Answers, Asks, Sends, Reads, Puts, Closes, Calls, behind}
 use Rattle.pg_promises.specs.Calls.{Call, apart}
-use Rattle.pg_promises.specs.Kept.{AsksAtOnce, BeginsWithRequest, NoneKeptBack}
+use Rattle.pg_promises.specs.Kept.{AllWentOut, AsksAtOnce, BeginsWithRequest, NoneKeptBack}
+use Rattle.pg_promises.specs.Sent.{SentInOrder}
 use Rattle.pg_types.specs.declared.error.Error.{Error}
 use Rattle.pg_types.specs.declared.error.Error.TheVariants as error
-use Rattle.pg_desk.specs.History.{State, start, after_all, wire}
+use Rattle.pg_desk.proofs.Soundness.{legal-sound}
+use Rattle.pg_desk.specs.History.{State, start, after_all, joined, wire}
+use Rattle.pg_desk.specs.declared.event.Booking.{Booking as Asking}
 use Rattle.pg_desk.specs.declared.event.Event.{Event}
 use Rattle.pg_query.specs.Dialogue as code
 use Rattle.pg_query.specs.Meaning.{Place}
@@ -56,15 +59,16 @@ use Rattle.pg_session.proofs.Caused.Asks.{AsksWhole, asks-out, asks-wire, tame-i
 use Rattle.pg_session.proofs.Caused.Bytes.{of-batch, IsOfAnswer}
 use Rattle.pg_session.proofs.Caused.Start.{of_grown}
 use Rattle.pg_session.proofs.Crossing.Chain.{StoodIn}
+use Rattle.pg_session.proofs.Crossing.End.{whole-front, wire-bytes}
 use Rattle.pg_session.proofs.LivesLink.{CameSo}
-use Rattle.pg_session.proofs.Opening.{IsDone}
+use Rattle.pg_session.proofs.Opening.{IsDone, is-started}
 use Rattle.pg_session.proofs.SentSoFar.Parts.{no-request}
 use Rattle.pg_session.proofs.Quiet.Handles.{IsQuiet, Done as AllDone, Awaits, HoldsBack}
 use Rattle.pg_session.proofs.Quiet.Polls.{none-moved}
 use Rattle.pg_session.proofs.Quiet.{QuietRound}
 use Rattle.pg_session.proofs.Readers.HubStates.{state_of}
-use Rattle.pg_session.proofs.SentSoFar.{asks, kept-by}
-use Rattle.pg_session.proofs.Stalled.{units-are, quiet-out, dropped, went-quietly}
+use Rattle.pg_session.proofs.SentSoFar.{all-ended, asks, came-here, front-taken, kept-by, sent-by}
+use Rattle.pg_session.proofs.Stalled.{units-are, quiet-out, dropped, taken-is, went-quietly}
 use Rattle.pg_session.proofs.Stalled.Start.{rests-so, waits-more}
 
 -- ---- how many requests there are
@@ -213,6 +217,12 @@ never-waits (code.HangUp d) is waits = is
 never-waits (code.Call q refused next) is waits = is
 never-waits (code.Hear next) is waits = is
 
+drop-many : {X : Type 0} (n : ℕ) (xs : List X) → length xs ≤ n → drop n xs ≡ []
+drop-many zero [] h = refl
+drop-many zero (x ∷ xs) h = absurd (omega (arith, h))
+drop-many (suc n) [] h = refl
+drop-many (suc n) (x ∷ xs) h = drop-many n xs (omega (arith, h))
+
 some-or-none : {X : Type 0} (xs : List X) → (xs ≡ [] → ⊥) → 1 ≤ length xs
 some-or-none [] h = absurd (h refl)
 some-or-none (x ∷ xs) h = omega arith
@@ -242,21 +252,21 @@ never-stalled s t l m (fault.LimitReached given limit) events before after fails
 never-stalled s t l m fault.OutOfMemory events before after fails is = absurd (let no : true ≡ false = ap is_stalled is in cc)
 
 module _ {C T A E : Type 0} (speech : Speech C T A E) where
-  -- so many scripts hold a command
-  abbrev AllSent : Call C → List ℕ → Type 0
-  AllSent call t = count_by (λ script. nat_lt 0 (length script)) call.scripts ≤ whole_units t
+  -- all that was asked went out
+  abbrev AllSent : Call C → Settings → List ℕ → List ℕ → Type 0
+  AllSent call settings g t = AllWentOut (meaning_of speech) call settings g t
 
   -- a startup that is stalled isn't done
   pub stopped-kept : (call : Call C) (settings : Settings) (s : Startup) (before after : ℕ) → Means call.config settings →
       StopsOpening settings call.nonce call.before call.after s (error.Stalled before after) → NoneKeptBack {T = Unit {0}} (meaning_of speech) call (Err (faults.Stalled before after))
-  stopped-kept call settings s before after means h steady at_once =
+  stopped-kept call settings s before after means h steady none =
       let rests = rests-so h.waited h.polled call.after h.fails.2 in
       let o = h.opening in
       let idle = h.goes_on.idle (h.keeps.steady steady) in (
         settings,
         means,
         of_grown call.before call.after o.got o.sent
-            (λ g t. ((used : ℕ) × ((startup_after (apart call) settings g).outcome ≡ Done used)) → AllSent call t)
+            (λ g t. ((used : ℕ) × ((startup_after (apart call) settings g).outcome ≡ Done used)) → AllSent call settings g t)
             (rests.bytes.given ∙ o.given) (rests.bytes.taken ∙ o.taken)
             (λ started. absurd (not-done (startup_after (apart call) settings o.got).outcome started.0 (waits-more (apart call) settings s h.polled o idle) started.1)),
       )
@@ -318,10 +328,11 @@ module _ {C T A E : Type 0} (speech : Speech C T A E) where
 
     pub none-kept : (call : Call C) (settings : Settings) (opening : List ℕ) (first : List RawMessage) (new : SessionState T A E) (link : LinkView) (turns : List ℕ) → IsNewSession speech call.scripts new →
         new.streams.closing ≡ false → new.streams.delivered ≡ 0 → (s : SessionState T A E) (l : LinkView) (t : SessionState T A E) (m : LinkView) → (made : MakesAll speech call.scripts turns new link t m) → (before after : ℕ) →
-        Means call.config settings → IsDone settings call.nonce opening first → Keeps call.before l → StoodIn speech opening first call.before t m → AsksWhole speech t → QuietRound speech call.scripts s l t m →
+        Means call.config settings → NeedsNoTls settings → IsDone settings call.nonce opening first → Keeps call.before l → StoodIn speech opening first call.before t m → AsksWhole speech t → QuietRound speech call.scripts s l t m →
         CameSo first call.before m t.streams (delivered_by (calls_in speech call.scripts turns new link t m made)) → t.streams.given < 2 ^ 64 → call.after.given ≡ m.given → call.after.taken ≡ m.taken →
         NoneKeptBack {T = Unit {0}} (meaning_of speech) call (Err (faults.Stalled before after))
-    none-kept call settings opening first new link turns is_new active none s l t m made before after means done keeps h whole q came low given taken steady at_once =
+    unfolding came-here sent-by Rattle.pg_session.proofs.SentSoFar.sent-behind
+    none-kept call settings opening first new link turns is_new active none s l t m made before after means plain done keeps h whole q came low given taken steady copies =
         let goes = q.polled.turns.goes in
         let settled = (went-quietly speech (fresh s.streams) (left_open t.streams) l m goes.events q.unmoved q.not_full goes.ended (λ closing. goes.passes.still_closing closing)).settled (keeps.steady steady) in
         let st = state_of q.reached in
@@ -330,36 +341,67 @@ module _ {C T A E : Type 0} (speech : Speech C T A E) where
         let out = quiet-out st goes.events tame.ended goes.calls (none-moved q.hub t.hub s.streams t.streams l m _ false q.polled q.unmoved) (goes.became.stands st q.before).0 settled.none_left settled.not_over in
         let k = kept-by speech commands books call.scripts turns new link t m is_new active none made first call.before came low [] in
         let so : Now = record { turns = length t.trace; asked = asks speech commands books call.scripts turns new link t m is_new active none made first call.before came low; state = k.state } in
-        let many : count_by is_some_script call.scripts ≤ later 0 (book_of so) =
-        one-each 0 call.scripts (book_of so) (λ i script at some.
-        let handle = past-there call.scripts t.handles i script k.many at in
-        let past = past-there call.scripts k.all.pasts i script k.all.as_many at in
-        let quiet = q.quiet i handle.0 handle.1 in
-        let same : quiet.0 ≡ script = same_Some quiet.0 script (sym quiet.1 ∙ at) in
-        let c = first-of script some (all-get (AsksAtOnce (meaning_of speech)) call.scripts i script at at_once) in
-        let booked = first-asked _ script i handle.0 past.0 so st c.0 c.1.0 c.1.1 some (subst (λ (x : List C). IsQuiet speech x st handle.0) same quiet.2) (k.all.each i script handle.0 past.0 at handle.1 past.1) in
-        let here : i ≡ 0 + i = omega arith in
-        subst (λ (n : ℕ). 1 ≤ own n (book_of so)) here (omega (arith, booked, some-of i 0 0 (book_of so)))) in
-        let units = units-are speech (apart call) settings opening first t l m goes.events done h whole settled in
-        let all : AllSent call h.taken =
+        let book : List Booking = map said_booking t.hub.book in
+        let same : book_of so ≡ book = ap (map said_booking) (sym k.fits.book) in
+        -- all parts went out
+        let many_out : length (wire now.book) ≤ length now.gone_out =
         omega (
           arith,
-          many,
-          later-within 0 (book_of so),
-          units,
           dropped (length st.gone_out) (wire st.book) out.parts,
           asks-wire st.book tame.asks,
           asks-out st q.reached.fits.in_order tame.asks,
           q.reached.fits.parts.started,
           asks-out now h.fits.in_order (tame-in now t.hub h.fits whole.hub.tame).asks,
+          asks-wire now.book (tame-in now t.hub h.fits whole.hub.tame).asks,
           h.fits.parts.started,
           ap length q.reached.fits.book,
-          ap length k.fits.book,
-          length-map k.state.book said_booking,
-        ) in (
+          ap length h.fits.book,
+        ) in
+        let all_out : now.gone_out ≡ wire now.book = whole-front now.gone_out (wire now.book) (legal-sound 0 0 h.events h.legal).out_is_front (drop-many (length now.gone_out) (wire now.book) many_out) in
+        let bytes : h.taken ≡ opening ++ said.wire book =
+        taken-is speech (apart call) settings opening first t l m goes.events done h whole settled
+        ∙ ap (λ (parts : List (List ℕ)). opening ++ joined parts) all_out
+        ∙ ap (λ (x : List ℕ). opening ++ x) (wire-bytes now.book ∙ ap (λ (bs : List Asking). said.wire (map said_booking bs)) (sym h.fits.book)) in
+        let c = came-here first call.before m call.after t.streams (delivered_by (calls_in speech call.scripts turns new link t m made)) came given in
+        let sent : SentInOrder (meaning_of speech) call settings c.got h.taken =
+        sent-by speech commands books call.scripts turns new link t m is_new active none made first call.before came low call settings opening c.got h.taken c.others refl plain done c.are whole.hub.tame.asks
+        (front-taken opening h.taken t.streams.unsent t.streams.closing h.events t.hub.book h.legal h.out h.spent h.fits.book) in
+        let frames = (is-started settings call.nonce opening first (came.passed ++ c.others) (messages c.got) done c.are).frames in
+        -- each script that asks at once has one of its own
+        let own_one : (i : ℕ) (script : List C) → slice_get call.scripts i ≡ Some script → 0 < length script → AsksAtOnce (meaning_of speech) script → 1 ≤ length (requests_of (book_of so) i 0) = λ i script at some at_once.
+        let handle = past-there call.scripts t.handles i script k.many at in
+        let past = past-there call.scripts k.all.pasts i script k.all.as_many at in
+        let quiet = q.quiet i handle.0 handle.1 in
+        let such : quiet.0 ≡ script = same_Some quiet.0 script (sym quiet.1 ∙ at) in
+        let c = first-of script some at_once in
+        first-asked _ script i handle.0 past.0 so st c.0 c.1.0 c.1.1 some (subst (λ (x : List C). IsQuiet speech x st handle.0) such quiet.2) (k.all.each i script handle.0 past.0 at handle.1 past.1) in
+        let units = units-are speech (apart call) settings opening first t l m goes.events done h whole settled in
+        let result : AllSent call settings c.got h.taken = record {
+          asked = sent;
+          whole = bytes ∙ ap (λ (x : List ℕ). x ++ said.wire book) (sym frames);
+          ended = all-ended t.hub.book whole.hub.tame.asks;
+          own = λ i script at some at_once. subst (λ (bs : List Booking). 1 ≤ length (requests_of bs i 0)) same (own_one i script at some at_once);
+          count = λ at_once.
+              let many : count_by is_some_script call.scripts ≤ later 0 (book_of so) =
+              one-each 0 call.scripts (book_of so) (λ i script at some.
+              let booked = own_one i script at some (all-get (AsksAtOnce (meaning_of speech)) call.scripts i script at at_once) in
+              let here : i ≡ 0 + i = omega arith in
+              subst (λ (n : ℕ). 1 ≤ own n (book_of so)) here (omega (arith, booked, some-of i 0 0 (book_of so)))) in
+              omega (
+                arith,
+                many,
+                later-within 0 (book_of so),
+                units,
+                many_out,
+                asks-wire now.book (tame-in now t.hub h.fits whole.hub.tame).asks,
+                ap length h.fits.book,
+                ap length k.fits.book,
+                length-map k.state.book said_booking,
+              );
+        } in (
           settings,
           means,
-          of_grown call.before call.after h.given h.taken
-              (λ g t. ((used : ℕ) × ((startup_after (apart call) settings g).outcome ≡ Done used)) → AllSent call t)
-              (given ∙ h.gave) (taken ∙ h.took) (λ started. all),
+          of_grown call.before call.after c.got h.taken
+              (λ g t. ((used : ℕ) × ((startup_after (apart call) settings g).outcome ≡ Done used)) → AllSent call settings g t)
+              c.given (taken ∙ h.took) (λ started. result),
         )
