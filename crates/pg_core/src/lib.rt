@@ -48,6 +48,6 @@ pub use lookup_laws::{
 };
 pub use making::columns_of;
 pub use maybe::Maybe;
-pub use prepares::{FindsTypes, Makes, MakesStatement, Prepares, prepares_text};
+pub use prepares::{FindsTypes, Makes, MakesStatement, Prepares};
 pub use ready::{Answered, Ready};
 pub use then::Then;

@@ -10,9 +10,12 @@ use crate::making::statement_of;
 use crate::ready::{Answered, Ready};
 use crate::{Go, Maybe, OrAnswer, Then};
 use pg_desk::Statement;
-use pg_query::Script;
+use pg_errors::Error;
+use pg_query::{Cleanup, Reply, Script, Want};
 use pg_types::{List, Oid, Type};
+use pg_wire::{Message, WireFault};
 use std::alloc::{AllocError, Global};
+use std::collections::VecDeque;
 
 /// Makes the statement of the types that were found.
 #[derive(Drop)]
@@ -70,22 +73,63 @@ impl<F: Finder> Go for FindsTypes<F> {
     }
 }
 
-/// Prepares a text, whose types are found by `F`. `S` is the search that it makes.
-pub type Prepares<'a, F, S> = Then<
+type PreparesThen<'a, F, S> = Then<
     Describes<'a>,
     OrAnswer<FindsTypes<F>>,
     Maybe<Statement, MakesStatement<S>>,
 >;
 
-/// Prepares this text, with the types of its first parameters. It takes no memory.
-pub fn prepares_text<'a, F: Finder>(
-    text: &'a str,
-    oids: &'a [Oid],
-    finder: F,
-) -> Prepares<'a, F, F::Search>
-    ensures dialogue { ⟦<Prepares<'a, F, F::Search> as Script>⟧.dialogue result ≡ spec.prepares (F.finds finder) text.now oids.now }
-    ensures steps { ⟦<Prepares<'a, F, F::Search> as Script>⟧.steps result ≤ 3 + F.most finder }
-{
-    let go = FindsTypes { finder };
-    Then::First(describes_text(text, oids), OrAnswer { go })
+/// Prepares a text, whose types are found by `F`. `S` is the search that it makes.
+#[derive(Drop)]
+pub struct Prepares<'a, F, S> {
+    script: PreparesThen<'a, F, S>,
+}
+
+impl<'a, F: Finder> Prepares<'a, F, F::Search> {
+    /// This text, with the types of its first parameters. It takes no memory.
+    pub fn new(text: &'a str, oids: &'a [Oid], finder: F) -> Prepares<'a, F, F::Search>
+        ensures dialogue { ⟦<Prepares<'a, F, F::Search> as Script>⟧.dialogue result ≡ spec.prepares (F.finds finder) text.now oids.now }
+        ensures steps { ⟦<Prepares<'a, F, F::Search> as Script>⟧.steps result ≤ 3 + F.most finder }
+    {
+        let go = FindsTypes { finder };
+        Prepares {
+            script: Then::First(describes_text(text, oids), OrAnswer { go }),
+        }
+    }
+}
+
+impl<'a, F: Finder> Script for Prepares<'a, F, F::Search> {
+    type Output = Statement;
+
+    ghost dialogue = { λ s. ⟦<PreparesThen<'a, F, F::Search> as Script>⟧.dialogue s.script };
+
+    ghost refuses = { λ s. ⟦<PreparesThen<'a, F, F::Search> as Script>⟧.refuses s.script };
+
+    ghost waits = { λ s. ⟦<PreparesThen<'a, F, F::Search> as Script>⟧.waits s.script };
+
+    ghost steps = { λ s. ⟦<PreparesThen<'a, F, F::Search> as Script>⟧.steps s.script };
+
+    fn next(&mut self, alloc: Global) -> Result<Want<Statement>, AllocError> {
+        self.script.next(alloc)
+    }
+
+    fn message(
+        &mut self,
+        alloc: Global,
+        message: &Result<Message, WireFault>,
+    ) -> Result<Want<Statement>, AllocError> {
+        self.script.message(alloc, message)
+    }
+
+    fn reply(&mut self, alloc: Global, reply: Reply) -> Result<Want<Statement>, AllocError> {
+        self.script.reply(alloc, reply)
+    }
+
+    fn refused(&mut self, alloc: Global, error: Error) -> Result<Want<Statement>, AllocError> {
+        self.script.refused(alloc, error)
+    }
+
+    fn cleanup(&self, alloc: Global) -> Result<VecDeque<Cleanup>, AllocError> {
+        self.script.cleanup(alloc)
+    }
 }

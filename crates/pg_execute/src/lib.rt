@@ -62,8 +62,8 @@ pub use laws::{
     values_of_one_column,
 };
 pub use make::{Make, Scalars, WholeRows};
-pub use on_statement::{OnStatement, executes_borrowed, executes_owned};
-pub use on_text::{Closes, OnText, executes_text};
+pub use on_statement::OnStatement;
+pub use on_text::{Closes, OnText};
 pub use query_typed::{AsksTyped, QueryTyped, queries_typed};
 pub use reads_on::ReadsOn;
 pub use request::{ask, close_bytes, close_request, execute_request};

@@ -7,8 +7,8 @@ ghost use Rattle.pg_core.specs.Prepares.{prepares};
 
 use crate::either::Either;
 use crate::form::Form;
-use crate::on_statement::{OnStatement, executes_borrowed, executes_owned};
-use crate::on_text::{OnText, executes_text};
+use crate::on_statement::OnStatement;
+use crate::on_text::OnText;
 use pg_core::Finder;
 use pg_desk::Statement;
 use pg_query::{Reading, Script};
@@ -38,8 +38,10 @@ pub fn on_target<'a, F: Finder, E: Form>(
         ≡ on_target (λ text. prepares (F.finds finder) text []) (λ s. executes (E.stops form) (E.reads form s) s values.now) target.entry }
 {
     match target {
-        Target::Query(text) => Either::Right(executes_text(text, finder, form, values)),
-        Target::Statement(statement) => { Either::Left(executes_borrowed(statement, form, values)) }
-        Target::Owned(statement) => { Either::Left(executes_owned(statement, form, values)) }
+        Target::Query(text) => Either::Right(OnText::new(text, finder, form, values)),
+        Target::Statement(statement) => {
+            Either::Left(OnStatement::borrowed(statement, form, values))
+        }
+        Target::Owned(statement) => { Either::Left(OnStatement::new(statement, form, values)) }
     }
 }

@@ -7,9 +7,7 @@ ghost use Rattle.pg_core.specs.Lookups as spec;
 ghost use Rattle.pg_search.specs.Asking.{first_steps, lookup_steps, prepare_steps, second_steps};
 
 use crate::{Keeps, Kept, is_unknown, lookup_text};
-use pg_core::{
-    Follow, Go, Known, KnownTypes, Maybe, OrAnswer, Prepares, Then, prepares_text as prepares,
-};
+use pg_core::{Follow, Go, Known, KnownTypes, Maybe, OrAnswer, Prepares, Then};
 use pg_desk::{Lookup, Statement};
 use pg_errors::Error;
 use pg_query::{Cleanup, Reply, Script, Want};
@@ -17,58 +15,15 @@ use pg_wire::{Message, WireFault};
 use std::alloc::{AllocError, Global};
 use std::collections::VecDeque;
 
-type PreparesThen = Prepares<'static, Known, KnownTypes>;
-
 /// A lookup text that is prepared.
-#[derive(Drop)]
-pub struct PreparesText {
-    script: PreparesThen,
-}
+pub type PreparesText = Prepares<'static, Known, KnownTypes>;
 
 /// Prepares a text, all of whose types must be known.
 fn prepares_text(which: Lookup, first: bool) -> PreparesText
     ensures dialogue { ⟦<PreparesText as Script>⟧.dialogue result ≡ spec.prepared which first }
     ensures steps { ⟦<PreparesText as Script>⟧.steps result ≤ prepare_steps }
 {
-    PreparesText {
-        script: prepares(lookup_text(which, first), &[], Known {}),
-    }
-}
-
-impl Script for PreparesText {
-    type Output = Statement;
-
-    ghost dialogue = { λ s. ⟦<PreparesThen as Script>⟧.dialogue s.script };
-
-    ghost refuses = { λ s. ⟦<PreparesThen as Script>⟧.refuses s.script };
-
-    ghost waits = { λ s. ⟦<PreparesThen as Script>⟧.waits s.script };
-
-    ghost steps = { λ s. ⟦<PreparesThen as Script>⟧.steps s.script };
-
-    fn next(&mut self, alloc: Global) -> Result<Want<Statement>, AllocError> {
-        self.script.next(alloc)
-    }
-
-    fn message(
-        &mut self,
-        alloc: Global,
-        message: &Result<Message, WireFault>,
-    ) -> Result<Want<Statement>, AllocError> {
-        self.script.message(alloc, message)
-    }
-
-    fn reply(&mut self, alloc: Global, reply: Reply) -> Result<Want<Statement>, AllocError> {
-        self.script.reply(alloc, reply)
-    }
-
-    fn refused(&mut self, alloc: Global, error: Error) -> Result<Want<Statement>, AllocError> {
-        self.script.refused(alloc, error)
-    }
-
-    fn cleanup(&self, alloc: Global) -> Result<VecDeque<Cleanup>, AllocError> {
-        self.script.cleanup(alloc)
-    }
+    Prepares::new(lookup_text(which, first), &[], Known {})
 }
 
 /// Goes on with a prepared statement, which the desk is to keep.

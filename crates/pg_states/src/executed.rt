@@ -10,63 +10,11 @@ use futures::task::Poll;
 use pg_desk::{Desk, Stamp};
 use pg_errors::Error;
 use pg_execute::{Form, OnTarget, Target, on_target};
-use pg_query::{Cleanup, Command, Polled, Reading, Reply, Script, Want};
+use pg_query::{Command, Polled, Reading, Script};
 use pg_types::Value;
-use pg_wire::{Message, WireFault};
-use std::alloc::{AllocError, Global};
-use std::collections::VecDeque;
+use std::alloc::Global;
 
-type Executes<'a, E, R, T> = OnTarget<'a, Finds, Searches, E, R, T>;
-
-/// A statement or a text that is executed in a form, as a script of its own: who lets one go needn't know what it is put together of.
-#[derive(Drop)]
-pub(crate) struct InForm<'a, E, R, T> {
-    script: Executes<'a, E, R, T>,
-}
-
-impl<'a, E: Form> Script for InForm<'a, E, E::Reading, <E::Reading as Reading>::Output> {
-    type Output = <E::Reading as Reading>::Output;
-
-    ghost dialogue = { λ s. ⟦<Executes<'a, E, E::Reading, <E::Reading as Reading>::Output> as Script>⟧.dialogue s.script };
-
-    ghost refuses = { λ s. ⟦<Executes<'a, E, E::Reading, <E::Reading as Reading>::Output> as Script>⟧.refuses s.script };
-
-    ghost waits = { λ s. ⟦<Executes<'a, E, E::Reading, <E::Reading as Reading>::Output> as Script>⟧.waits s.script };
-
-    ghost steps = { λ s. ⟦<Executes<'a, E, E::Reading, <E::Reading as Reading>::Output> as Script>⟧.steps s.script };
-
-    fn next(&mut self, alloc: Global) -> Result<Want<<E::Reading as Reading>::Output>, AllocError> {
-        self.script.next(alloc)
-    }
-
-    fn message(
-        &mut self,
-        alloc: Global,
-        message: &Result<Message, WireFault>,
-    ) -> Result<Want<<E::Reading as Reading>::Output>, AllocError> {
-        self.script.message(alloc, message)
-    }
-
-    fn reply(
-        &mut self,
-        alloc: Global,
-        reply: Reply,
-    ) -> Result<Want<<E::Reading as Reading>::Output>, AllocError> {
-        self.script.reply(alloc, reply)
-    }
-
-    fn refused(
-        &mut self,
-        alloc: Global,
-        error: Error,
-    ) -> Result<Want<<E::Reading as Reading>::Output>, AllocError> {
-        self.script.refused(alloc, error)
-    }
-
-    fn cleanup(&self, alloc: Global) -> Result<VecDeque<Cleanup>, AllocError> {
-        self.script.cleanup(alloc)
-    }
-}
+type InForm<'a, E, R, T> = OnTarget<'a, Finds, Searches, E, R, T>;
 
 /// The state that executes a statement or a text with values. What its form makes of the reply is the answer.
 #[derive(Drop)]
@@ -81,9 +29,7 @@ impl<'a, E: Form> Executed<'a, E> {
         ensures asks { (⟦<Executed<'a, E> as Polled>⟧.place result).dialogue ≡ on_target prepare_text (λ s. executes (E.stops form) (E.reads form s) s values.now) target.entry }
     {
         Executed {
-            command: Command::new(InForm {
-                script: on_target(target, Finds {}, form, values),
-            }),
+            command: Command::new(on_target(target, Finds {}, form, values)),
         }
     }
 }
