@@ -80,9 +80,15 @@ type PreparesThen<'a, F, S> = Then<
 >;
 
 /// Prepares a text, whose types are found by `F`. `S` is the search that it makes.
-#[derive(Drop)]
 pub struct Prepares<'a, F, S> {
     script: PreparesThen<'a, F, S>,
+}
+
+impl<'a, F: Drop, S: Drop> Drop for Prepares<'a, F, S> {
+    fn drop(self) {
+        let Prepares { script } = self;
+        drop(script);
+    }
 }
 
 impl<'a, F: Finder> Prepares<'a, F, F::Search> {

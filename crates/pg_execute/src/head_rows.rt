@@ -53,9 +53,15 @@ type HeadThen<F, S> = Then<
 
 /// Sends a request, reads the columns of its reply, and then its rows. Types that aren't known are found by `F`; `S` is
 /// the search that it makes.
-#[derive(Drop)]
 pub struct HeadRows<F, S> {
     script: HeadThen<F, S>,
+}
+
+impl<F: Drop, S: Drop> Drop for HeadRows<F, S> {
+    fn drop(self) {
+        let HeadRows { script } = self;
+        drop(script);
+    }
 }
 
 impl<F: Finder> HeadRows<F, F::Search> {

@@ -22,9 +22,15 @@ type StatementThen<'a, F, R, T> = Then<
 >;
 
 /// Executes a statement with values. `R` is the reading that the form makes, and `T` its answer.
-#[derive(Drop)]
 pub struct OnStatement<'a, F, R, T> {
     script: StatementThen<'a, F, R, T>,
+}
+
+impl<'a, F: Drop, R: Drop, T: Drop> Drop for OnStatement<'a, F, R, T> {
+    fn drop(self) {
+        let OnStatement { script } = self;
+        drop(script);
+    }
 }
 
 impl<'a, F: Form> OnStatement<'a, F, F::Reading, <F::Reading as Reading>::Output> {

@@ -66,9 +66,15 @@ type TextThen<'a, F, S, E, R, T> = Then<
 
 /// Prepares a text, whose types are found by `F`, executes it with values, and closes it. `S` is the search that `F`
 /// makes, `R` the reading that the form `E` makes, and `T` its answer.
-#[derive(Drop)]
 pub struct OnText<'a, F, S, E, R, T> {
     script: TextThen<'a, F, S, E, R, T>,
+}
+
+impl<'a, F: Drop, S: Drop, E: Drop, R: Drop, T: Drop> Drop for OnText<'a, F, S, E, R, T> {
+    fn drop(self) {
+        let OnText { script } = self;
+        drop(script);
+    }
 }
 
 impl<'a, F: Finder, E: Form> OnText<

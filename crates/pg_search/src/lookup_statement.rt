@@ -51,9 +51,15 @@ impl Go for KeepsIt {
 type SecondThen = Then<Maybe<Statement, PreparesText>, OrAnswer<KeepsIt>, Maybe<Statement, Keeps>>;
 
 /// What comes behind the first text: its answer, or what the second text gives; a statement is kept.
-#[derive(Drop)]
 pub struct SecondText {
     script: Box<SecondThen>,
+}
+
+impl Drop for SecondText {
+    fn drop(self) {
+        let SecondText { script } = self;
+        drop(script);
+    }
 }
 
 impl SecondText {
@@ -174,9 +180,15 @@ impl Follow for OrSecond {
 type FirstThen = Then<PreparesText, OrSecond, SecondText>;
 
 /// A statement that is prepared, by its first text or its second, and kept.
-#[derive(Drop)]
 pub struct FirstText {
     script: Box<FirstThen>,
+}
+
+impl Drop for FirstText {
+    fn drop(self) {
+        let FirstText { script } = self;
+        drop(script);
+    }
 }
 
 impl FirstText {
@@ -270,9 +282,15 @@ type LookupThen = Then<Kept, OrAnswer<OrFirst>, Maybe<Statement, FoundOrFirst>>;
 
 /// The statement that looks something up: the one that the desk keeps, or else one that is prepared, by its first
 /// text or its second, and that the desk keeps from then on.
-#[derive(Drop)]
 pub struct LookupStatement {
     script: LookupThen,
+}
+
+impl Drop for LookupStatement {
+    fn drop(self) {
+        let LookupStatement { script } = self;
+        drop(script);
+    }
 }
 
 impl LookupStatement {

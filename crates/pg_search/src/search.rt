@@ -48,11 +48,19 @@ pub(crate) enum Job<R, L, F> {
 }
 
 /// The search for the types of several oids.
-#[derive(Drop)]
 pub struct Search<A, R, L, F> {
     pub(crate) asker: A,
     pub(crate) stack: Stack,
     pub(crate) job: Job<R, L, F>,
+}
+
+impl<A: Drop, R: Drop, L: Drop, F: Drop> Drop for Search<A, R, L, F> {
+    fn drop(self) {
+        let Search { asker, stack, job } = self;
+        drop(asker);
+        drop(stack);
+        drop(job);
+    }
 }
 
 /// The type that the desk keeps, where it was asked for one.

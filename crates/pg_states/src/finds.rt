@@ -14,9 +14,15 @@ use std::collections::VecDeque;
 type Searched = Search<Catalog, RowOf, LabelsOf, FieldsOf>;
 
 /// The search for types in the server's catalog. It is a type of its own, so that what holds one doesn't spell out all of it.
-#[derive(Drop)]
 pub struct Searches {
     search: Searched,
+}
+
+impl Drop for Searches {
+    fn drop(self) {
+        let Searches { search } = self;
+        drop(search);
+    }
 }
 
 impl Script for Searches {
