@@ -11,9 +11,15 @@ use pg_query::{Command, Polled};
 use std::alloc::Global;
 
 /// The state of a check of the connection.
-#[derive(Drop)]
 pub struct CheckConnectionState {
     command: Command<DoneScript<'static>>,
+}
+
+impl Drop for CheckConnectionState {
+    fn drop(self) {
+        let CheckConnectionState { command } = self;
+        drop(command);
+    }
 }
 
 impl CheckConnectionState {

@@ -12,9 +12,15 @@ use pg_query::{Command, Polled};
 use std::alloc::Global;
 
 /// The state of a check of a session.
-#[derive(Drop)]
 pub struct SessionCheckState {
     command: Command<ShowScript>,
+}
+
+impl Drop for SessionCheckState {
+    fn drop(self) {
+        let SessionCheckState { command } = self;
+        drop(command);
+    }
 }
 
 impl SessionCheckState {

@@ -14,9 +14,15 @@ use pg_types::List;
 use std::alloc::Global;
 
 /// The state of a simple query.
-#[derive(Drop)]
 pub struct SimpleQueryState<'a> {
     command: Command<SimpleScript<'a>>,
+}
+
+impl<'a> Drop for SimpleQueryState<'a> {
+    fn drop(self) {
+        let SimpleQueryState { command } = self;
+        drop(command);
+    }
 }
 
 impl<'a> SimpleQueryState<'a> {
@@ -60,9 +66,15 @@ impl<'a> Polled for SimpleQueryState<'a> {
 }
 
 /// The state of a batch of statements, sent as one simple query of which only the end is told.
-#[derive(Drop)]
 pub struct BatchExecuteState<'a> {
     command: Command<DoneScript<'a>>,
+}
+
+impl<'a> Drop for BatchExecuteState<'a> {
+    fn drop(self) {
+        let BatchExecuteState { command } = self;
+        drop(command);
+    }
 }
 
 impl<'a> BatchExecuteState<'a> {

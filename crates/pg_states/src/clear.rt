@@ -11,9 +11,15 @@ use pg_query::{Command, Polled};
 use std::alloc::Global;
 
 /// The state that drops the types that are cached.
-#[derive(Drop)]
 pub struct ClearState {
     command: Command<Clearing>,
+}
+
+impl Drop for ClearState {
+    fn drop(self) {
+        let ClearState { command } = self;
+        drop(command);
+    }
 }
 
 impl ClearState {

@@ -11,9 +11,15 @@ use pg_query::{Command, Polled};
 use std::alloc::Global;
 
 /// The state that closes a statement. Nobody reads the server's reply.
-#[derive(Drop)]
 pub struct CloseState<'a> {
     command: Command<Closing<'a>>,
+}
+
+impl<'a> Drop for CloseState<'a> {
+    fn drop(self) {
+        let CloseState { command } = self;
+        drop(command);
+    }
 }
 
 impl<'a> CloseState<'a> {

@@ -15,9 +15,15 @@ use pg_types::Value;
 use std::alloc::Global;
 
 /// The state that executes a statement or a text as an execution. How many rows it affected is the answer.
-#[derive(Drop)]
 pub struct ExecuteState<'a> {
     state: Executed<'a, Count>,
+}
+
+impl<'a> Drop for ExecuteState<'a> {
+    fn drop(self) {
+        let ExecuteState { state } = self;
+        drop(state);
+    }
 }
 
 impl<'a> ExecuteState<'a> {

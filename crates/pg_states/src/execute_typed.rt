@@ -29,9 +29,15 @@ fn of_pairs<'a>(text: &'a str, types: Types<'a>, count: usize, values: &'a [Valu
 
 /// The state that executes a text with values of given types, in one request. How many rows its last command affected is
 /// the answer.
-#[derive(Drop)]
 pub struct ExecuteTypedState<'a> {
     command: Command<Executed<'a>>,
+}
+
+impl<'a> Drop for ExecuteTypedState<'a> {
+    fn drop(self) {
+        let ExecuteTypedState { command } = self;
+        drop(command);
+    }
 }
 
 impl<'a> ExecuteTypedState<'a> {

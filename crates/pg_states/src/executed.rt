@@ -17,9 +17,15 @@ use std::alloc::Global;
 type InForm<'a, E, R, T> = OnTarget<'a, Finds, Searches, E, R, T>;
 
 /// The state that executes a statement or a text with values. What its form makes of the reply is the answer.
-#[derive(Drop)]
 pub(crate) struct Executed<'a, E: Form> {
     command: Command<InForm<'a, E, E::Reading, <E::Reading as Reading>::Output>>,
+}
+
+impl<'a, E: Form> Drop for Executed<'a, E> {
+    fn drop(self) {
+        let Executed { command } = self;
+        drop(command);
+    }
 }
 
 impl<'a, E: Form> Executed<'a, E> {

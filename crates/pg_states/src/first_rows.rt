@@ -16,9 +16,15 @@ use std::alloc::Global;
 
 /// The state that executes a statement or a text as a query. Its first rows are the answer; once so many came the request is
 /// hung up.
-#[derive(Drop)]
 pub struct FirstRowsState<'a> {
     state: Executed<'a, First<WholeRows>>,
+}
+
+impl<'a> Drop for FirstRowsState<'a> {
+    fn drop(self) {
+        let FirstRowsState { state } = self;
+        drop(state);
+    }
 }
 
 impl<'a> FirstRowsState<'a> {

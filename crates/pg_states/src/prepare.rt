@@ -15,9 +15,15 @@ use std::alloc::Global;
 type Prepared<'a> = Prepares<'a, Finds, Searches>;
 
 /// The state that prepares a text: the server describes it, and the types of its parameters and columns are found.
-#[derive(Drop)]
 pub struct PrepareState<'a> {
     command: Command<Prepared<'a>>,
+}
+
+impl<'a> Drop for PrepareState<'a> {
+    fn drop(self) {
+        let PrepareState { command } = self;
+        drop(command);
+    }
 }
 
 impl<'a> PrepareState<'a> {

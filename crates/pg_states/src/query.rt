@@ -15,9 +15,15 @@ use pg_types::Value;
 use std::alloc::Global;
 
 /// The state that executes a statement or a text as a query. Its rows are the answer.
-#[derive(Drop)]
 pub struct QueryState<'a> {
     state: Executed<'a, Query<WholeRows>>,
+}
+
+impl<'a> Drop for QueryState<'a> {
+    fn drop(self) {
+        let QueryState { state } = self;
+        drop(state);
+    }
 }
 
 impl<'a> QueryState<'a> {

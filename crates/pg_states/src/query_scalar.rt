@@ -15,9 +15,15 @@ use pg_types::{List, Value};
 use std::alloc::Global;
 
 /// The state that executes a statement or a text as a query of one column. The values of its column are the answer.
-#[derive(Drop)]
 pub struct QueryScalarState<'a> {
     state: Executed<'a, Query<Scalars>>,
+}
+
+impl<'a> Drop for QueryScalarState<'a> {
+    fn drop(self) {
+        let QueryScalarState { state } = self;
+        drop(state);
+    }
 }
 
 impl<'a> QueryScalarState<'a> {

@@ -38,9 +38,15 @@ fn of_pairs<'a>(
 }
 
 /// The state that queries a text with values of given types, in one request. Its rows are the answer.
-#[derive(Drop)]
 pub struct QueryTypedState<'a> {
     command: Command<Queried<'a>>,
+}
+
+impl<'a> Drop for QueryTypedState<'a> {
+    fn drop(self) {
+        let QueryTypedState { command } = self;
+        drop(command);
+    }
 }
 
 impl<'a> QueryTypedState<'a> {

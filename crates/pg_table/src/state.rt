@@ -20,7 +20,6 @@ use pg_types::{List, OutOfMemory, Value};
 use std::alloc::Global;
 
 /// The state of a command that runs. It stands on the heap, so that what holds it is small.
-#[derive(Drop)]
 pub enum AnyState<'a> {
     Simple(Box<SimpleQueryState<'a>>),
     Batch(Box<BatchExecuteState<'a>>),
@@ -35,6 +34,26 @@ pub enum AnyState<'a> {
     ExecuteTyped(Box<ExecuteTypedState<'a>>),
     Close(Box<CloseState<'a>>),
     Missing(Box<MissingState>),
+}
+
+impl<'a> Drop for AnyState<'a> {
+    fn drop(self) {
+        match self {
+            AnyState::Simple(_it) => {}
+            AnyState::Batch(_it) => {}
+            AnyState::Check(_it) => {}
+            AnyState::Prepare(_it) => {}
+            AnyState::Clear(_it) => {}
+            AnyState::Query(_it) => {}
+            AnyState::QueryRaw(_it) => {}
+            AnyState::Scalar(_it) => {}
+            AnyState::Execute(_it) => {}
+            AnyState::QueryTyped(_it) => {}
+            AnyState::ExecuteTyped(_it) => {}
+            AnyState::Close(_it) => {}
+            AnyState::Missing(_it) => {}
+        }
+    }
 }
 
 /// What a state answers.
