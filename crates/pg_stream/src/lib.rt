@@ -2,10 +2,13 @@
 #![tactic(auto)]
 
 mod ahead;
+mod crossed;
 mod heard;
 mod inlet;
 mod outlet;
 mod stream_link;
 mod tally;
+mod told_link;
 
 pub use stream_link::StreamLink;
+pub use told_link::Told;

@@ -6,7 +6,7 @@ mod opened;
 ghost use Rattle.std.specs.Prelude.{◌≡◌};
 
 use crate::opened::Opened;
-use pg_stream::StreamLink;
+use pg_stream::{StreamLink, Told};
 use pg_tool::{Outcome, run};
 use pg_wire::{MemoryLink, ReadSource, WriteSink};
 use std::process::ExitCode;
@@ -43,7 +43,8 @@ fn play(rt: &HostRuntime, words: &[String]) -> u8 {
     status_of(outcome)
 }
 
-/// A session text in a file, its report in another, which is made or emptied; its link is standard input and output.
+/// A session text in a file, its report in another, which is made or emptied; its link is standard input and output, and
+/// tells the bytes that cross it.
 fn pipe(rt: &HostRuntime, words: &[String], file: &str, report: &str) -> u8 {
     let alloc = rt.alloc();
     let mut source = match fs::open(rt, file) {
@@ -55,7 +56,8 @@ fn pipe(rt: &HostRuntime, words: &[String], file: &str, report: &str) -> u8 {
         Err(_) => Opened::Missing(0),
     };
     match StreamLink::new(alloc, rt.reader(), io::writer(rt)) {
-        Ok(mut link) => {
+        Ok(link) => {
+            let mut link = Told::new(link);
             let outcome = run(alloc, words, &mut source, &mut sink, &mut link);
             status_of(outcome)
         }
