@@ -16,3 +16,5 @@ pub mod WellMade
 pub mod Neither
 pub mod Requiring
 pub mod Piped
+pub mod Foreseeing
+pub mod Handled
