@@ -18,3 +18,5 @@ pub mod Requiring
 pub mod Piped
 pub mod Foreseeing
 pub mod Handled
+pub mod Wholly
+pub mod SharedType

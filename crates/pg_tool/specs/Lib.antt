@@ -9,3 +9,4 @@ pub mod TableContract
 pub mod ReadsOwn
 pub mod Required
 pub mod Foreseen
+pub mod Worked

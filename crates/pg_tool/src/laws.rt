@@ -15,10 +15,17 @@ ghost use Rattle.pg_text.specs.declared.report.Report.{Report};
 ghost use Rattle.pg_tool.specs.RunContract.{IsSimplyMade, IsWellMade};
 ghost use Rattle.pg_tool.specs.SessionContract.{SessionContract, ToldSimply};
 ghost use Rattle.pg_tool.specs.TableContract.{TableContract, table_result};
+ghost use Rattle.pg_tool.specs.Worked.{shared_text};
 
 /// A text that is well made is there: one client asks `SELECT 1`, and the plan is a conforming server's.
 pub fn some_text_is_well_made()
     ensures { IsWellMade (as_session good_text) }
+{}
+
+/// A text whose commands look a type up is well made too: one handle prepares two statements whose parameter is of the domain `age`, and the
+/// plan is a conforming server's. It has three replies for the first, which looks `age` up, and one for the second, whose desk keeps it.
+pub fn texts_that_look_types_up_are_well_made()
+    ensures { IsWellMade shared_text }
 {}
 
 /// A text of simple queries alone, whose plan answers its startup and has a reply for each request that its scripts ask, is well made.
