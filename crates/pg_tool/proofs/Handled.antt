@@ -246,18 +246,18 @@ module _ {C A E Q R : Type 0} (meaning : Meaning C A E Q R) (course : Course Q R
           length rs ≤ most
       by (inl way) later =
           let none = no-more booked handle end (suc place) x.later x.rise
-              (λ j le. sym (mine-later j (omega (arith, le))) ∙ (way.none_later j (omega (arith, le))).0) in
+          (λ j le. sym (mine-later j (omega (arith, le))) ∙ (way.none_later j (omega (arith, le))).0) in
           let some = way-few c place own before x.own y.own replies mine-own meant-own came.0 tells.0 way in
           omega (arith, count, none, some, asks_few.0)
       by (inr (ending, ended, rest)) later =
           let s = ended-same c place own before x.own y.own replies mine-own meant-own came.0 tells.0 ending ended in
           let behind : length (map reply x.own) ≡ length (foreseen_of meaning before replies own c).requests = length-map x.own reply ∙ sym s.2 in
           let less = later ending.own (before ++ (foreseen_of meaning before replies own c).asked) x.later y.later (drop (length (foreseen_of meaning before replies own c).requests) replies)
-              (most - length (foreseen_of meaning before replies own c).requests) (omega (arith, ends)) mine-later meant-later
-              (subst (λ (n : ℕ). Rise booked handle end n x.later) (sym next) x.rise) (subst (λ (n : ℕ). Rise asks handle end n y.later) (sym next) y.rise)
-              (subst (λ (n : ℕ). HaveCome (map reply x.later) (drop n replies)) behind came.1)
-              (subst (λ (l : List Q). AreTold meaning.tells (before ++ l) y.later) (sym s.1) tells.1)
-              rest (asks_few.1 ending s.0) in
+          (most - length (foreseen_of meaning before replies own c).requests) (omega (arith, ends)) mine-later meant-later
+          (subst (λ (n : ℕ). Rise booked handle end n x.later) (sym next) x.rise) (subst (λ (n : ℕ). Rise asks handle end n y.later) (sym next) y.rise)
+          (subst (λ (n : ℕ). HaveCome (map reply x.later) (drop n replies)) behind came.1)
+          (subst (λ (l : List Q). AreTold meaning.tells (before ++ l) y.later) (sym s.1) tells.1)
+          rest (asks_few.1 ending s.0) in
           omega (arith, count, s.2, asks_few.0, less)
 
 -- ---- one handle alone
@@ -305,9 +305,11 @@ module _ {C A E Q R : Type 0} (meaning : Meaning C A E Q R) (cs : List C) (cours
   have-come : (n : ℕ) (book : List Booking) → HaveCome (map (λ (r : Request). reply_to course (Some r.number)) (numbered n book)) (drop n all)
   have-come n [] = tt
   have-come n (b ∷ book) =
-      let next : n + 1 ≡ suc n = omega arith in
-      (came-at n, subst (λ (l : List (List RawMessage)). HaveCome (map (λ (r : Request). reply_to course (Some r.number)) (numbered (n + 1) book)) l)
-          (ap (λ (k : ℕ). drop k all) next ∙ sym (later-at n all)) (have-come (n + 1) book))
+      let next : n + 1 ≡ suc n = omega arith in (
+        came-at n,
+        subst (λ (l : List (List RawMessage)). HaveCome (map (λ (r : Request). reply_to course (Some r.number)) (numbered (n + 1) book)) l)
+            (ap (λ (k : ℕ). drop k all) next ∙ sym (later-at n all)) (have-come (n + 1) book),
+      )
 
   length-numbered : (n : ℕ) (book : List Booking) → length (numbered n book) ≡ length book
   length-numbered n [] = refl
@@ -325,8 +327,8 @@ module _ {C A E Q R : Type 0} (meaning : Meaning C A E Q R) (cs : List C) (cours
       let sorted = subst (λ (l : List Booking). IsNonDecreasingBy (λ b. b.stamp.command) l) (all-own (λ (b : Booking). b.stamp) 0 (length cs) course.book owned) (order.in_order 0) in
       let sorts = subst (λ (l : List (Asked Q R)). IsNonDecreasingBy (λ a. a.stamp.command) l) (all-own asks 0 (length cs) course.asked owns) (order.asked_in_order 0) in
       let less = few meaning course 0 (length cs) cs 0 meaning.begins [] (numbered 0 course.book) course.asked all most (omega arith)
-          (λ j le. refl) (λ j le. refl)
-          (rise-numbered 0 (length cs) 0 0 course.book (rise-all (λ (b : Booking). b.stamp) 0 (length cs) course.book owned sorted))
-          (rise-all asks 0 (length cs) course.asked owns sorts)
-          (have-come 0 course.book) order.told (order.each 0 cs refl) foreseen_so in
+      (λ j le. refl) (λ j le. refl)
+      (rise-numbered 0 (length cs) 0 0 course.book (rise-all (λ (b : Booking). b.stamp) 0 (length cs) course.book owned sorted))
+      (rise-all asks 0 (length cs) course.asked owns sorts)
+      (have-come 0 course.book) order.told (order.each 0 cs refl) foreseen_so in
       omega (arith, less, length-numbered 0 course.book)

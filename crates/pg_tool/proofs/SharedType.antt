@@ -51,10 +51,14 @@ module _ {C A E Q R : Type 0} (meaning : Meaning C A E Q R) (replies : List (Lis
   -- of the first so many requests, and of the second so many, whatever the script keeps of the first
   two-ask : (m n : ℕ) → length (foreseen_of meaning [] replies meaning.begins c).requests ≡ m →
       ((own : E) → length (foreseen_of meaning first_asks (drop m replies) own d).requests ≡ n) → AsksFew meaning [] replies meaning.begins (c ∷ d ∷ []) (m + n)
-  two-ask m n first second =
-      (omega (arith, first), λ ending e.
-      (subst (λ (k : ℕ). length (foreseen_of meaning first_asks (drop k replies) ending.own d).requests ≤ (m + n) - k) (sym first)
-      (let s = second ending.own in omega (arith, s)), λ last f. tt))
+  two-ask m n first second = (
+    omega (arith, first),
+    λ ending e. (
+      subst (λ (k : ℕ). length (foreseen_of meaning first_asks (drop k replies) ending.own d).requests ≤ (m + n) - k) (sym first)
+          (let s = second ending.own in omega (arith, s)),
+      λ last f. tt,
+    ),
+  )
 
 -- ---- the text
 
@@ -153,10 +157,9 @@ module _ (given taken : List ℕ) (front : IsFront given (concat (take (turns_gi
 
   module _ (used : ℕ) (done : (startup settings own.nonce (messages given)).outcome ≡ Done used) where
     two : used ≡ 2
-    two = ap used_of (
-    sym (done-later settings own.nonce (messages given) in-plan.0 used done)
-    ∙ ap (λ (ms : List RawMessage). (startup settings own.nonce ms).outcome) in-plan.1
-    ∙ done-later settings own.nonce (messages accepted) (messages (concat replied)) 2 started)
+    two = ap used_of (sym (done-later settings own.nonce (messages given) in-plan.0 used done)
+        ∙ ap (λ (ms : List RawMessage). (startup settings own.nonce ms).outcome) in-plan.1
+        ∙ done-later settings own.nonce (messages accepted) (messages (concat replied)) 2 started)
 
     behind : drop used (messages given) ++ in-plan.0 ≡ messages (concat replied)
     behind = sym (drop-append-le used (messages given) in-plan.0 (used-within settings own.nonce (messages given) used done))
@@ -175,7 +178,7 @@ module _ (given taken : List ℕ) (front : IsFront given (concat (take (turns_gi
     | inl few ↦ omega (arith, few, most, one_frame)
     | inr (over, few) ↦
         let less = few-alone meaning (Prepare 0 (codes "a") [] ∷ Prepare 1 (codes "b") [] ∷ []) (course_so_far own settings given sent.book sent.asked) sent.order
-            replies (fronts over.0 over.1) 4 four in
+        replies (fronts over.0 over.1) 4 four in
         omega (arith, few, most, less, one_frame)
   ]
     where

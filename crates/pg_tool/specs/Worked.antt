@@ -1,4 +1,5 @@
--- A text whose commands look a type up, over the plan of a server that conforms (PostgreSQL documentation, "Message Flow": "Extended Query").
+-- A text whose commands look a type up, over the plan of a server that conforms (PostgreSQL documentation, "Message Flow": "Extended
+-- Query").
 use Rattle.std.specs.Prelude.{ℕ, false, List, [], ◌∷◌, codes}
 use Rattle.pg_spec.specs.Examples.{accepted, hex}
 use Rattle.pg_spec.specs.SessionText.{default_nonce}
