@@ -15,4 +15,12 @@ pub mod Entries
 pub mod Isolated
 pub mod ByNames
 pub mod Told
+pub mod Distinct
+pub mod NamesUsed
+pub mod NamesTold
+pub mod FrameNames
+pub mod RequestNames
+pub mod LookupNames
+pub mod CommandNames
+pub mod FreshNames
 pub mod KeptApart

@@ -145,7 +145,7 @@ lookups-told asked told = record {
 
 -- ---- numbers
 
-statements-append : (qs rs : List DeskCall) → statements_in (qs ++ rs) ≡ statements_in qs + statements_in rs
+pub statements-append : (qs rs : List DeskCall) → statements_in (qs ++ rs) ≡ statements_in qs + statements_in rs
 statements-append [] rs = omega arith
 statements-append (NextStatement ∷ qs) rs = let h = statements-append qs rs in omega (arith, h)
 statements-append (NextPortal ∷ qs) rs = statements-append qs rs
@@ -161,14 +161,14 @@ is-number top n lt = ap (λ (b : Bool). if b then reply.Number n else reply.Spen
 is-spent : (top n : ℕ) → top ≤ n → number_to top n ≡ reply.Spent
 is-spent top n le = ap (λ (b : Bool). if b then reply.Number n else reply.Spent) (let e : nat_lt n top ≡ false = grind (arith, nat_tests, le) in e)
 
-was-number : (top c n : ℕ) → number_to top c ≡ reply.Number n → c ≡ n
+pub was-number : (top c n : ℕ) → number_to top c ≡ reply.Number n → c ≡ n
 was-number top c n h = by (nat_lt c top) h
   where
     by : (b : Bool) → (if b then reply.Number c else reply.Spent) ≡ reply.Number n → c ≡ n
     by true h = cc
     by false h = absurd cc
 
-number-below : (top c n : ℕ) → number_to top c ≡ reply.Number n → n < top
+pub number-below : (top c n : ℕ) → number_to top c ≡ reply.Number n → n < top
 number-below top c n h = by (nat_lt c top) refl h
   where
     by : (b : Bool) → nat_lt c top ≡ b → (if b then reply.Number c else reply.Spent) ≡ reply.Number n → n < top
@@ -176,7 +176,7 @@ number-below top c n h = by (nat_lt c top) refl h
     by false e h = absurd cc
 
 -- names of different numbers differ
-names-differ : (n m : ℕ) → n < m → m < 2 ^ 32 - 1 → statement_name n ≡ statement_name m → ⊥
+pub names-differ : (n m : ℕ) → n < m → m < 2 ^ 32 - 1 → statement_name n ≡ statement_name m → ⊥
 names-differ n m less few same =
     let tail : decimal n ≡ decimal m = cc in
     let is = decimal_injective n m (omega (arith, less, few)) (omega (arith, few)) tail in

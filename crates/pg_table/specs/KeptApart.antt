@@ -12,6 +12,7 @@ use Rattle.pg_table.specs.Table.{simply, table}
 use Rattle.pg_table.specs.Names.{named}
 use Rattle.pg_table.specs.Reads.{AreIsolated, EachAnswers}
 use Rattle.pg_table.specs.Told.{DeskTells}
+use Rattle.pg_table.specs.FreshNames.{AreDistinct, parse_names}
 
 -- A command that read the same in any session that has run, this one or another, did the same.
 abbrev pub IsIsolated : {scripts : List (List Command)} {turns : List ℕ} {one : List (List Answer)} {a : Course DeskCall Reply} →
@@ -29,3 +30,5 @@ pub record AreKeptApart {scripts : List (List Command)} {turns : List ℕ} {give
   pub isolated : IsIsolated run
   -- the desk told them of types and of the statements that look them up what was kept last, and each number of a statement once
   pub desk : DeskTells course.asked
+  -- no two Parse frames of all that they booked give a statement the same name
+  pub names : AreDistinct (parse_names course.book)

@@ -7,4 +7,5 @@ pub mod Headlines
 pub mod Reads
 pub mod Names
 pub mod Told
+pub mod FreshNames
 pub mod KeptApart
