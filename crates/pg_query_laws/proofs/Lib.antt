@@ -10,3 +10,13 @@ pub mod ExecutionCommands
 mod TypedReadings
 mod TypedRequests
 pub mod TypedCommands
+pub mod Asking
+mod AskingExecutions
+pub mod Keeping
+pub mod Meeting
+pub mod Found
+pub mod Nesting
+mod OneAsked
+pub mod OneRun
+mod Whole
+pub mod RunQuestions
