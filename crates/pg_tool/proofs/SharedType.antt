@@ -1,13 +1,12 @@
 -- A text whose commands share a type that is looked up is well made.
-use Rattle.std.proofs.Common.{◌≡◌, ℕ, zero, suc, ◌+◌, ◌-◌, ◌≤◌, List, [], ◌∷◌, ◌++◌, length, take, drop, Some, inl, inr, refl, sym, ap, subst, ◌∙◌, arith, codes}
+use Rattle.std.proofs.Common.{◌≡◌, ℕ, zero, suc, ◌+◌, ◌-◌, ◌≤◌, List, [], ◌∷◌, ◌++◌, length, take, drop, inl, inr, refl, sym, ap, subst, ◌∙◌, arith, codes}
 use Rattle.std.specs.Prelude.{All, IsTrue, ◌||◌}
 use Rattle.std.specs.List.{concat}
 use Rattle.std.specs.Fmt.{digits}
 use Rattle.std.specs.Str.{is_utf8, chars}
 use lib.Utf8.{encode}
 use lib.Seq.{drop-append-le}
-use Rattle.std.proofs.lemmas.List.Elements.{All-from_recursion, All-nil, All-take, recursion_from_All}
-use Rattle.pg_spec.specs.Courses.{Asked, Course}
+use Rattle.std.proofs.lemmas.List.Elements.{All-from_recursion, All-nil, All-take}
 use Rattle.pg_spec.specs.Examples.{accepted}
 use Rattle.pg_spec.specs.Links.{Plan}
 use Rattle.pg_spec.specs.Meanings.{Meaning}
