@@ -15,7 +15,7 @@ ghost use Rattle.pg_execute.specs.Typed.{execute_typed, query_typed};
 ghost use Rattle.pg_execute.specs.declared.how_many.HowMany as how_many;
 ghost use Rattle.pg_query_laws.specs.Kept.{AreFound, EachAsked, IsNoClear, IsOwn, KeepsByLookups, KeepsTypes, LastFinds, comes_of, told_in, under_way};
 
-/// A lookup and every command but a clear keeps each type under the type's own oid, and drops none. A clear asks for that alone.
+/// A lookup and each of these commands but a clear keeps each type under the type's own oid, and drops none. A clear asks for that alone.
 pub fn types_are_kept_by_their_oids()
     ensures finds { (more : ℕ) (busy : List ℕ) (oid : ℕ) → KeepsTypes (find more busy oid) }
     ensures finds_all { (oids : List ℕ) → KeepsTypes (find_all oids) }

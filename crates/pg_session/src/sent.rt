@@ -29,8 +29,8 @@ pub fn what_was_sent_where_it_failed<C, T, A, E>()
         OfDialogue (apart call) (λ s g t. SentInOrder (meaning_of speech) call s g t) }
 {}
 
-/// Over a steady link a session that stalled behind its startup, and whose commands copy nothing, had sent all that it
-/// asked: requests in script order, each whole. Each script whose first command asks as soon as it begins has one of its own.
+/// Over a steady link a session that stalled behind its startup, and whose commands copy nothing, had sent requests in
+/// script order, each whole. Each script whose first command asks as soon as it begins has one of its own.
 pub fn what_was_asked_where_it_stalled<C, T, A, E>()
     ensures startup { (speech : Speech C T A E) (call : Call C) (settings : Settings) (s : Startup) (before after : ℕ) (result : Result T faults.Failure) → Means call.config settings →
         StopsOpening settings call.nonce call.before call.after s (Error.Stalled before after) → result ≡ Err (faults.Stalled before after) → NoneKeptBack (meaning_of speech) call result }

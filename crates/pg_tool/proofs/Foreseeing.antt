@@ -5,7 +5,7 @@ use Rattle.pg_spec.specs.Courses.{Asked, Outcome, first_reply, later_replies, no
 use Rattle.pg_spec.specs.Dialogues.{Dialogue, Answers, Asks, Sends, Reads, Puts, Closes, Calls, decided_after}
 use Rattle.pg_spec.specs.Meanings.{AreTold}
 use Rattle.pg_spec.specs.RawMessages.{RawMessage}
-use Rattle.pg_tool.specs.Foreseen.{foreseen}
+use Rattle.pg_tool.proofs.Foreseen.{foreseen}
 
 -- of those replies these came, each so far
 abbrev pub HaveCome : List (List RawMessage) → List (List RawMessage) → Type 0

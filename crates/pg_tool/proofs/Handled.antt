@@ -16,7 +16,7 @@ use Rattle.pg_spec.specs.Turns.{entry_at}
 use Rattle.pg_spec.proofs.GroupLaws.{AreFronts}
 use Rattle.pg_desk.specs.History.{IsFrontOf}
 use Rattle.pg_promises.specs.Sent.{AreBegun, AskedInOrder, HasEnded, InScriptOrder, IsUnderWay, asked_of, outcome_in, parts_of}
-use Rattle.pg_tool.specs.Foreseen.{foreseen}
+use Rattle.pg_tool.proofs.Foreseen.{foreseen}
 use Rattle.pg_tool.proofs.Foreseeing.{HaveCome, Within, questions, told-append, within}
 
 -- these are in order, and those of a handle

@@ -16,6 +16,7 @@ pub mod WellMade
 pub mod Neither
 pub mod Requiring
 pub mod Piped
+pub mod Foreseen
 pub mod Foreseeing
 pub mod Handled
 pub mod Wholly

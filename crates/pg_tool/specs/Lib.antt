@@ -8,5 +8,4 @@ pub mod SessionContract
 pub mod TableContract
 pub mod ReadsOwn
 pub mod Required
-pub mod Foreseen
 pub mod Worked

@@ -294,7 +294,7 @@ AnswersAllSent call s plan frames = (given taken : List ℕ) → IsFront given (
 
 -- The text's session is valid input, and its plan is what a server that conforms gives it: it answers the startup, and all that the
 -- scripts may ask. The text's turns aren't looked at: it answers by every order of bookings, so where two handles may look one type up,
--- it has entries for both of them, though by the turns one of them finds the type kept.
+-- it has entries for both of them, though by the turns one of them may find the type kept.
 pub record IsWellMade (text : SessionText) : Type 0 where
   pub settings : Settings
   pub means : Means text.config settings
