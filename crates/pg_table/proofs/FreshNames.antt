@@ -1,6 +1,6 @@
 -- No two Parse frames of a session give a statement the same name, where its commands use the names that they were told.
-use Rattle.std.proofs.Common.{◌≡◌, ◌<◌, ◌≤◌, ◌+◌, ◌-◌, ◌^◌, ◌⊎◌, inl, inr, ◌==◌, ◌&&◌, ℕ, arith, List, [], ◌∷◌, ◌++◌, map, Bool, Some, None, Option, false, true, refl, sym, ap, subst, ◌∙◌, append-nil}
-use Rattle.std.specs.Prelude.{IsSome, filter, filter_map, flat_map}
+use Rattle.std.proofs.Common.{◌≡◌, ◌<◌, ◌≤◌, ◌+◌, ◌-◌, ◌^◌, ◌⊎◌, inl, inr, ℕ, arith, List, [], ◌∷◌, ◌++◌, map, Some, None, Option, false, true, refl, sym, ap, subst, ◌∙◌, append-nil}
+use Rattle.std.specs.Prelude.{IsSome, filter_map, flat_map}
 use Rattle.std.specs.List.{concat, AllByRecursion}
 use Rattle.std.specs.Str.{byte}
 use Rattle.std.proofs.lemmas.List.Elements.{filter_map-append, recursion_from_All}
@@ -25,7 +25,7 @@ use Rattle.pg_table.specs.Told.{Question}
 use Rattle.pg_table.proofs.NamesTold.{IsFresh, names_told}
 use Rattle.pg_table.proofs.Distinct.{AreApart, IsAmong, IsSubsequence, all-pairs, among-either, apart-by-owners, each-by-owners, filter-subsequence, one-owner, some-among, some-apart}
 use Rattle.pg_table.proofs.Entries.{other-entry}
-use Rattle.pg_table.proofs.NamesUsed.{Used, used}
+use Rattle.pg_table.proofs.NamesUsed.{used}
 use Rattle.pg_table.proofs.Told.{names-differ, number-below, statements-append, was-number}
 
 -- ---- what a desk tells names of is apart

@@ -1,5 +1,5 @@
 -- The names in the requests of a dialogue: it was given each of them, and uses none twice.
-use Rattle.std.proofs.Common.{◌≡◌, ℕ, ◌+◌, Some, List, [], ◌∷◌, ◌++◌, take, Bool, true, Result, Err, refl, sym, ap, subst, ◌∙◌, append_assoc, append-nil}
+use Rattle.std.proofs.Common.{◌≡◌, ℕ, ◌+◌, Some, List, [], ◌∷◌, ◌++◌, take, true, Result, sym, ap, subst, ◌∙◌, append_assoc, append-nil}
 use Rattle.std.specs.Prelude.{flat_map}
 use Rattle.std.specs.List.{concat, AllByRecursion}
 use Rattle.pg_types.specs.declared.error.Error.{Error}

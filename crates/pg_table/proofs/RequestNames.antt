@@ -1,5 +1,5 @@
 -- The requests that execute statements and texts, and that close statements, name none in a Parse frame.
-use Rattle.std.proofs.Common.{◌≡◌, ℕ, List, [], ◌∷◌, ◌++◌, length, Bool, true, false, ◌==◌, if◌then◌else◌, Option, Some, None, Result, Ok, Err, refl, sym, ap, ◌∙◌, append_assoc}
+use Rattle.std.proofs.Common.{◌≡◌, ℕ, List, [], ◌++◌, length, Bool, true, false, ◌==◌, if◌then◌else◌, Option, Some, Result, Ok, Err, refl, sym, ap, ◌∙◌, append_assoc}
 use Rattle.std.specs.Prelude.{map, pos}
 use Rattle.std.specs.Str.{byte}
 use Rattle.pg_spec.specs.Faults.{◌>>=◌, FrameFault, Parameters}

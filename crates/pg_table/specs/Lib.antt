@@ -8,4 +8,5 @@ pub mod Reads
 pub mod Names
 pub mod Told
 pub mod FreshNames
+pub mod Examples
 pub mod KeptApart

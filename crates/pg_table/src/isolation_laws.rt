@@ -1,16 +1,23 @@
 //! Laws over the definitions. Each body does nothing.
 
-ghost use Rattle.std.specs.Prelude.{ℕ, List};
+ghost use Rattle.std.specs.Prelude.{◌≡◌, ℕ, List, [], ◌∷◌, Ok, codes};
 ghost use Rattle.pg_spec.specs.Courses.{Course};
+ghost use Rattle.pg_spec.specs.declared.stamps.Stamp.{Stamp};
 ghost use Rattle.pg_spec.specs.Isolation.{IsByNames};
 ghost use Rattle.pg_spec.specs.Meanings.{HasRun, Meaning};
 ghost use Rattle.pg_promises.specs.Endings.{EndedWell, IsRun, Report, Session};
+ghost use Rattle.pg_types.specs.declared.pg_type.PgType.{PgType};
+ghost use Rattle.pg_types.specs.declared.value.Value.{Value};
+ghost use Rattle.pg_table.specs.Examples.{b_as_s1, q_as_s0};
+ghost use Rattle.pg_core.specs.Prepares.{prepare_request, statement_name};
+ghost use Rattle.pg_execute.specs.Typed.{typed_request};
 ghost use Rattle.pg_text.specs.declared.command.Answer.{Answer};
 ghost use Rattle.pg_text.specs.declared.command.Command.{Command};
 ghost use Rattle.pg_query.specs.declared.desk_call.DeskCall.{DeskCall};
 ghost use Rattle.pg_query.specs.declared.desk_call.Reply.{Reply};
 ghost use Rattle.pg_session.specs.Speeches.{Speech, meaning_of};
 ghost use Rattle.pg_table.specs.Table.{table};
+ghost use Rattle.pg_table.specs.FreshNames.{AreDistinct, parse_names, statement_names};
 ghost use Rattle.pg_table.specs.KeptApart.{AreKeptApart};
 ghost use Rattle.pg_table.specs.Names.{named};
 ghost use Rattle.pg_table.specs.Reads.{AreIsolated, EachAnswers};
@@ -61,6 +68,15 @@ pub fn desks_of_sessions()
     ensures ended_well { (s : Session Command Answer) (taken : List ℕ) (ended : EndedWell (meaning_of table) s taken) → DeskTells ended.asked }
     ensures over_any_link { (scripts : List (List Command)) (turns : List ℕ) (report : Report Answer)
         (ran : IsRun (meaning_of table) scripts turns report) → DeskTells ran.asked }
+{}
+
+/// The request that prepares a text names one statement, by its number; a text in one request names none. Worked: two requests
+/// name two statements, and one that went out twice isn't of distinct names.
+pub fn names_in_requests()
+    ensures prepared { (n : ℕ) (text oids part : List ℕ) → prepare_request n text oids ≡ Ok part → statement_names part ≡ statement_name n ∷ [] }
+    ensures unnamed { (text : List ℕ) (types : List PgType) (values : List Value) (part : List ℕ) → typed_request text types values ≡ Ok part → statement_names part ≡ [] }
+    ensures two { (s : Stamp) → parse_names (record { stamp = s; parts = q_as_s0 ∷ [] } ∷ record { stamp = s; parts = b_as_s1 ∷ [] } ∷ []) ≡ codes "s0" ∷ codes "s1" ∷ [] }
+    ensures twice { (s : Stamp) → AreDistinct (parse_names (record { stamp = s; parts = q_as_s0 ∷ [] } ∷ record { stamp = s; parts = q_as_s0 ∷ [] } ∷ [])) → ⊥ }
 {}
 
 /// The commands of a session of the table's that ended well, or has run, are kept apart: all of this, of one session.

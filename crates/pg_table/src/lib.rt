@@ -11,7 +11,8 @@ mod state;
 
 pub use isolation_laws::{
     answers_of_sessions, commands_are_kept_apart, commands_go_by_names, desks_of_sessions,
-    isolation_of_runs, isolation_of_sessions, what_desks_tell, what_each_command_answered,
+    isolation_of_runs, isolation_of_sessions, names_in_requests, what_desks_tell,
+    what_each_command_answered,
 };
 pub use laws::{
     emptied_slots_hold_nothing, failed_sessions_of_simple_queries, sessions_of_simple_queries,
