@@ -1,0 +1,4 @@
+pub mod Lines
+pub mod Drives
+pub mod Lives
+pub mod Stalls
