@@ -16,7 +16,10 @@ use pg_types::List;
 use pg_wire::Link;
 use std::alloc::Global;
 
-/// A command's state with its connection and hub.
+/// A command's state with its connection and hub. It ends with the state's answer; or, behind a hanging up of the state, with the
+/// connection's error, with Io where a wait for the link failed, or with Stalled: two polls of the connection in a row moved nothing,
+/// and the link was waited for in vain, or a third moved nothing either. The numbers of Stalled are how often calls of the link
+/// weren't ready, before the last poll and behind it.
 #[derive(Drop)]
 pub struct Drive<S, L, E> {
     alloc: Global,
@@ -53,8 +56,8 @@ impl<S: Polled + Drop, L: Link + Drop, E: Engine + Drop> Drive<S, L, E> {
         }
     }
 
-    /// Polls the state once, and then, where it waits, the connection. An error of the connection ends it
-    /// behind a hanging up of the state.
+    /// Polls the state once, and then, where it waits, the connection. Where it answers, it holds no state any more, and the
+    /// connection and the hub may serve another drive.
     pub fn step(&mut self) -> Poll<Result<S::Output, Error>>
         requires { IsLive S.is_live self.old }
         ensures polls { IfSome self.old.state (λ s. Polls E.becomes self.old.stamp (S.place s) (seen L.view self.old.line)
@@ -93,7 +96,8 @@ impl<S: Polled + Drop, L: Link + Drop, E: Engine + Drop> Drive<S, L, E> {
         }
     }
 
-    /// What it holds: the connection, the hub, and the messages that no request asked for, in order.
+    /// What it holds: the connection, the hub, and the messages that no request asked for, in order. A state that hasn't answered is
+    /// let go and not hung up: its requests stay in the hub.
     pub fn into_parts(self) -> (Connection<L>, E, List<AsyncMessage>)
         ensures connection { result.0 ≡ self.line.connection }
         ensures hub { result.1 ≡ self.line.hub }
