@@ -1,8 +1,8 @@
 -- Lists of events of the hub are joined.
 use Rattle.std.proofs.Common.{◌≡◌, List, [], ◌∷◌, ◌++◌, Bool, true, false, ◌||◌, refl, sym, subst, ap, ◌∙◌}
 use Rattle.pg_desk.specs.declared.event.Event.{Event}
-use Rattle.pg_hub.specs.Standing.{Standing}
-use Rattle.pg_hub.specs.Fits.{Fits, HubBecomes, moves_one, moves}
+use Rattle.pg_hub.specs.Standing.{Standing, InFlight, with_book}
+use Rattle.pg_hub.specs.Fits.{Fits, HubBecomes, PipelineBecomes, moves_one, moves}
 use Rattle.pg_desk.specs.History.{State, after, after_all, IsExact}
 pub use Rattle.pg_desk.specs.Kept.{after-joined}
 
@@ -35,6 +35,21 @@ joins a b c es fs h k = record {
       let first = h.stands s f in
       let second = k.stands (after_all s es) first.1 in
       (exact-joined s es fs first.0 second.0, subst (λ (t : State). Fits t c) (sym (after-joined s es fs)) second.1);
+  touched = λ s f.
+      let first = h.stands s f in
+      k.touched (after_all s es) first.1 ∙ ap (λ (b : Bool). moves (after_all s es) fs || b) (h.touched s f) ∙ sym (moves-joined s es fs a.touched);
+}
+
+-- the same of a pipeline
+pub pipeline-stays : (a : InFlight) → PipelineBecomes a [] a
+pipeline-stays a = record { stands = λ s f. (tt, f); touched = λ s f. refl }
+
+pub pipeline-joins : (a b c : InFlight) (es fs : List Event) → PipelineBecomes a es b → PipelineBecomes b fs c → PipelineBecomes a (es ++ fs) c
+pipeline-joins a b c es fs h k = record {
+  stands = λ s f.
+      let first = h.stands s f in
+      let second = k.stands (after_all s es) first.1 in
+      (exact-joined s es fs first.0 second.0, subst (λ (t : State). Fits t (with_book t.book c)) (sym (after-joined s es fs)) second.1);
   touched = λ s f.
       let first = h.stands s f in
       k.touched (after_all s es) first.1 ∙ ap (λ (b : Bool). moves (after_all s es) fs || b) (h.touched s f) ∙ sym (moves-joined s es fs a.touched);

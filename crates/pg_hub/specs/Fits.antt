@@ -2,7 +2,7 @@
 use Rattle.std.specs.Prelude.{◌≡◌, ◌≤◌, ◌<◌, ℕ, List, [], ◌∷◌, length, Bool, false, ◌||◌}
 use Rattle.pg_hub.specs.declared.mailbox.Mailbox.{Mailbox}
 use Rattle.pg_desk.specs.declared.event.Event.{Event}
-use Rattle.pg_hub.specs.Standing.{Standing, IsStanding}
+use Rattle.pg_hub.specs.Standing.{Standing, InFlight, with_book, IsStanding}
 use Rattle.pg_hub.specs.Mail.{waits, is_gone, at}
 use Rattle.pg_hub.specs.Rests.{Rest, rests, whole_of}
 use Rattle.pg_desk.specs.declared.event.Booking.{Booking}
@@ -58,3 +58,15 @@ pub record HubBecomes (a : Standing) (es : List Event) (b : Standing) : Type 0 w
 -- what is_closed answers
 abbrev pub IsClosedBy : Standing → Bool → Type 0
 IsClosedBy h answer = answer ≡ (h.closed || h.failed)
+
+-- a pipeline stands for a state as the hub does that has the state's book beside it
+abbrev pub PipelineFits : State → InFlight → Type 0
+PipelineFits s q = Fits s (with_book s.book q)
+
+-- the same of a pipeline
+pub record PipelineBecomes (a : InFlight) (es : List Event) (b : InFlight) : Type 0 where
+  pub stands : (s : State) → PipelineFits s a → IsExact s es × PipelineFits (after_all s es) b
+  pub touched : (s : State) → PipelineFits s a → b.touched ≡ (moves s es || a.touched)
+
+abbrev pub PipelineIsClosedBy : InFlight → Bool → Type 0
+PipelineIsClosedBy q answer = answer ≡ (q.closed || q.failed)

@@ -1,5 +1,5 @@
 -- What of each request hasn't gone out.
-use Rattle.std.specs.Prelude.{ℕ, suc, ◌+◌, ◌-◌, List, [], ◌∷◌, length, drop, Bool, false, ◌&&◌, not, if◌then◌else◌, get_or, nat_lt}
+use Rattle.std.specs.Prelude.{◌≡◌, ◌⊎◌, ℕ, suc, ◌+◌, ◌-◌, List, [], ◌∷◌, ◌++◌, length, drop, replicate, slice_set, Bool, false, ◌&&◌, not, if◌then◌else◌, get_or, nat_lt}
 use Rattle.pg_desk.specs.declared.event.Booking.{Booking}
 use Rattle.pg_desk.specs.History.{first_flag, rest_flags}
 
@@ -11,6 +11,27 @@ pub record Rest : Type 0 where
 -- what of request k hasn't gone out
 abbrev pub rest_at : List Rest → ℕ → Rest
 rest_at outgoing k = get_or outgoing k (record { parts = []; copying = false })
+
+-- nothing is left of a request that went out whole
+abbrev pub nothing_left : Rest
+nothing_left = record { parts = []; copying = false }
+
+-- what is left of all requests, and how many went out whole: the first ones
+pub record Outbound : Type 0 where
+  pub rests : List Rest
+  pub whole : ℕ
+
+-- the first ones went out whole, and of the others this is left
+abbrev pub rests_of : (whole : ℕ) → List Rest → List Rest
+rests_of whole left = replicate whole nothing_left ++ left
+
+-- A part went out of the first request that hadn't gone out whole, which is one that did where nothing of it is left.
+pub record PopsFirst (old new : Outbound) (part : List ℕ) : Type 0 where
+  pub left : Rest
+  pub parts : (rest_at old.rests old.whole).parts ≡ part ∷ left.parts
+  pub copying : left.copying ≡ (rest_at old.rests old.whole).copying
+  pub rests : new.rests ≡ slice_set old.rests old.whole left
+  pub whole : ((left ≡ nothing_left) × (new.whole ≡ old.whole + 1)) ⊎ ((left ≡ nothing_left → ⊥) × (new.whole ≡ old.whole))
 
 -- what of each request hasn't gone out, where n parts went out
 abbrev pub rests : ℕ → List Booking → List Bool → List Rest

@@ -1,10 +1,9 @@
--- What the hub holds.
+-- What the hub holds: a book, and beside it a pipeline of the requests that aren't over.
 use Rattle.std.specs.Prelude.{◌≡◌, ◌≤◌, ◌+◌, ℕ, List, length, Bool}
 use Rattle.pg_desk.specs.declared.event.Booking.{Booking}
 use Rattle.pg_desk.specs.Catalog.{Catalog}
 use Rattle.pg_hub.specs.declared.mailbox.Mailbox.{Mailbox}
 use Rattle.pg_hub.specs.Rests.{Rest, weight_in}
-use Rattle.pg_hub.specs.declared.hub.Hub.TheInside.{Inside}
 
 -- what the hub holds, as contracts see it
 pub record Standing : Type 0 where
@@ -29,22 +28,37 @@ pub record Standing : Type 0 where
   -- something moved since `touched` was called last
   pub touched : Bool
 
--- what the fields hold
-abbrev pub standing : Inside → Standing
-standing h = record {
-  book = h.book;
-  mail = h.replies.boxes;
-  outgoing = h.outgoing.items;
-  unsent = h.unsent;
-  whole = h.whole;
-  started = h.started;
-  finished = h.replies.finished;
-  statements = h.statements;
-  portals = h.portals;
-  catalog = h.catalog;
-  closed = h.closed;
-  failed = h.failed;
-  touched = h.touched;
+-- what a pipeline holds: the same but for the book
+pub record InFlight : Type 0 where
+  pub mail : List Mailbox
+  pub outgoing : List Rest
+  pub unsent : ℕ
+  pub whole : ℕ
+  pub started : ℕ
+  pub finished : ℕ
+  pub statements : ℕ
+  pub portals : ℕ
+  pub catalog : Catalog
+  pub closed : Bool
+  pub failed : Bool
+  pub touched : Bool
+
+-- a pipeline with a book beside it
+abbrev pub with_book : List Booking → InFlight → Standing
+with_book book q = record {
+  book = book;
+  mail = q.mail;
+  outgoing = q.outgoing;
+  unsent = q.unsent;
+  whole = q.whole;
+  started = q.started;
+  finished = q.finished;
+  statements = q.statements;
+  portals = q.portals;
+  catalog = q.catalog;
+  closed = q.closed;
+  failed = q.failed;
+  touched = q.touched;
 }
 
 -- Each booking has what of it hasn't gone out. The first ones went out whole, and at most one more began to.
@@ -60,3 +74,9 @@ pub record IsStanding (h : Standing) : Type 0 where
   pub mail : length h.mail ≡ length h.book
   pub out : StandsOut (length h.book) h.outgoing h.unsent h.whole h.started
   pub finished : h.finished ≤ h.started
+
+-- the same of a pipeline
+pub record IsInFlight (q : InFlight) : Type 0 where
+  pub mail : length q.mail ≡ length q.outgoing
+  pub out : StandsOut (length q.outgoing) q.outgoing q.unsent q.whole q.started
+  pub finished : q.finished ≤ q.started

@@ -1,14 +1,11 @@
-//! The plain hub. `Fits` says which states of a list of events it stands for.
+//! The plain hub: a pipeline, and beside it the book of all requests. `Fits` says which states of a list of events it
+//! stands for.
 
-ghost use Rattle.std.specs.Prelude.{◌≡◌, ◌<◌, ◌≤◌, ◌+◌, ◌∷◌, [], length, true, false, IfOk, IfSome, MatchBool, MatchOption};
+ghost use Rattle.std.specs.Prelude.{◌≡◌, ◌<◌, ◌∷◌, [], true, false, IfOk, MatchBool, MatchOption, MatchResult};
 ghost use Rattle.std.specs.Vec.{vec_capacity, vec_len};
 ghost use Rattle.pg_desk.specs.History.{extended};
 
-use crate::catalog::Catalog;
-use crate::outgoing::{
-    Outgoing, close_at, is_copying_at, is_full_at, is_whole_at, pop_at, push_part_at, put_part_at,
-};
-use crate::replies::Replies;
+use crate::pipeline::Pipeline;
 use bytes::Bytes;
 use pg_desk::{
     Booking, Deliver, Desk, DeskFault, Engine, Lookup, Out, Put, Stamp, Statement, Take,
@@ -23,26 +20,12 @@ use std::mem;
 #[derive(Drop)]
 pub struct Hub {
     book: List<Booking>,
-    /// What came for each booking.
-    replies: Replies,
-    /// What of each booking hasn't gone out.
-    outgoing: Vec<Outgoing>,
-    /// The bytes that wait in it, and one more for each part.
-    unsent: u64,
-    /// The number of bookings that have gone out whole: the first ones.
-    whole: u64,
-    /// The number of bookings whose first part is out.
-    started: u64,
-    statements: u32,
-    portals: u32,
-    catalog: Catalog,
-    closed: bool,
-    failed: bool,
-    touched: bool,
+    pipeline: Pipeline,
 }
 
 impl Model for Hub {
-    ghost use Rattle.pg_hub.specs.Standing.{Standing, standing, IsStanding};
+    ghost use Rattle.pg_hub.specs.Beside.{standing};
+    ghost use Rattle.pg_hub.specs.Standing.{Standing};
     ghost use Rattle.pg_types.specs.contracts.pg_type.PgType as pg_type;
     ghost use Rattle.std.specs.Coded.{codes};
 
@@ -51,8 +34,6 @@ impl Model for Hub {
     ghost coded = { Prim.hlevel (codes, pg_type.the_row.coded) };
 
     ghost view = { standing };
-
-    ghost invariant = { λ h. IsStanding (standing h) };
 }
 
 impl Hub {
@@ -67,17 +48,7 @@ impl Hub {
     {
         Hub {
             book: List::empty(alloc),
-            replies: Replies::new(alloc),
-            outgoing: Vec::new(alloc),
-            unsent: 0,
-            whole: 0,
-            started: 0,
-            statements,
-            portals,
-            catalog: Catalog::new(alloc),
-            closed: false,
-            failed: false,
-            touched: false,
+            pipeline: Pipeline::new(alloc, statements, portals),
         }
     }
 
@@ -92,20 +63,7 @@ impl Hub {
     pub fn into_book(self) -> List<Booking>
         ensures { result ≡ self.book }
     {
-        let Hub {
-            book,
-            replies: _,
-            outgoing: _,
-            unsent: _,
-            whole: _,
-            started: _,
-            statements: _,
-            portals: _,
-            catalog: _,
-            closed: _,
-            failed: _,
-            touched: _,
-        } = self;
+        let Hub { book, pipeline: _ } = self;
         book
     }
 
@@ -113,22 +71,7 @@ impl Hub {
     pub fn unsent(&self) -> u64
         ensures { result ≡ self.now.unsent }
     {
-        self.unsent
-    }
-
-    /// A part more in the book of one of the bookings. Where it isn't shown for want of memory, nothing
-    /// changes.
-    fn shows(&mut self, alloc: Global, place: usize, part: &Bytes) -> bool
-        requires { place < length self.old.book }
-        ensures { MatchBool result (self.new ≡ record self.old { book = extended place part.now self.old.book }) (self.new ≡ self.old) }
-    {
-        let Ok(shown) = Blob::from_slice(alloc, part.as_slice()) else {
-            return false;
-        };
-        let mut bookings = mem::replace(&mut self.book, List::empty(alloc)).into_vec();
-        let pushed = push_part_at(&mut bookings, place, shown);
-        self.book = List::new(bookings);
-        pushed.is_ok()
+        self.pipeline.unsent()
     }
 
     /// Whether, since its last call, something was booked, put, taken as a batch, taken out as a part,
@@ -138,9 +81,7 @@ impl Hub {
         ensures answer { result ≡ self.old.touched }
         ensures same { self.new ≡ record self.old { touched = false } }
     {
-        let touched = self.touched;
-        self.touched = false;
-        touched
+        self.pipeline.touched()
     }
 }
 
@@ -166,20 +107,30 @@ fn taken_with_room(alloc: Global, book: &mut List<Booking>) -> Option<Vec<Bookin
     Some(bookings)
 }
 
-/// What waits with one part more, where it can still be counted.
-fn with_part(unsent: u64, part: &Bytes) -> Option<u64>
-    ensures { IfSome result (λ n. n ≡ unsent + (length part.now + 1)) }
+/// A part more in the book of one of the bookings. Where it isn't shown for want of memory, nothing changes.
+fn shows(alloc: Global, book: &mut List<Booking>, place: usize, part: &Bytes) -> bool
+    ensures { MatchBool result (book.new ≡ extended place part.now book.old) (book.new ≡ book.old) }
 {
-    let more = (part.len() as u64).checked_add(1)?;
-    unsent.checked_add(more)
+    let Ok(shown) = Blob::from_slice(alloc, part.as_slice()) else {
+        return false;
+    };
+    let mut bookings = mem::replace(book, List::empty(alloc)).into_vec();
+    let pushed = push_part_at(&mut bookings, place, shown);
+    *book = List::new(bookings);
+    pushed.is_ok()
 }
 
-/// What waits with one part less.
-fn without_part(unsent: u64, part: &Bytes) -> u64
-    requires { length part.now + 1 ≤ unsent }
-    ensures { result + (length part.now + 1) ≡ unsent }
+/// A part more of a booking, where there is one at this place.
+fn push_part_at(book: &mut [Booking], place: usize, part: Blob) -> Result<(), OutOfMemory>
+    ensures { MatchResult result (λ _. book.new ≡ extended place part book.old) (λ _. book.new ≡ book.old) }
 {
-    unsent - part.len() as u64 - 1
+    if place >= book.len() {
+        return Ok(());
+    }
+    if book[place].parts.push(part).is_err() {
+        return Err(OutOfMemory);
+    }
+    Ok(())
 }
 
 impl Desk for Hub {
@@ -204,203 +155,103 @@ impl Desk for Hub {
         part: Bytes,
         copying: bool,
     ) -> Result<u64, DeskFault> {
-        if self.closed || self.failed {
+        if self.pipeline.is_closed() {
             return Err(DeskFault::Closed);
         }
-        let id = self.replies.len() as u64;
-        let Some(unsent) = with_part(self.unsent, &part) else {
-            return Err(DeskFault::OutOfMemory);
-        };
         let Ok(booking) = booking_of(alloc, stamp, &part) else {
             return Err(DeskFault::OutOfMemory);
         };
         // What wants memory comes first: a refused booking changes nothing.
-        if self.outgoing.reserve(1).is_err() {
-            return Err(DeskFault::OutOfMemory);
-        }
         let Some(mut bookings) = taken_with_room(alloc, &mut self.book) else {
             return Err(DeskFault::OutOfMemory);
         };
-        if !self.replies.push() {
-            self.book = List::new(bookings);
-            return Err(DeskFault::OutOfMemory);
+        match self.pipeline.book(alloc, stamp, part, copying) {
+            Ok(id) => {
+                bookings.push_reserved(booking);
+                self.book = List::new(bookings);
+                Ok(id)
+            }
+            Err(fault) => {
+                self.book = List::new(bookings);
+                Err(fault)
+            }
         }
-        bookings.push_reserved(booking);
-        self.book = List::new(bookings);
-        self.outgoing.push_reserved(Outgoing::new(part, copying));
-        self.unsent = unsent;
-        self.touched = true;
-        Ok(id)
     }
 
     fn put(&mut self, alloc: Global, id: u64, part: Bytes) -> Put {
-        let place = id as usize;
-        if self.failed {
+        if !self.pipeline.takes_parts(id) {
             return Put::Gone(part);
         }
-        if place >= self.outgoing.len() {
-            return Put::Gone(part);
-        }
-        if !is_copying_at(&self.outgoing, place) {
-            return Put::Gone(part);
-        }
-        if self.replies.is_hung_up(place) {
-            return Put::Gone(part);
-        }
-        if is_full_at(&self.outgoing, place) {
+        if self.pipeline.is_full(id) {
             return Put::Full(part);
         }
-        let Some(unsent) = with_part(self.unsent, &part) else {
+        let Some(unsent) = self.pipeline.unsent_with(&part) else {
             return Put::OutOfMemory(part);
         };
-        if !self.shows(alloc, place, &part) {
+        if !shows(alloc, &mut self.book, id as usize, &part) {
             return Put::OutOfMemory(part);
         }
-        put_part_at(&mut self.outgoing, place, part);
-        self.unsent = unsent;
-        self.touched = true;
+        self.pipeline.put_counted(id, part, unsent);
         Put::Took
     }
 
     fn end_copy(&mut self, alloc: Global, id: u64, part: Bytes) -> Put {
-        let place = id as usize;
-        if self.failed {
+        if !self.pipeline.takes_parts(id) {
             return Put::Gone(part);
         }
-        if place >= self.outgoing.len() {
-            return Put::Gone(part);
-        }
-        if !is_copying_at(&self.outgoing, place) {
-            return Put::Gone(part);
-        }
-        if self.replies.is_hung_up(place) {
-            return Put::Gone(part);
-        }
-        let Some(unsent) = with_part(self.unsent, &part) else {
+        let Some(unsent) = self.pipeline.unsent_with(&part) else {
             return Put::OutOfMemory(part);
         };
-        if !self.shows(alloc, place, &part) {
+        if !shows(alloc, &mut self.book, id as usize, &part) {
             return Put::OutOfMemory(part);
         }
-        close_at(&mut self.outgoing, place, part);
-        self.unsent = unsent;
-        self.touched = true;
+        self.pipeline.close_counted(id, part, unsent);
         Put::Took
     }
 
     fn take(&mut self, id: u64) -> Result<Take, DeskFault> {
-        let place = id as usize;
-        if place >= self.replies.len() {
-            return Ok(Take::Gone);
-        }
-        if self.replies.is_hung_up(place) {
-            return Ok(Take::Gone);
-        }
-        if let Some(batch) = self.replies.take(place) {
-            self.touched = true;
-            return Ok(Take::Batch(batch));
-        }
-        if self.failed {
-            return Ok(Take::Gone);
-        }
-        if id < self.replies.finished() {
-            return Ok(Take::Over);
-        }
-        Ok(Take::Empty)
+        self.pipeline.take(id)
     }
 
     fn hang_up(&mut self, id: u64) -> Result<(), DeskFault> {
-        let place = id as usize;
-        if place >= self.replies.len() {
-            return Ok(());
-        }
-        if self.replies.is_hung_up(place) {
-            return Ok(());
-        }
-        self.replies.hang_up(place);
-        self.touched = true;
-        Ok(())
+        self.pipeline.hang_up(id)
     }
 
     fn next_statement(&mut self) -> Result<u32, DeskFault> {
-        if self.failed {
-            return Err(DeskFault::Closed);
-        }
-        if self.statements >= u32::MAX {
-            return Err(DeskFault::Encode);
-        }
-        let number = self.statements;
-        self.statements += 1;
-        Ok(number)
+        self.pipeline.next_statement()
     }
 
     fn next_portal(&mut self) -> Result<u32, DeskFault> {
-        if self.failed {
-            return Err(DeskFault::Closed);
-        }
-        if self.portals >= u32::MAX {
-            return Err(DeskFault::Encode);
-        }
-        let number = self.portals;
-        self.portals += 1;
-        Ok(number)
+        self.pipeline.next_portal()
     }
 
     fn type_(&mut self, alloc: Global, oid: Oid) -> Result<Option<Type>, DeskFault> {
-        if self.failed {
-            return Err(DeskFault::Closed);
-        }
-        match self.catalog.type_of(alloc, oid) {
-            Ok(found) => Ok(found),
-            Err(_) => Err(DeskFault::OutOfMemory),
-        }
+        self.pipeline.type_(alloc, oid)
     }
 
     fn set_type(&mut self, alloc: Global, oid: Oid, ty: &Type) -> Result<(), DeskFault> {
-        if self.failed {
-            return Err(DeskFault::Closed);
-        }
-        match self.catalog.set_type(alloc, oid, ty) {
-            Ok(()) => Ok(()),
-            Err(_) => Err(DeskFault::OutOfMemory),
-        }
+        self.pipeline.set_type(alloc, oid, ty)
     }
 
     fn clear_type_cache(&mut self) -> Result<(), DeskFault> {
-        if self.failed {
-            return Err(DeskFault::Closed);
-        }
-        self.catalog.clear_types();
-        Ok(())
+        self.pipeline.clear_type_cache()
     }
 
-    fn lookup(&mut self, _alloc: Global, which: Lookup) -> Result<Option<Statement>, DeskFault> {
-        if self.failed {
-            return Err(DeskFault::Closed);
-        }
-        match self.catalog.statement(which) {
-            Ok(found) => Ok(found),
-            Err(_) => Err(DeskFault::OutOfMemory),
-        }
+    fn lookup(&mut self, alloc: Global, which: Lookup) -> Result<Option<Statement>, DeskFault> {
+        self.pipeline.lookup(alloc, which)
     }
 
     fn set_lookup(
         &mut self,
-        _alloc: Global,
+        alloc: Global,
         which: Lookup,
         statement: &Statement,
     ) -> Result<(), DeskFault> {
-        if self.failed {
-            return Err(DeskFault::Closed);
-        }
-        match self.catalog.set_statement(which, statement) {
-            Ok(()) => Ok(()),
-            Err(_) => Err(DeskFault::OutOfMemory),
-        }
+        self.pipeline.set_lookup(alloc, which, statement)
     }
 
     fn is_closed(&self) -> bool {
-        self.closed || self.failed
+        self.pipeline.is_closed()
     }
 
     ghost stays = { stays };
@@ -410,53 +261,18 @@ impl Desk for Hub {
 
 impl Engine for Hub {
     fn next_out(&mut self) -> Result<Out, DeskFault> {
-        if self.failed {
-            return Err(DeskFault::Closed);
-        }
-        let place = self.whole as usize;
-        if place >= self.outgoing.len() {
-            if self.replies.finished() < self.started {
-                return Ok(Out::Nothing);
-            }
-            if self.closed {
-                return Ok(Out::NoMore);
-            }
-            return Ok(Out::Nothing);
-        }
-        let Some(part) = pop_at(&mut self.outgoing, place) else {
-            return Ok(Out::CopyWaits);
-        };
-        self.started = self.whole + 1;
-        self.unsent = without_part(self.unsent, &part);
-        self.touched = true;
-        if is_whole_at(&self.outgoing, place) {
-            self.whole += 1;
-            return Ok(Out::Part(part));
-        }
-        Ok(Out::Part(part))
+        self.pipeline.next_out()
     }
 
     fn deliver(&mut self, batch: BackendMessages, complete: bool) -> Deliver {
-        batch.batch_law();
-        if self.replies.finished() >= self.started {
-            return Deliver::NoRequest(batch);
-        }
-        match self.replies.put(batch, complete) {
-            Some(back) => Deliver::Full(back),
-            None => {
-                self.touched = true;
-                Deliver::Taken
-            }
-        }
+        self.pipeline.deliver(batch, complete)
     }
 
     fn close_requests(&mut self) -> Result<(), DeskFault> {
-        self.closed = true;
-        Ok(())
+        self.pipeline.close_requests()
     }
 
     fn fail(&mut self) -> Result<(), DeskFault> {
-        self.failed = true;
-        Ok(())
+        self.pipeline.fail()
     }
 }

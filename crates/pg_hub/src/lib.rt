@@ -6,16 +6,19 @@ mod catalog;
 mod hub;
 mod laws;
 mod mailbox;
+mod outbox;
 mod outgoing;
+mod pipeline;
 mod replies;
 mod responses;
 
 pub use hub::Hub;
-pub use laws::every_hub;
-pub use mailbox::Mailbox;
+pub use laws::{every_hub, every_pipeline};
+pub use mailbox::{Kept, Mailbox};
 pub use outgoing::Outgoing;
 pub use pg_desk::{
     Booking, CatalogCall, Column, Deliver, Desk, DeskFault, Engine, Event, FoundType, Lookup, Out,
     Put, Stamp, Statement, Take,
 };
+pub use pipeline::Pipeline;
 pub use responses::Responses;

@@ -1,10 +1,11 @@
-//! What came for all requests. The mailbox of one whose reply is over and was taken is let go: a byte stays of it.
+//! What came for all requests. Of one whose reply is over and was taken, or whose reader hung up, a byte stays.
 
-ghost use Rattle.std.specs.Prelude.{◌≡◌, ◌<◌, ◌+◌, ◌++◌, ◌∷◌, [], List, length, slice_set, Some, None, MatchBool, MatchOption, if◌then◌else◌};
+ghost use Rattle.std.specs.Prelude.{◌≡◌, ◌<◌, ◌+◌, ◌++◌, ◌∷◌, [], length, slice_set, Some, None, false, MatchBool, MatchOption, MatchResult, if◌then◌else◌};
 ghost use Rattle.pg_hub.specs.declared.mailbox.Mailbox.{Mailbox};
-ghost use Rattle.pg_hub.specs.Mail.{received_by, first_of, rest_of, is_gone, at};
+ghost use Rattle.pg_hub.specs.Mail.{received_by, first_of, rest_of, is_gone, at, has, held_from, Ascending};
+ghost use Rattle.pg_hub.specs.Places.{IsAt, mailbox_at, taken_at};
 
-use crate::mailbox::{Mailbox, hang_up, put_last, take_first};
+use crate::mailbox::{Kept, Mailbox};
 use pg_wire::BackendMessages;
 use std::alloc::Global;
 use std::collections::VecDeque;
@@ -13,22 +14,21 @@ use std::marker::Model;
 /// A mailbox for each request, and how many replies are over: those of the first requests.
 #[derive(Drop)]
 pub(crate) struct Replies {
-    /// Of each of the first requests, whose mailboxes were let go, whether its reader hung up.
-    let_go: Vec<bool>,
-    /// The mailboxes of the others.
-    live: VecDeque<Mailbox>,
+    /// Of each request, whether its reader hung up.
+    hung_up: Vec<bool>,
+    /// The mailboxes of those whose reader is there and whose reply isn't over or wasn't taken, in order.
+    kept: VecDeque<Kept>,
     finished: u64,
 }
 
 impl Model for Replies {
-    ghost use Rattle.pg_hub.specs.Mail.{Mail, mailboxes};
-    ghost use Rattle.std.specs.Prelude.{length, ◌≤◌};
+    ghost use Rattle.pg_hub.specs.Mail.{Mail, boxes_from, KeepsHeld};
 
     ghost Value = { Mail };
 
-    ghost view = { λ r. record { boxes = mailboxes r.let_go.items r.live.items; finished = r.finished } };
+    ghost view = { λ r. record { boxes = boxes_from 0 r.hung_up.items r.kept.items; finished = r.finished } };
 
-    ghost invariant = { λ r. length r.let_go.items ≤ r.finished };
+    ghost invariant = { λ r. KeepsHeld r.hung_up.items r.kept.items r.finished };
 }
 
 impl Replies {
@@ -37,17 +37,17 @@ impl Replies {
         ensures { result ≡ record { boxes = []; finished = 0 } }
     {
         Replies {
-            let_go: Vec::new(alloc),
-            live: VecDeque::new(alloc),
+            hung_up: Vec::new(alloc),
+            kept: VecDeque::new(alloc),
             finished: 0,
         }
     }
 
-    /// How many mailboxes there are.
+    /// How many requests there are.
     pub(crate) fn len(&self) -> usize
         ensures { result ≡ length self.now.boxes }
     {
-        self.let_go.len() + self.live.len()
+        self.hung_up.len()
     }
 
     /// How many replies are over.
@@ -57,11 +57,27 @@ impl Replies {
         self.finished
     }
 
+    /// How many mailboxes are held.
+    pub(crate) fn held(&self) -> usize
+        ensures { result ≡ held_from 0 self.now.finished self.now.boxes }
+    {
+        self.kept.len()
+    }
+
     /// An empty mailbox more. Where memory lacks, nothing changes.
     pub(crate) fn push(&mut self) -> bool
         ensures { MatchBool result (self.new ≡ record self.old { boxes = self.old.boxes ++ Mailbox.Empty ∷ [] }) (self.new ≡ self.old) }
     {
-        self.live.push_back(Mailbox::Empty).is_ok()
+        if self.kept.reserve(1).is_err() {
+            return false;
+        }
+        let id = self.hung_up.len() as u64;
+        if self.hung_up.push(false).is_err() {
+            return false;
+        }
+        let mailbox = Mailbox::Empty;
+        self.kept.push_back_reserved(Kept { id, mailbox });
+        true
     }
 
     /// Takes the oldest batch out of a mailbox.
@@ -70,15 +86,10 @@ impl Replies {
         ensures result { result ≡ first_of (at self.old.boxes place) }
         ensures rest { self.new ≡ record self.old { boxes = slice_set self.old.boxes place (rest_of (at self.old.boxes place)) } }
     {
-        let let_go = self.let_go.len();
-        if place < let_go {
-            return None;
+        match place_of(&self.kept, place as u64) {
+            Err(_) => None,
+            Ok(i) => take_at(&mut self.kept, i, self.finished),
         }
-        let first = take_first(&mut self.live[place - let_go]);
-        if first.is_some() {
-            self.lets_go();
-        }
-        first
     }
 
     /// Puts a batch of the oldest reply that isn't over into its mailbox, or hands it back where two wait
@@ -90,13 +101,19 @@ impl Replies {
             × (self.new ≡ record { boxes = slice_set self.old.boxes self.old.finished m; finished = (if complete then 1 else 0) + self.old.finished }))
             (λ back. (back ≡ batch) × (self.new ≡ self.old) × (received_by (at self.old.boxes self.old.finished) batch ≡ None)) }
     {
-        let place = self.finished as usize - self.let_go.len();
-        match put_last(&mut self.live[place], batch) {
-            Some(back) => Some(back),
-            None => {
+        match place_of(&self.kept, self.finished) {
+            Err(_) => {
+                drop(batch);
                 self.finished += if complete { 1 } else { 0 };
                 None
             }
+            Ok(i) => match self.kept[i].put(batch) {
+                Some(back) => Some(back),
+                None => {
+                    self.finished += if complete { 1 } else { 0 };
+                    None
+                }
+            },
         }
     }
 
@@ -105,13 +122,10 @@ impl Replies {
         requires { place < length self.old.boxes }
         ensures { self.new ≡ record self.old { boxes = slice_set self.old.boxes place Mailbox.HungUp } }
     {
-        let let_go = self.let_go.len();
-        if place < let_go {
-            self.let_go[place] = true;
-            return;
+        self.hung_up[place] = true;
+        if let Ok(i) = place_of(&self.kept, place as u64) {
+            drop(self.kept.remove(i));
         }
-        hang_up(&mut self.live[place - let_go]);
-        self.lets_go();
     }
 
     /// Whether the reader of a mailbox hung up.
@@ -119,41 +133,27 @@ impl Replies {
         requires { place < length self.now.boxes }
         ensures { result ≡ is_gone (at self.now.boxes place) }
     {
-        let let_go = self.let_go.len();
-        if place < let_go {
-            return self.let_go[place];
-        }
-        matches!(self.live[place - let_go], Mailbox::HungUp)
+        self.hung_up[place]
     }
+}
 
-    /// Lets go of the first mailboxes, as far as their replies are over and nothing waits in them.
-    fn lets_go(&mut self)
-        ensures { self.new ≡ self.old }
-    {
-        for _ in self.let_go.len() as u64..self.finished {
-            if !self.lets_go_of_first() {
-                return;
-            }
-        }
-    }
+/// Where the mailbox of a request stands, or would stand where none is kept.
+fn place_of(kept: &VecDeque<Kept>, id: u64) -> Result<usize, usize>
+    requires { Ascending 0 kept.now.items }
+    ensures { MatchResult result (IsAt id kept.now.items) (λ _. has id kept.now.items ≡ false) }
+{
+    kept.binary_search_by_key(&id, |mailbox| mailbox.id)
+}
 
-    /// Lets go of the first mailbox that is left, where its reply is over and nothing waits in it. Where
-    /// memory lacks it stays.
-    fn lets_go_of_first(&mut self) -> bool
-        ensures { self.new ≡ self.old }
-    {
-        if self.let_go.len() as u64 >= self.finished {
-            return false;
-        }
-        let is_gone = match self.live.front() {
-            Some(Mailbox::Empty) => false,
-            Some(Mailbox::HungUp) => true,
-            _ => return false,
-        };
-        if self.let_go.push(is_gone).is_err() {
-            return false;
-        }
-        self.live.pop_front();
-        true
+/// Takes the oldest batch out of the mailbox at a place, and lets go of it where nothing more can come.
+fn take_at(kept: &mut VecDeque<Kept>, i: usize, finished: u64) -> Option<BackendMessages>
+    requires { i < length kept.old.items }
+    ensures result { result ≡ first_of (mailbox_at kept.old.items i) }
+    ensures rest { kept.new.items ≡ taken_at kept.old.items i finished }
+{
+    let first = kept[i].take();
+    if !kept[i].is_held(finished) {
+        drop(kept.remove(i));
     }
+    first
 }

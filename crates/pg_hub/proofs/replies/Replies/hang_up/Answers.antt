@@ -1,20 +1,46 @@
-use Rattle.std.proofs.Common.{◌≡◌, ◌+◌, ◌-◌, ℕ, length, List, Bool, ◌∙◌, ap, slice_set, arith}
+use Rattle.std.proofs.Common.{◌≡◌, ◌<◌, length, List, true, ap, sym, subst, ◌∙◌, arith, slice_set, remove}
 use Rattle.std.proofs.lemmas.Grind.{common_steps}
 use Rattle.pg_hub.specs.declared.mailbox.Mailbox.{Mailbox}
-use Rattle.pg_hub.specs.declared.mailbox.Mailbox.TheVariants.{HungUp}
-use Rattle.pg_hub.proofs.LettingGo.{hung-let-go, of, set-in-live}
+use Rattle.pg_hub.specs.declared.mailbox.Mailbox.TheVariants.{Empty, HungUp}
+use Rattle.pg_hub.specs.declared.mailbox.Kept.{Kept}
+use Rattle.pg_hub.specs.Mail.{Mail, KeepsHeld}
+use Rattle.pg_hub.proofs.Keeping as keeping
 use Rattle.pg_hub.proofs.replies.Replies.hang_up.Goals as goal
 
-pub returns-then-place-let_go : goal.returns-then-place-let_go
-returns-then-place-let_go c =
-    hung-let-go c.args.self.now c.self.inside.let_go.items c.self.inside.live.items c.self.inside.finished c.args.place c.self.view_is (grind (arith, common_steps))
+pub index_mut-requires : goal.index_mut-requires
+index_mut-requires c =
+    let all = keeping.booked-is c.args.self.now c.self.inside.hung_up.items c.self.inside.kept.items c.self.inside.finished c.self.view_is in
+    let low : c.args.place < length c.self.inside.hung_up.items = omega (arith, all, c.requires) in
+    grind (arith, common_steps)
 
-pub returns : goal.returns
-returns c =
-    let over : List Bool = c.self.inside.let_go.items in
-    let live : List Mailbox = c.self.inside.live.items in
-    let i : ℕ = c.args.place - c.len-let_go.result in
-    let size : c.len-let_go.result ≡ length over = grind (arith, common_steps) in
-    let place : c.args.place ≡ length over + i = omega (arith, size, c.if-place-let_go.false) in
-    c.lets_go.ensures ∙ ap (λ (m : Mailbox). of over (slice_set live i m) c.self.inside.finished) c.hang_up.ensures
-    ∙ set-in-live c.args.self.now over live c.self.inside.finished i c.args.place HungUp c.self.view_is place
+pub invariant_of-self : goal.invariant_of-self
+invariant_of-self c =
+    let inside : c.in-Ok.i < length c.self.inside.kept.items = keeping.at-low c.args.place c.self.inside.kept.items c.in-Ok.i c.in-Ok.ensures in
+    let kept : c.remove.new.self.items ≡ remove c.self.inside.kept.items c.in-Ok.i =
+    keeping.at-some c.remove.result _ (c.remove.new.self.items ≡ remove c.self.inside.kept.items c.in-Ok.i) (c.remove.ensures.succeeds (record { id = 0; mailbox = Empty }) (grind (arith, common_steps))) c.remove.ensures.items in
+    subst (λ (l : List Kept). KeepsHeld (slice_set c.self.inside.hung_up.items c.args.place true) l c.self.inside.finished) (sym kept)
+    (keeping.hung-kept c.self.inside.hung_up.items c.self.inside.kept.items c.self.inside.finished c.args.place c.in-Ok.i c.self.invariant c.in-Ok.ensures).1
+
+pub invariant_of-self-in_default : goal.invariant_of-self-in_default
+invariant_of-self-in_default c =
+    let all = keeping.booked-is c.args.self.now c.self.inside.hung_up.items c.self.inside.kept.items c.self.inside.finished c.self.view_is in
+    let low : c.args.place < length c.self.inside.hung_up.items = omega (arith, all, c.requires) in
+    (keeping.hung-absent c.self.inside.hung_up.items c.self.inside.kept.items c.self.inside.finished c.args.place c.self.invariant c.in_default.ensures low).1
+
+pub returns-in-Ok : goal.returns-in-Ok
+returns-in-Ok c =
+    let inside : c.in-Ok.i < length c.self.inside.kept.items = keeping.at-low c.args.place c.self.inside.kept.items c.in-Ok.i c.in-Ok.ensures in
+    let kept : c.remove.new.self.items ≡ remove c.self.inside.kept.items c.in-Ok.i =
+    keeping.at-some c.remove.result _ (c.remove.new.self.items ≡ remove c.self.inside.kept.items c.in-Ok.i) (c.remove.ensures.succeeds (record { id = 0; mailbox = Empty }) (grind (arith, common_steps))) c.remove.ensures.items in
+    ap (λ (l : List Kept). keeping.mail_of (slice_set c.self.inside.hung_up.items c.args.place true) l c.self.inside.finished) kept
+    ∙ ap (λ (ms : List Mailbox). record { boxes = ms; finished = c.self.inside.finished })
+    (keeping.hung-kept c.self.inside.hung_up.items c.self.inside.kept.items c.self.inside.finished c.args.place c.in-Ok.i c.self.invariant c.in-Ok.ensures).0
+    ∙ ap (λ (m : Mail). record { boxes = slice_set m.boxes c.args.place HungUp; finished = m.finished }) c.self.view_is
+
+pub returns-in_default : goal.returns-in_default
+returns-in_default c =
+    let all = keeping.booked-is c.args.self.now c.self.inside.hung_up.items c.self.inside.kept.items c.self.inside.finished c.self.view_is in
+    let low : c.args.place < length c.self.inside.hung_up.items = omega (arith, all, c.requires) in
+    ap (λ (ms : List Mailbox). record { boxes = ms; finished = c.self.inside.finished })
+    (keeping.hung-absent c.self.inside.hung_up.items c.self.inside.kept.items c.self.inside.finished c.args.place c.self.invariant c.in_default.ensures low).0
+    ∙ ap (λ (m : Mail). record { boxes = slice_set m.boxes c.args.place HungUp; finished = m.finished }) c.self.view_is

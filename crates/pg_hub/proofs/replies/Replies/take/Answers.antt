@@ -1,28 +1,39 @@
-use Rattle.std.proofs.Common.{◌≡◌, ◌<◌, ◌+◌, ◌-◌, ℕ, length, List, Bool, ◌∙◌, arith}
-use Rattle.std.proofs.lemmas.Grind.{common_steps}
+use Rattle.std.proofs.Common.{◌≡◌, ◌<◌, length, List, ap, sym, subst, ◌∙◌, arith, slice_set}
 use Rattle.pg_hub.specs.declared.mailbox.Mailbox.{Mailbox}
-use Rattle.pg_hub.specs.declared.mailbox.Mailbox.TheVariants.{Empty}
-use Rattle.std.proofs.lemmas.List.{get_or_read}
-use Rattle.pg_hub.specs.Mail.{at}
-use Rattle.pg_hub.proofs.LettingGo.{length-boxes, stays-let-go, taken-let-go, taken-live}
+use Rattle.pg_hub.specs.declared.mailbox.Kept.{Kept}
+use Rattle.pg_hub.specs.Mail.{Mail, at, first_of, rest_of, KeepsHeld}
+use Rattle.pg_hub.proofs.Keeping as keeping
 use Rattle.pg_hub.proofs.replies.Replies.take.Goals as goal
 
-pub returns-then-place-let_go-clause-result : goal.returns-then-place-let_go-clause-result
-returns-then-place-let_go-clause-result c =
-    taken-let-go c.args.self.now c.self.inside.let_go.items c.self.inside.live.items c.self.inside.finished c.args.place c.self.view_is (grind (arith, common_steps))
+pub take_at-requires : goal.take_at-requires
+take_at-requires c = keeping.at-low c.args.place c.self.inside.kept.items c.in-Ok.i c.in-Ok.ensures
 
-pub returns-then-place-let_go-clause-rest : goal.returns-then-place-let_go-clause-rest
-returns-then-place-let_go-clause-rest c =
-    stays-let-go c.args.self.now c.self.inside.let_go.items c.self.inside.live.items c.self.inside.finished c.args.place c.self.view_is (grind (arith, common_steps))
+pub invariant_of-self : goal.invariant_of-self
+invariant_of-self c = subst (λ (l : List Kept). KeepsHeld c.self.inside.hung_up.items l c.self.inside.finished) (sym c.take_at.ensures.rest)
+    (keeping.taken c.self.inside.hung_up.items c.self.inside.kept.items c.self.inside.finished c.args.place c.in-Ok.i c.self.invariant c.in-Ok.ensures).1
 
-pub returns-then-is_some-clause-rest : goal.returns-then-is_some-clause-rest
-returns-then-is_some-clause-rest c =
-    let over : List Bool = c.self.inside.let_go.items in
-    let live : List Mailbox = c.self.inside.live.items in
-    let i : ℕ = c.args.place - c.len-let_go.result in
-    let size : c.len-let_go.result ≡ length over = grind (arith, common_steps) in
-    let place : c.args.place ≡ length over + i = omega (arith, size, c.if-place-let_go.false) in
-    let all = length-boxes c.args.self.now over live c.self.inside.finished c.self.view_is in
-    let low : i < length live = omega (arith, size, c.if-place-let_go.false, all, c.requires) in
-    let here : c.index_mut.result.now ≡ at live i = get_or_read live _ _ low c.index_mut.ensures.value Empty in
-    c.lets_go.ensures ∙ taken-live c.args.self.now over live c.self.inside.finished i c.args.place c.index_mut.result.now c.take_first-first.new.mailbox c.self.view_is place here c.take_first-first.ensures.rest
+pub returns-in-Err-clause-result : goal.returns-in-Err-clause-result
+returns-in-Err-clause-result c =
+    let all = keeping.booked-is c.args.self.now c.self.inside.hung_up.items c.self.inside.kept.items c.self.inside.finished c.self.view_is in
+    let low : c.args.place < length c.self.inside.hung_up.items = omega (arith, all, c.requires) in
+    (keeping.nothing-taken c.self.inside.hung_up.items c.self.inside.kept.items c.args.place c.in-Err.ensures low).0 ∙ ap (λ (m : Mail). first_of (at m.boxes c.args.place)) c.self.view_is
+
+pub returns-in-Err-clause-rest : goal.returns-in-Err-clause-rest
+returns-in-Err-clause-rest c =
+    let all = keeping.booked-is c.args.self.now c.self.inside.hung_up.items c.self.inside.kept.items c.self.inside.finished c.self.view_is in
+    let low : c.args.place < length c.self.inside.hung_up.items = omega (arith, all, c.requires) in
+    subst (λ (m : Mail). m ≡ record { boxes = slice_set m.boxes c.args.place (rest_of (at m.boxes c.args.place)); finished = m.finished }) c.self.view_is
+    (ap (λ (ms : List Mailbox). record { boxes = ms; finished = c.self.inside.finished }) (keeping.nothing-taken c.self.inside.hung_up.items c.self.inside.kept.items c.args.place c.in-Err.ensures low).1)
+
+pub returns-in-Ok-clause-result : goal.returns-in-Ok-clause-result
+returns-in-Ok-clause-result c =
+    c.take_at.ensures.result
+    ∙ ap first_of (sym (keeping.seen-kept c.self.inside.hung_up.items c.self.inside.kept.items c.self.inside.finished c.args.place c.in-Ok.i c.self.invariant c.in-Ok.ensures))
+    ∙ ap (λ (m : Mail). first_of (at m.boxes c.args.place)) c.self.view_is
+
+pub returns-in-Ok-clause-rest : goal.returns-in-Ok-clause-rest
+returns-in-Ok-clause-rest c =
+    ap (λ (l : List Kept). keeping.mail_of c.self.inside.hung_up.items l c.self.inside.finished) c.take_at.ensures.rest
+    ∙ ap (λ (ms : List Mailbox). record { boxes = ms; finished = c.self.inside.finished })
+    (keeping.taken c.self.inside.hung_up.items c.self.inside.kept.items c.self.inside.finished c.args.place c.in-Ok.i c.self.invariant c.in-Ok.ensures).0
+    ∙ ap (λ (m : Mail). record { boxes = slice_set m.boxes c.args.place (rest_of (at m.boxes c.args.place)); finished = m.finished }) c.self.view_is
