@@ -21,6 +21,7 @@ use Rattle.pg_connect.specs.Passed.{AllEngineCalls, IsEngineCall}
 use Rattle.pg_connect.specs.declared.streams.Streams.{Streams}
 use Rattle.pg_drive.specs.Lines.{IsKept}
 use Rattle.pg_drive.specs.Lives.{is_desk_call, is_own, under}
+use Rattle.pg_drive.specs.Tasks.{AllDeskCalls}
 
 -- a query is told nothing by a call of an engine
 told-nextout : (q : DeskCall) (r : Result Reply DeskFault) (answer : Result Out DeskFault) → Told q (call.NextOut answer) r → ⊥
@@ -170,3 +171,17 @@ poll-ticks becomes a b s t l m (Ready None) old new polled kept =
 poll-ticks becomes a b s t l m (Ready (Some (Ok message))) old new polled kept =
     record { events = polled.turns.goes.events; calls = polled.turns.goes.calls; became = polled.turns.goes.became }
 poll-ticks becomes a b s t l m (Ready (Some (Err e))) old new polled kept = absurd kept
+
+-- all events of a walk are calls of a desk
+pub walks-calls : {T : Type 0} (stamp : Stamp) (d : Dialogue T) (id : ℕ) (es : List Event) (q : Dialogue T) (end : ℕ) → Walks stamp d id es q end → AllDeskCalls es
+walks-calls stamp d id [] q end walks = tt
+walks-calls stamp d id (e ∷ es) q end walks = (steps-own stamp id walks.1 walks.0 d e walks.2, walks-calls stamp walks.0 walks.1 es q end walks.3)
+
+-- none of these is a call of a desk
+abbrev pub AllOthers : List Event → Type 0
+AllOthers [] = Unit {0}
+AllOthers (e ∷ es) = (is_desk_call e ≡ false) × AllOthers es
+
+pub engines-others : (es : List Event) → AllEngineCalls es → AllOthers es
+engines-others [] all = tt
+engines-others (e ∷ es) all = (engine-other e all.0, engines-others es all.1)

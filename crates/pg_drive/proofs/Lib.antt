@@ -3,3 +3,7 @@ pub mod Calls
 pub mod Living
 pub mod Failing
 pub mod Stalling
+pub mod Doing
+pub mod Lasting
+pub mod Ending
+pub mod OpenStands

@@ -1,5 +1,6 @@
 -- A line whose last two polls moved nothing, and one that is stalled.
-use Rattle.std.proofs.Common.{◌≡◌, ◌⊎◌, inl, inr, ℕ, Bool, true, false, List, [], ◌∷◌, Option, Result, Ok, Err, refl, sym, ◌∙◌, ap, subst}
+use Rattle.std.proofs.Common.{◌≡◌, ◌⊎◌, inl, inr, ℕ, Bool, true, false, List, [], ◌∷◌, if◌then◌else◌, Option, Some, None, Result, Ok, Err, refl, sym, ◌∙◌, ap, subst, length, zero, suc}
+use Rattle.std.proofs.lemmas.Bool.{both_ways}
 use Rattle.std.specs.Prelude.{IsTrue}
 use Rattle.futures.specs.declared.task.Poll.{Poll}
 use Rattle.futures.specs.declared.task.Poll.TheVariants.{Ready, Pending}
@@ -18,9 +19,10 @@ use Rattle.pg_connect.specs.declared.streams.Streams.{Streams}
 use Rattle.pg_drive.specs.declared.line.Lull.{Lull}
 use Rattle.pg_drive.specs.declared.line.Lull.TheVariants.{Moved, Still, Waited}
 use Rattle.pg_drive.proofs.Failing.{never-stalled}
-use Rattle.pg_drive.specs.Lines.{LineSteps, LineView, Paused, PauseEnds, moved_by}
+use Rattle.pg_drive.specs.Lines.{LineSteps, LineView, Paused, PauseEnds, has_moved, told_by}
 use Rattle.pg_drive.specs.Drives.{Drives, Stand, over}
 use Rattle.pg_drive.specs.Stalls.{IsStalled}
+use Rattle.pg_drive.specs.Tasks.{Rounds, Runs, Shared, behind_turns}
 
 -- what a pause leaves: something moved, or nothing did; and where the link was waited for, it was promised to be ready
 pub record Leaves (next : Lull) (moved : Bool) (m : LinkView) : Type 0 where
@@ -80,13 +82,15 @@ pause-stalls Waited false x y from to l m h =
 
 -- a poll that moved nothing waits
 pends : {H : Type 0} (becomes : H → List Event → H → Type 0) (a b : H) (s t : Streams) (l m : LinkView) (answer : Poll (Option (Result AsyncMessage Error))) →
-    PollAnswers becomes a b s t l m answer → moved_by answer t ≡ false → PollAnswers becomes a b s t l m Pending
+    PollAnswers becomes a b s t l m answer → has_moved (told_by answer t) ≡ false → PollAnswers becomes a b s t l m Pending
 pends becomes a b s t l m Pending polled unmoved = polled
-pends becomes a b s t l m (Ready x) polled unmoved = absurd cc
+pends becomes a b s t l m (Ready None) polled unmoved = absurd (both_ways true unmoved refl)
+pends becomes a b s t l m (Ready (Some x)) polled unmoved = absurd (both_ways true unmoved refl)
 
-still-streams : (answer : Poll (Option (Result AsyncMessage Error))) (t : Streams) → moved_by answer t ≡ false → t.moved ≡ false
+still-streams : (answer : Poll (Option (Result AsyncMessage Error))) (t : Streams) → has_moved (told_by answer t) ≡ false → t.moved ≡ false
 still-streams Pending t unmoved = unmoved
-still-streams (Ready x) t unmoved = absurd cc
+still-streams (Ready None) t unmoved = absurd (both_ways true unmoved refl)
+still-streams (Ready (Some x)) t unmoved = absurd (both_ways true unmoved refl)
 
 -- where nothing moved and the link was promised to be ready, it wasn't, or a mailbox was full
 lulled : {H : Type 0} (becomes : H → List Event → H → Type 0) (a b : H) (s t : Streams) (l m : LinkView) (waits : PollAnswers becomes a b s t l m Pending) → t.moved ≡ false → IsTrue l.promised →
@@ -117,16 +121,16 @@ well-new l new = record { still = λ no. absurd (no new); promised = λ w. absur
 module _ {H : Type 0} (becomes : H → List Event → H → Type 0) where
   well-on : (a b : LineView H) → Paused becomes a b (Ok b.lull) → IsWell b
   well-on a b p =
-      let leaves = pause-leaves a.lull b.lull p.moved a.link.quiet p.mid.link.quiet p.mid.link b.link p.pause in
+      let leaves = pause-leaves a.lull b.lull (has_moved p.told) a.link.quiet p.mid.link.quiet p.mid.link b.link p.pause in
       record {
-        still = λ no. ap (λ (x : LineView H). x.streams.moved) p.same ∙ still-streams p.polled.answer p.mid.streams (sym p.polled.says ∙ leaves.unmoved no);
+        still = λ no. ap (λ (x : LineView H). x.streams.moved) p.same ∙ still-streams p.polled.answer p.mid.streams (sym (ap has_moved p.polled.says) ∙ leaves.unmoved no);
         promised = leaves.promised;
       }
 
   stalls : (a b : LineView H) (from to : ℕ) → IsWell a → Paused becomes a b (Err (error.Stalled from to)) → IsStalled becomes a b from to
   stalls a b from to well p =
-      let says = pause-stalls a.lull p.moved a.link.quiet p.mid.link.quiet from to p.mid.link b.link p.pause in
-      let unmoved = sym p.polled.says ∙ says.unmoved in
+      let says = pause-stalls a.lull (has_moved p.told) a.link.quiet p.mid.link.quiet from to p.mid.link b.link p.pause in
+      let unmoved = sym (ap has_moved p.polled.says) ∙ says.unmoved in
       let waits = pends becomes a.hub p.mid.hub a.streams p.mid.streams a.link p.mid.link p.polled.answer p.polled.polled unmoved in
       let still = still-streams p.polled.answer p.mid.streams unmoved in
       record {
@@ -150,15 +154,39 @@ module _ {H : Type 0} (becomes : H → List Event → H → Type 0) where
       let on = drives.0 in
       well-drive stamp n ss t drives.1 (well-on (over on.between s.line) n.line on.line)
 
-  pub why-stalled : {T : Type 0} (stamp : Stamp) (s : Stand H T) (ss : List (Stand H T)) (t : Stand H T) (between : H) (b : LineView H) (from to : ℕ) → s.line.lull ≡ Moved →
-      Drives becomes stamp s ss t → LineSteps becomes (over between t.line) b (Err (error.Stalled from to)) →
-      IsStalled becomes (over between t.line) b from to
-  why-stalled stamp s ss t between b from to new drives (inl (inl failed)) =
-      absurd (never-stalled from to becomes between b.hub t.line.streams b.streams t.line.link b.link failed.polled)
-  why-stalled stamp s ss t between b from to new drives (inl (inr lost)) = absurd (differ lost.memory)
+  -- a step in which a line that is well is stalled
+  stalled-step : (a b : LineView H) (from to : ℕ) → IsWell a → LineSteps becomes a b (Err (Error.Stalled from to)) → IsStalled becomes a b from to
+  stalled-step a b from to well (inl (inl failed)) =
+      absurd (never-stalled from to becomes a.hub b.hub a.streams b.streams a.link b.link failed.polled)
+  stalled-step a b from to well (inl (inr lost)) = absurd (differ lost.memory)
     where
       differ : error.Stalled from to ≡ error.OutOfMemory → ⊥
       differ e = absurd cc
-  why-stalled stamp s ss t between b from to new drives (inr paused) =
+  stalled-step a b from to well (inr paused) = stalls a b from to well paused
+
+  pub why-stalled : {T : Type 0} (stamp : Stamp) (s : Stand H T) (ss : List (Stand H T)) (t : Stand H T) (between : H) (b : LineView H) (from to : ℕ) → s.line.lull ≡ Moved →
+      Drives becomes stamp s ss t → LineSteps becomes (over between t.line) b (Err (Error.Stalled from to)) →
+      IsStalled becomes (over between t.line) b from to
+  why-stalled stamp s ss t between b from to new drives steps =
       let well = well-drive stamp s ss t drives (well-new s.line new) in
-      stalls (over between t.line) b from to (record { still = well.still; promised = well.promised }) paused
+      stalled-step (over between t.line) b from to (record { still = well.still; promised = well.promised }) steps
+
+  -- a line is well behind turns of its tasks
+  well-turned : (l : LineView H) (hub : H) (moved : Bool) → IsWell l → IsWell (behind_turns l hub moved)
+  well-turned l hub true well = well-new (behind_turns l hub true) refl
+  well-turned l hub false well = record { still = well.still; promised = well.promised }
+
+  well-rounds : {S : Type 0} (done : S → Bool) (turns : S → List Event → Bool → S → Type 0) (n : ℕ) (s t : Shared H S) → Rounds becomes done turns n s t → IsWell s.line → IsWell t.line
+  well-rounds done turns zero s t rounds well = subst (λ (x : Shared H _). IsWell x.line) (sym rounds) well
+  well-rounds done turns (suc n) s t rounds well =
+      let mid = rounds.0 in
+      let took = rounds.2.took in
+      well-on (behind_turns mid.line took.hub took.moved) t.line rounds.2.line
+
+  pub why-line-stalled : {S : Type 0} (done : S → Bool) (turns : S → List Event → Bool → S → Type 0) (s t : Shared H S) (from to : ℕ) → s.line.lull ≡ Moved →
+      (runs : Runs becomes done turns s t (Err (Error.Stalled from to))) → IsStalled becomes (behind_turns runs.last.line runs.ends.took.hub runs.ends.took.moved) t.line from to
+  why-line-stalled done turns s t from to new runs =
+      let last = runs.last in
+      let took = runs.ends.took in
+      stalled-step (behind_turns last.line took.hub took.moved) t.line from to
+      (well-turned last.line took.hub took.moved (well-rounds done turns runs.count s last runs.rounds (well-new s.line new))) runs.ends.line

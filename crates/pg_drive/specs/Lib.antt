@@ -2,3 +2,8 @@ pub mod Lines
 pub mod Drives
 pub mod Lives
 pub mod Stalls
+pub mod Tasks
+pub mod Runnings
+pub mod Deeds
+pub mod Closings
+pub mod Openings

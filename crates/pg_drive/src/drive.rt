@@ -5,7 +5,7 @@ ghost use Rattle.futures.specs.Poll.{OnPending};
 ghost use Rattle.pg_drive.specs.Drives.{GivesAt, HungUp, IsLive, Polls};
 ghost use Rattle.pg_drive.specs.Lines.{new_line, seen};
 
-use crate::line::{Line, Lull};
+use crate::line::Line;
 use futures::Future;
 use futures::task::{Context, Poll};
 use pg_connect::Connection;
@@ -47,12 +47,7 @@ impl<S: Polled + Drop, L: Link + Drop, E: Engine + Drop> Drive<S, L, E> {
             alloc,
             state: Some(state),
             stamp,
-            line: Line {
-                connection,
-                hub,
-                messages: Vec::new(alloc),
-                lull: Lull::Moved,
-            },
+            line: Line::new(alloc, connection, hub),
         }
     }
 
