@@ -1,0 +1,5 @@
+pub mod Decides
+pub mod Plans
+pub mod Same
+pub mod Machine
+pub mod Mapped

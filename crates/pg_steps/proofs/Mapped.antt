@@ -1,0 +1,161 @@
+-- A command whose answer is told in other words does what it did.
+use Rattle.std.proofs.Common.{◌≡◌, ◌⊎◌, inl, inr, ℕ, List, [], ◌∷◌, Bool, true, false, if◌then◌else◌, Result, Ok, Err, refl, sym, ap, ◌∙◌, subst}
+use Rattle.pg_spec.specs.RawMessages.{RawMessage}
+use Rattle.pg_spec.specs.declared.stamps.Stamp.{Stamp}
+use Rattle.pg_desk.specs.declared.event.DeskFault.{DeskFault}
+use Rattle.pg_desk.specs.declared.event.Put.TheVariants as putting
+use Rattle.pg_desk.specs.declared.event.Take.TheVariants as taking
+use Rattle.pg_desk.specs.declared.event.Event.{Event}
+use Rattle.pg_desk.specs.declared.event.Event.TheVariants as call
+use Rattle.pg_types.specs.declared.error.Error.{Error}
+use Rattle.pg_types.specs.declared.error.Error.TheVariants.{OutOfMemory}
+use Rattle.pg_query.specs.declared.desk_call.Cleanup.{Cleanup}
+use Rattle.pg_query.specs.declared.desk_call.Reply.{Reply}
+use Rattle.pg_query.specs.Dialogue.{Dialogue, Answer, Ask, Send, Leave, Read, Put, Finish, Close, HangUp, Call, Hear, feed, feed_one, after_reply, Steps, Walks, cleaning}
+use Rattle.pg_query.specs.Meaning.{ForMessage, ForRoom, Place, Goes, GoesToAnswer, Pauses, GivesUp, MatchPoll, WaitsAt}
+use Rattle.futures.specs.declared.task.Poll.{Poll}
+use Rattle.futures.specs.declared.task.Poll.TheVariants.{Ready, Pending}
+use Rattle.pg_query.specs.Scripts.{IsPut, IsRead, cleanup_of}
+use Rattle.pg_steps.specs.Mapped.{mapped, mapped_answer, mapped_place, mapped_poll}
+
+module _ {T U : Type 0} (f : T → U) where
+  -- ---- messages that came
+
+  -- one message that isn't read yet
+  one-mapped : (m : RawMessage) (d : Dialogue T) → feed_one m (mapped f d) ≡ mapped f (feed_one m d)
+  one-mapped m (Answer r) = refl
+  one-mapped m (Ask copying part d) = refl
+  one-mapped m (Send part refused d) = λ i. Send part (λ e. one-mapped m (refused e) i) (one-mapped m d i)
+  one-mapped m (Leave id d) = ap (λ (x : Dialogue U). Leave id x) (one-mapped m d)
+  one-mapped m (Read cleanup decides next) = by (decides (m ∷ []))
+    where
+      by : (b : Bool) → (if b then mapped f (next (m ∷ [])) else Read cleanup (λ ms. decides (m ∷ ms)) (λ ms. mapped f (next (m ∷ ms))))
+          ≡ mapped f (if b then next (m ∷ []) else Read cleanup (λ ms. decides (m ∷ ms)) (λ ms. next (m ∷ ms)))
+      by true = refl
+      by false = refl
+  one-mapped m (Put cleanup part d) = ap (λ (x : Dialogue U). Put cleanup part x) (one-mapped m d)
+  one-mapped m (Finish part d) = ap (λ (x : Dialogue U). Finish part x) (one-mapped m d)
+  one-mapped m (Close part d) = ap (λ (x : Dialogue U). Close part x) (one-mapped m d)
+  one-mapped m (HangUp d) = refl
+  one-mapped m (Call q refused next) = λ i. Call q (λ e. one-mapped m (refused e) i) (λ r. one-mapped m (next r) i)
+  one-mapped m (Hear next) = λ i. Hear (λ r. one-mapped m (next r) i)
+
+  -- and several
+  fed-mapped : (ms : List RawMessage) (d : Dialogue T) → feed ms (mapped f d) ≡ mapped f (feed ms d)
+  fed-mapped [] d = refl
+  fed-mapped (m ∷ ms) d = ap (feed ms) (one-mapped m d) ∙ fed-mapped ms (feed_one m d)
+
+  -- ---- events
+
+  told-mapped : (r : Result Reply DeskFault) (refused : Error → Dialogue T) (next : Reply → Dialogue T) →
+      mapped f (after_reply r refused next) ≡ after_reply r (λ e. mapped f (refused e)) (λ x. mapped f (next x))
+  told-mapped (Ok x) refused next = refl
+  told-mapped (Err fault) refused next = refl
+
+  -- an event leads it as it did
+  step-mapped : (stamp : Stamp) (d : Dialogue T) (id : ℕ) (e : Event) (d' : Dialogue T) (id' : ℕ) → Steps stamp d id e d' id' → Steps stamp (mapped f d) id e (mapped f d') id'
+  step-mapped stamp (Ask copying part d) id (call.Book stamp' part' copying' (Ok new)) d' id' s = (s.0, s.1, s.2, ap (mapped f) s.3, s.4)
+  step-mapped stamp (Ask copying part d) id (call.Book stamp' part' copying' (Err e)) d' id' s = (s.0, s.1, s.2, ap (mapped f) s.3, s.4)
+  step-mapped stamp (Ask copying part d) id e d' id' s = absurd s
+  step-mapped stamp (Send part refused d) id (call.Book stamp' part' copying (Ok new)) d' id' s = (s.0, s.1, s.2, ap (mapped f) s.3, s.4)
+  step-mapped stamp (Send part refused d) id (call.Book stamp' part' copying (Err e)) d' id' s = (s.0, s.1, s.2, ap (mapped f) s.3, s.4)
+  step-mapped stamp (Send part refused d) id e d' id' s = absurd s
+  step-mapped stamp (Leave sent d) id (call.HangUp which (Ok x)) d' id' s = (s.0, ap (mapped f) s.1, s.2)
+  step-mapped stamp (Leave sent d) id (call.HangUp which (Err e)) d' id' s = (s.0, ap (mapped f) s.1, s.2)
+  step-mapped stamp (Leave sent d) id e d' id' s = absurd s
+  step-mapped stamp (Read cleanup decides next) id (call.Take which (Ok (taking.Batch ms))) d' id' s =
+      (s.0, ap (mapped f) s.1 ∙ sym (fed-mapped ms (Read cleanup decides next)), s.2)
+  step-mapped stamp (Read cleanup decides next) id (call.Take which (Ok taking.Empty)) d' id' s = (s.0, ap (mapped f) s.1, s.2)
+  step-mapped stamp (Read cleanup decides next) id (call.Take which (Ok taking.Over)) d' id' s = (s.0, ap (mapped f) s.1, s.2)
+  step-mapped stamp (Read cleanup decides next) id (call.Take which (Ok taking.Gone)) d' id' s = (s.0, ap (mapped f) s.1, s.2)
+  step-mapped stamp (Read cleanup decides next) id (call.Take which (Err e)) d' id' s = (s.0, ap (mapped f) s.1, s.2)
+  step-mapped stamp (Read cleanup decides next) id e d' id' s = absurd s
+  step-mapped stamp (Put cleanup part d) id (call.Put which part' putting.Took) d' id' s = (s.0, s.1, ap (mapped f) s.2, s.3)
+  step-mapped stamp (Put cleanup part d) id (call.Put which part' (putting.Full back)) d' id' s = (s.0, s.1, ap (mapped f) s.2, s.3)
+  step-mapped stamp (Put cleanup part d) id (call.Put which part' (putting.Gone back)) d' id' s = (s.0, s.1, ap (mapped f) s.2, s.3)
+  step-mapped stamp (Put cleanup part d) id (call.Put which part' (putting.OutOfMemory back)) d' id' s = (s.0, s.1, ap (mapped f) s.2, s.3)
+  step-mapped stamp (Put cleanup part d) id e d' id' s = absurd s
+  step-mapped stamp (Finish part d) id (call.EndCopy which part' putting.Took) d' id' s = (s.0, s.1, ap (mapped f) s.2, s.3)
+  step-mapped stamp (Finish part d) id (call.EndCopy which part' (putting.Gone back)) d' id' s = (s.0, s.1, ap (mapped f) s.2, s.3)
+  step-mapped stamp (Finish part d) id (call.EndCopy which part' (putting.OutOfMemory back)) d' id' s = (s.0, s.1, ap (mapped f) s.2, s.3)
+  step-mapped stamp (Finish part d) id e d' id' s = absurd s
+  step-mapped stamp (Close part d) id (call.EndCopy which part' putting.Took) d' id' s = (s.0, s.1, ap (mapped f) s.2, s.3)
+  step-mapped stamp (Close part d) id (call.EndCopy which part' (putting.Gone back)) d' id' s = (s.0, s.1, ap (mapped f) s.2, s.3)
+  step-mapped stamp (Close part d) id (call.EndCopy which part' (putting.OutOfMemory back)) d' id' s = (s.0, s.1, ap (mapped f) s.2, s.3)
+  step-mapped stamp (Close part d) id e d' id' s = absurd s
+  step-mapped stamp (HangUp d) id (call.HangUp which (Ok x)) d' id' s = (s.0, ap (mapped f) s.1, s.2)
+  step-mapped stamp (HangUp d) id (call.HangUp which (Err e)) d' id' s = (s.0, ap (mapped f) s.1, s.2)
+  step-mapped stamp (HangUp d) id e d' id' s = absurd s
+  step-mapped stamp (Call q refused next) id e d' id' (r, told, is, same) = (r, told, ap (mapped f) is ∙ told-mapped r refused next, same)
+  step-mapped stamp (Answer r) id e d' id' s = absurd s
+  step-mapped stamp (Hear next) id e d' id' s = absurd s
+
+  -- and so do several
+  walk-mapped : (stamp : Stamp) (d : Dialogue T) (id : ℕ) (es : List Event) (d' : Dialogue T) (id' : ℕ) → Walks stamp d id es d' id' → Walks stamp (mapped f d) id es (mapped f d') id'
+  walk-mapped stamp d id [] d' id' w = (ap (mapped f) w.0, w.1)
+  walk-mapped stamp d id (e ∷ es) d' id' (mid, n, s, w) = (mapped f mid, n, step-mapped stamp d id e mid n s, walk-mapped stamp mid n es d' id' w)
+
+  -- ---- polls
+
+  read-mapped : (d : Dialogue T) → IsRead d → IsRead (mapped f d)
+  read-mapped (Read cleanup decides next) h = tt
+  read-mapped (Answer r) h = absurd h
+  read-mapped (Ask copying part d) h = absurd h
+  read-mapped (Send part refused d) h = absurd h
+  read-mapped (Leave id d) h = absurd h
+  read-mapped (Put cleanup part d) h = absurd h
+  read-mapped (Finish part d) h = absurd h
+  read-mapped (Close part d) h = absurd h
+  read-mapped (HangUp d) h = absurd h
+  read-mapped (Call q refused next) h = absurd h
+  read-mapped (Hear next) h = absurd h
+
+  put-mapped : (d : Dialogue T) → IsPut d → IsPut (mapped f d)
+  put-mapped (Put cleanup part d) h = tt
+  put-mapped _ h = absurd h
+
+  waits-mapped : (q : Place T) (es : List Event) → WaitsAt q es → WaitsAt (mapped_place f q) es
+  waits-mapped q es (ForMessage reads none) = ForMessage (read-mapped q.dialogue reads) none
+  waits-mapped q es (ForRoom puts part full) = ForRoom (put-mapped q.dialogue puts) part full
+
+  -- what is left to do is the same
+  left-mapped : (d : Dialogue T) → cleanup_of (mapped f d) ≡ cleanup_of d
+  left-mapped (Read cleanup decides next) = refl
+  left-mapped (Put cleanup part d) = refl
+  left-mapped (Answer r) = refl
+  left-mapped (Ask copying part d) = refl
+  left-mapped (Send part refused d) = refl
+  left-mapped (Leave id d) = refl
+  left-mapped (Finish part d) = refl
+  left-mapped (Close part d) = refl
+  left-mapped (HangUp d) = refl
+  left-mapped (Call q refused next) = refl
+  left-mapped (Hear next) = refl
+
+  module _ {D : Type 0} (becomes : D → List Event → D → Type 0) (stamp : Stamp) (a : D) (p : Place T) (b : D) where
+    goes-mapped : (q : Place T) → Goes becomes stamp a p b q → Goes becomes stamp a (mapped_place f p) b (mapped_place f q)
+    goes-mapped q g = record { events = g.events; became = g.became; walked = walk-mapped stamp p.dialogue p.reads g.events q.dialogue q.reads g.walked }
+
+    -- a poll that answered
+    pub answers-mapped : (r : Result T Error) → GoesToAnswer becomes stamp a p b r → GoesToAnswer becomes stamp a (mapped_place f p) b (mapped_answer f r)
+    answers-mapped r g = record { last = mapped_place f g.last; goes = goes-mapped g.last g.goes; answers = by g.answers }
+      where
+        by : (g.last.dialogue ≡ Answer r) ⊎ (r ≡ Err OutOfMemory) → (mapped f g.last.dialogue ≡ Answer (mapped_answer f r)) ⊎ (mapped_answer f r ≡ Err OutOfMemory)
+        by (inl e) = inl (ap (mapped f) e)
+        by (inr e) = inr (ap (mapped_answer f) e)
+
+    -- one that waits
+    pub pauses-mapped : (q : Place T) → Pauses becomes stamp a p b q → Pauses becomes stamp a (mapped_place f p) b (mapped_place f q)
+    unfolding goes-mapped
+    pauses-mapped q h = record { goes = goes-mapped q h.goes; waits = waits-mapped q h.goes.events h.waits }
+
+    -- either
+    pub poll-mapped : (Live : Type 0) (q : Place T) (x : Poll (Result T Error)) → MatchPoll x (λ r. GoesToAnswer becomes stamp a p b r) (Pauses becomes stamp a p b q × Live) →
+        MatchPoll (mapped_poll f x) (λ r. GoesToAnswer becomes stamp a (mapped_place f p) b r) (Pauses becomes stamp a (mapped_place f p) b (mapped_place f q) × Live)
+    poll-mapped Live q (Ready r) h = answers-mapped r h
+    poll-mapped Live q Pending h = (pauses-mapped q h.0, h.1)
+
+    -- one that gives it up
+    pub gives-up-mapped : (r : Result (Unit {0}) Error) → GivesUp becomes stamp a p b r → GivesUp becomes stamp a (mapped_place f p) b r
+    gives-up-mapped r g =
+        subst (λ (c : List Cleanup). GoesToAnswer becomes stamp a (record { dialogue = cleaning c; reads = p.reads }) b r) (sym (left-mapped p.dialogue)) g

@@ -1,0 +1,9 @@
+pub mod Transactions
+pub mod Requests
+pub mod Replies
+pub mod Calls
+pub mod Steps
+pub mod Plans
+pub mod Dialogues
+pub mod Mapped
+pub mod Doing
