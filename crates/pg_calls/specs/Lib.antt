@@ -1,1 +1,4 @@
+pub mod Made
+pub mod Answers
 pub mod Clearing
+pub mod Levels

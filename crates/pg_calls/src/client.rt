@@ -19,8 +19,16 @@ ghost use Rattle.pg_streams.specs.SimpleStreams.{simple_query_raw};
 ghost use Rattle.pg_states.specs.Paired.{paired};
 ghost use Rattle.pg_streams.specs.TypedRawStates.{opens_first};
 ghost use Rattle.pg_streams.specs.TypedRaw.{FoundRows, finds_rows, query_typed_raw};
+ghost use Rattle.pg_calls.specs.Answers.{at_most_one, maybe_row, one_of, one_row, rows_of};
 ghost use Rattle.pg_calls.specs.Clearing.{Clears};
+ghost use Rattle.pg_calls.specs.Made.{made};
 
+use crate::answered::Answered;
+use crate::answers::{
+    AllRows, MaybeRow, MaybeValue, OneRow, OneValue, QueryOneScalarState, QueryOneState,
+    QueryOptScalarState, QueryOptState, QueryState, QueryTypedOneState, QueryTypedOptState,
+    QueryTypedState,
+};
 use pg_client::{BatchExecuteState, CheckConnectionState, SessionCheckState, SimpleQueryState};
 use pg_config::TargetSessionAttrs;
 use pg_desk::{Desk, Statement};
@@ -28,10 +36,7 @@ use pg_errors::Error;
 use pg_execute::{HowMany, Target};
 use pg_open::{CancelToken, SessionInfo};
 use pg_query::{Polled, error_of};
-use pg_states::{
-    CloseState, ExecuteState, ExecuteTypedState, PrepareState, QueryScalarState, QueryState,
-    QueryTypedState,
-};
+use pg_states::{CloseState, ExecuteState, ExecuteTypedState, PrepareState, QueryScalarState};
 use pg_streams::{Opens, QueryRawState, QueryTypedRawState, SimpleQueryRawState};
 use pg_types::{Oid, Type, Value};
 
@@ -156,9 +161,12 @@ impl Client {
     /// those of `simple_query`.
     pub fn query<'a>(&self, target: Target<'a>, values: &'a [Value]) -> QueryState<'a>
         ensures live { ⟦<QueryState<'a> as Polled>⟧.is_live result }
-        ensures asks { (⟦<QueryState<'a> as Polled>⟧.place result).dialogue ≡ on_target prepare_text (λ s. query HowMany.Any s values.now) target.entry }
+        ensures asks { (⟦<QueryState<'a> as Polled>⟧.place result).dialogue ≡ made rows_of (on_target prepare_text (λ s. query HowMany.Any s values.now) target.entry) }
     {
-        QueryState::new(target, HowMany::Any, values)
+        Answered::new(
+            pg_states::QueryState::new(target, HowMany::Any, values),
+            AllRows,
+        )
     }
 
     /// Like `query`, where its rows are handed on as a stream, once the server took the values. The errors are those of `query`;
@@ -172,21 +180,26 @@ impl Client {
         QueryRawState::new(target, values)
     }
 
-    /// Like `query`, where there must be one row, which is the answer's only one: RowCount comes where there is none, or a
-    /// second one.
-    pub fn query_one<'a>(&self, target: Target<'a>, values: &'a [Value]) -> QueryState<'a>
-        ensures live { ⟦<QueryState<'a> as Polled>⟧.is_live result }
-        ensures asks { (⟦<QueryState<'a> as Polled>⟧.place result).dialogue ≡ on_target prepare_text (λ s. query HowMany.One s values.now) target.entry }
+    /// Like `query`, where there must be one row, which is the answer: RowCount comes where there is none, or a second one.
+    pub fn query_one<'a>(&self, target: Target<'a>, values: &'a [Value]) -> QueryOneState<'a>
+        ensures live { ⟦<QueryOneState<'a> as Polled>⟧.is_live result }
+        ensures asks { (⟦<QueryOneState<'a> as Polled>⟧.place result).dialogue ≡ made one_row (on_target prepare_text (λ s. query HowMany.One s values.now) target.entry) }
     {
-        QueryState::new(target, HowMany::One, values)
+        Answered::new(
+            pg_states::QueryState::new(target, HowMany::One, values),
+            OneRow,
+        )
     }
 
-    /// Like `query`, where there may be one row: RowCount comes where there is a second one. The answer has one row or none.
-    pub fn query_opt<'a>(&self, target: Target<'a>, values: &'a [Value]) -> QueryState<'a>
-        ensures live { ⟦<QueryState<'a> as Polled>⟧.is_live result }
-        ensures asks { (⟦<QueryState<'a> as Polled>⟧.place result).dialogue ≡ on_target prepare_text (λ s. query HowMany.AtMostOne s values.now) target.entry }
+    /// Like `query`, where there may be one row, which is the answer: RowCount comes where there is a second one.
+    pub fn query_opt<'a>(&self, target: Target<'a>, values: &'a [Value]) -> QueryOptState<'a>
+        ensures live { ⟦<QueryOptState<'a> as Polled>⟧.is_live result }
+        ensures asks { (⟦<QueryOptState<'a> as Polled>⟧.place result).dialogue ≡ made maybe_row (on_target prepare_text (λ s. query HowMany.AtMostOne s values.now) target.entry) }
     {
-        QueryState::new(target, HowMany::AtMostOne, values)
+        Answered::new(
+            pg_states::QueryState::new(target, HowMany::AtMostOne, values),
+            MaybeRow,
+        )
     }
 
     /// Like `query`, where the rows have one column, whose values are the answer. At the end of the rows ColumnCount
@@ -198,28 +211,34 @@ impl Client {
         QueryScalarState::new(target, HowMany::Any, values)
     }
 
-    /// The value of the one column of one row, as a list of one: like `query_scalar` and `query_one`.
+    /// The value of the one column of one row: like `query_scalar` and `query_one`.
     pub fn query_one_scalar<'a>(
         &self,
         target: Target<'a>,
         values: &'a [Value],
-    ) -> QueryScalarState<'a>
-        ensures live { ⟦<QueryScalarState<'a> as Polled>⟧.is_live result }
-        ensures asks { (⟦<QueryScalarState<'a> as Polled>⟧.place result).dialogue ≡ on_target prepare_text (λ s. query_scalar HowMany.One s values.now) target.entry }
+    ) -> QueryOneScalarState<'a>
+        ensures live { ⟦<QueryOneScalarState<'a> as Polled>⟧.is_live result }
+        ensures asks { (⟦<QueryOneScalarState<'a> as Polled>⟧.place result).dialogue ≡ made one_of (on_target prepare_text (λ s. query_scalar HowMany.One s values.now) target.entry) }
     {
-        QueryScalarState::new(target, HowMany::One, values)
+        Answered::new(
+            pg_states::QueryScalarState::new(target, HowMany::One, values),
+            OneValue,
+        )
     }
 
-    /// The value of the one column of the row, where there is one, as a list: like `query_scalar` and `query_opt`.
+    /// The value of the one column of the row, where there is one: like `query_scalar` and `query_opt`.
     pub fn query_opt_scalar<'a>(
         &self,
         target: Target<'a>,
         values: &'a [Value],
-    ) -> QueryScalarState<'a>
-        ensures live { ⟦<QueryScalarState<'a> as Polled>⟧.is_live result }
-        ensures asks { (⟦<QueryScalarState<'a> as Polled>⟧.place result).dialogue ≡ on_target prepare_text (λ s. query_scalar HowMany.AtMostOne s values.now) target.entry }
+    ) -> QueryOptScalarState<'a>
+        ensures live { ⟦<QueryOptScalarState<'a> as Polled>⟧.is_live result }
+        ensures asks { (⟦<QueryOptScalarState<'a> as Polled>⟧.place result).dialogue ≡ made at_most_one (on_target prepare_text (λ s. query_scalar HowMany.AtMostOne s values.now) target.entry) }
     {
-        QueryScalarState::new(target, HowMany::AtMostOne, values)
+        Answered::new(
+            pg_states::QueryScalarState::new(target, HowMany::AtMostOne, values),
+            MaybeValue,
+        )
     }
 
     /// Executes a statement or a text with these values, and answers how many rows its last command affected, 0 where none
@@ -253,9 +272,12 @@ impl Client {
         types: &'a [Type],
     ) -> QueryTypedState<'a>
         ensures live { ⟦<QueryTypedState<'a> as Polled>⟧.is_live result }
-        ensures asks { (⟦<QueryTypedState<'a> as Polled>⟧.place result).dialogue ≡ paired (length types.now) values.now (query_typed find_all HowMany.Any query.now types.now values.now) }
+        ensures asks { (⟦<QueryTypedState<'a> as Polled>⟧.place result).dialogue ≡ made rows_of (paired (length types.now) values.now (query_typed find_all HowMany.Any query.now types.now values.now)) }
     {
-        QueryTypedState::new(HowMany::Any, query, types, values)
+        Answered::new(
+            pg_states::QueryTypedState::new(HowMany::Any, query, types, values),
+            AllRows,
+        )
     }
 
     /// Like `query_typed`, where its rows are handed on as a stream, once their columns came and the types of these are known. Where one
@@ -282,11 +304,14 @@ impl Client {
         query: &'a str,
         values: &'a [Value],
         types: &'a [Type],
-    ) -> QueryTypedState<'a>
-        ensures live { ⟦<QueryTypedState<'a> as Polled>⟧.is_live result }
-        ensures asks { (⟦<QueryTypedState<'a> as Polled>⟧.place result).dialogue ≡ paired (length types.now) values.now (query_typed find_all HowMany.One query.now types.now values.now) }
+    ) -> QueryTypedOneState<'a>
+        ensures live { ⟦<QueryTypedOneState<'a> as Polled>⟧.is_live result }
+        ensures asks { (⟦<QueryTypedOneState<'a> as Polled>⟧.place result).dialogue ≡ made one_row (paired (length types.now) values.now (query_typed find_all HowMany.One query.now types.now values.now)) }
     {
-        QueryTypedState::new(HowMany::One, query, types, values)
+        Answered::new(
+            pg_states::QueryTypedState::new(HowMany::One, query, types, values),
+            OneRow,
+        )
     }
 
     /// Like `query_typed`, where there may be one row: RowCount comes where there is a second one.
@@ -295,11 +320,14 @@ impl Client {
         query: &'a str,
         values: &'a [Value],
         types: &'a [Type],
-    ) -> QueryTypedState<'a>
-        ensures live { ⟦<QueryTypedState<'a> as Polled>⟧.is_live result }
-        ensures asks { (⟦<QueryTypedState<'a> as Polled>⟧.place result).dialogue ≡ paired (length types.now) values.now (query_typed find_all HowMany.AtMostOne query.now types.now values.now) }
+    ) -> QueryTypedOptState<'a>
+        ensures live { ⟦<QueryTypedOptState<'a> as Polled>⟧.is_live result }
+        ensures asks { (⟦<QueryTypedOptState<'a> as Polled>⟧.place result).dialogue ≡ made maybe_row (paired (length types.now) values.now (query_typed find_all HowMany.AtMostOne query.now types.now values.now)) }
     {
-        QueryTypedState::new(HowMany::AtMostOne, query, types, values)
+        Answered::new(
+            pg_states::QueryTypedState::new(HowMany::AtMostOne, query, types, values),
+            MaybeRow,
+        )
     }
 
     /// Executes a text with values of these types, in one request, and answers how many rows its last command affected, 0
