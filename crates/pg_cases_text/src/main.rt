@@ -8,15 +8,22 @@ mod machines;
 mod named;
 mod replies;
 mod reports;
+mod said;
 mod sessions;
 
-use std::alloc::{AllocError, Global};
+use pg_cases::words::text_at;
+use std::alloc::AllocError;
 use std::io;
 
-/// The line, and what its case gives.
-fn row(alloc: Global, line: &str, out: &mut String) -> Result<(), AllocError> {
-    match pg_cases::words_of(alloc, line, out)? {
-        Some(words) => case::tell(alloc, words.as_slice(), out),
+/// The line, and what its case gives. What is said on standard error is also said there.
+fn row(rt: &HostRuntime, line: &str, out: &mut String) -> Result<(), AllocError> {
+    match pg_cases::words_of(rt.alloc(), line, out)? {
+        Some(words) => {
+            if text_at(words.as_slice(), 0) == "says" {
+                said::tell_aloud(rt, words.as_slice());
+            }
+            case::tell(rt.alloc(), words.as_slice(), out)
+        }
         None => Ok(()),
     }
 }
@@ -24,7 +31,7 @@ fn row(alloc: Global, line: &str, out: &mut String) -> Result<(), AllocError> {
 fn main(rt: HostRuntime) -> io::Result<()> {
     for line in rt.lines(rt.alloc()) {
         let mut out = String::new(rt.alloc());
-        match row(rt.alloc(), line?.as_str(), &mut out) {
+        match row(&rt, line?.as_str(), &mut out) {
             Ok(()) => println!(rt; "{out}")?,
             Err(AllocError) => println!(rt; "out of memory")?,
         }

@@ -49,7 +49,7 @@ fn caused(words: &[Vec<u8>]) -> Error {
 }
 
 /// The error of the variant of this name, but for Column and Db.
-fn error_of(words: &[Vec<u8>]) -> Error {
+pub(crate) fn error_of(words: &[Vec<u8>]) -> Error {
     match text_at(words, 1) {
         "UnexpectedMessage" => Error::UnexpectedMessage,
         "ColumnCount" => Error::ColumnCount,

@@ -1,12 +1,17 @@
 //! Plays a session text against a server that echoes, or a machine that is read from a file.
 #![tactic(auto)]
 
+mod telling;
+
 ghost use Rattle.std.specs.Prelude.{◌≡◌, ◌<◌};
 
+use crate::telling::{PROGRAM, tell_fault, tell_usage};
+use pg_diagnostics::{Front, Reason, reason_of, tell};
 use pg_machine::{FileFault, machine_of};
 use pg_served::{
     Outcome, Pieces, echo_link, machine_link, pieces_of, rehearse_echo, rehearse_machine,
 };
+use pg_types::Error;
 use pg_wire::{ReadSource, WriteSink};
 use std::process::ExitCode;
 use std::{env, fs, io, mem};
@@ -35,31 +40,79 @@ fn words(rt: &HostRuntime) -> io::Result<Vec<String>> {
     Ok(words)
 }
 
-/// The status. The program ends behind it, so what the session answered isn't let go piece by piece.
-fn status_of(outcome: Outcome) -> u8
+/// The error that a session answered.
+fn error_of(outcome: &Outcome) -> Option<&Error> {
+    match &outcome.result {
+        Some(Err(error)) => Some(error),
+        _ => None,
+    }
+}
+
+/// The status, and on standard error why it isn't 0. The program ends behind it, so what the session answered isn't let go piece
+/// by piece.
+fn end(rt: &HostRuntime, outcome: Outcome, head: &[u8]) -> u8
     ensures { result ≡ outcome.status }
 {
     let status = outcome.status;
+    if let Some(reason) = reason_of(status, error_of(&outcome), head) {
+        tell_end(rt, reason);
+    }
     mem::forget(outcome);
     status
 }
 
-/// Writes a line that says why nothing is played.
-fn refuse(rt: &HostRuntime, why: &str) -> u8 {
-    match println!(rt; "{why}") {
-        Ok(()) => REFUSED,
-        Err(_) => SINK_FAILED,
+/// Tells why, of the text or of the report.
+fn tell_end(rt: &HostRuntime, reason: Reason<'_>) {
+    let file = match reason {
+        Reason::Unwritten => "standard output",
+        _ => "standard input",
+    };
+    tell(rt, rt.alloc(), PROGRAM, file, reason, None);
+}
+
+/// Writes the usage line, and tells what the words mean.
+fn refuse(rt: &HostRuntime) -> u8 {
+    match println!(rt; "{USAGE}") {
+        Ok(()) => {
+            tell_usage(rt);
+            REFUSED
+        }
+        Err(_) => unwritten(rt),
     }
 }
 
-/// Writes what is wrong with the file of a machine.
-fn refuse_machine(rt: &HostRuntime, fault: FileFault) -> u8 {
+/// The status where standard output can't be written, and tells so.
+fn unwritten(rt: &HostRuntime) -> u8 {
+    tell_end(rt, Reason::Unwritten);
+    SINK_FAILED
+}
+
+/// The status of want of memory, and tells so.
+fn no_memory(rt: &HostRuntime) -> u8 {
+    tell_end(rt, Reason::OutOfMemory);
+    OUT_OF_MEMORY
+}
+
+/// The status where a file can't be read, and tells so.
+fn unread(rt: &HostRuntime, file: &str, error: &io::Error) -> u8 {
+    if matches!(error.kind(), io::ErrorKind::OutOfMemory) {
+        return no_memory(rt);
+    }
+    tell(rt, rt.alloc(), PROGRAM, file, Reason::Unread, Some(error));
+    SOURCE_FAILED
+}
+
+/// Writes what is wrong with the file of a machine, and tells it.
+fn refuse_machine(rt: &HostRuntime, file: &str, fault: FileFault) -> u8 {
     if matches!(fault, FileFault::OutOfMemory) {
-        return OUT_OF_MEMORY;
+        return no_memory(rt);
     }
     match println!(rt; "refused machine, {fault}") {
-        Ok(()) => REFUSED,
-        Err(_) => SINK_FAILED,
+        Ok(()) => {
+            tell_fault(rt, file, fault);
+            REFUSED
+        }
+        Err(_) => unwritten(rt),
     }
 }
 
@@ -70,11 +123,12 @@ fn echo(rt: &HostRuntime, pieces: Pieces) -> u8
 {
     let mut link = match echo_link(rt.alloc(), pieces) {
         Ok(link) => link,
-        Err(_) => return OUT_OF_MEMORY,
+        Err(_) => return no_memory(rt),
     };
     let mut source = ReadSource::new(rt.reader());
-    let mut sink = WriteSink::new(io::writer(rt));
-    status_of(rehearse_echo(rt.alloc(), &mut source, &mut sink, &mut link))
+    let mut sink = Front::new(WriteSink::new(io::writer(rt)));
+    let outcome = rehearse_echo(rt.alloc(), &mut source, &mut sink, &mut link);
+    end(rt, outcome, sink.head())
 }
 
 /// A session text on standard input against the machine of a file.
@@ -84,17 +138,17 @@ fn machine(rt: &HostRuntime, file: &str, pieces: Pieces) -> u8
 {
     let text = match fs::read(rt, file) {
         Ok(text) => text,
-        Err(error) if matches!(error.kind(), io::ErrorKind::OutOfMemory) => return OUT_OF_MEMORY,
-        Err(_) => return SOURCE_FAILED,
+        Err(error) => return unread(rt, file, &error),
     };
-    let file = match machine_of(rt.alloc(), text.as_slice()) {
-        Ok(file) => file,
-        Err(fault) => return refuse_machine(rt, fault),
+    let read = match machine_of(rt.alloc(), text.as_slice()) {
+        Ok(read) => read,
+        Err(fault) => return refuse_machine(rt, file, fault),
     };
-    let mut link = machine_link(rt.alloc(), file, pieces);
+    let mut link = machine_link(rt.alloc(), read, pieces);
     let mut source = ReadSource::new(rt.reader());
-    let mut sink = WriteSink::new(io::writer(rt));
-    status_of(rehearse_machine(rt.alloc(), &mut source, &mut sink, &mut link))
+    let mut sink = Front::new(WriteSink::new(io::writer(rt)));
+    let outcome = rehearse_machine(rt.alloc(), &mut source, &mut sink, &mut link);
+    end(rt, outcome, sink.head())
 }
 
 /// Does what the words ask for.
@@ -102,13 +156,13 @@ fn play(rt: &HostRuntime, words: &[String]) -> u8 {
     match words {
         [word, more @ ..] if word.as_str() == "echo" => match pieces_of(more) {
             Some(pieces) => echo(rt, pieces),
-            None => refuse(rt, USAGE),
+            None => refuse(rt),
         },
         [word, file, more @ ..] if word.as_str() == "machine" => match pieces_of(more) {
             Some(pieces) => machine(rt, file.as_str(), pieces),
-            None => refuse(rt, USAGE),
+            None => refuse(rt),
         },
-        _ => refuse(rt, USAGE),
+        _ => refuse(rt),
     }
 }
 
@@ -116,7 +170,7 @@ fn main(rt: HostRuntime) -> ExitCode {
     let words = match words(&rt) {
         Ok(words) => words,
         Err(error) if matches!(error.kind(), io::ErrorKind::OutOfMemory) => {
-            return ExitCode::from(OUT_OF_MEMORY);
+            return ExitCode::from(no_memory(&rt));
         }
         // A word isn't UTF-8, so it isn't one that is known: without words the usage line is due.
         Err(_) => Vec::new(rt.alloc()),
