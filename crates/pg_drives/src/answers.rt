@@ -1,13 +1,12 @@
 //! What calls answered, in words.
 
 use pg_cases::written;
-use pg_desk::Statement;
-use pg_errors::Error;
-use pg_execute::ResultSet;
-use pg_query::SimpleMessage;
-use pg_rows::{Row, RowIndex};
-use pg_types::{Blob, List, OutOfMemory, Text, Value};
 use std::alloc::{AllocError, Global};
+use tokio_postgres::types::{Blob, List, Text, Type, Value};
+use tokio_postgres::{
+    AsyncMessage, Column, Error, Row, RowIndex, SimpleColumn, SimpleMessage, SimpleQueryMessage,
+    SimpleQueryRow, Statement,
+};
 
 /// What a call may answer.
 pub(crate) trait Told: Drop {
@@ -24,6 +23,34 @@ pub(crate) fn tell_error(error: &Error, out: &mut String) -> Result<(), AllocErr
     }
 }
 
+/// An answer, or an error.
+pub(crate) fn tell_answer<T: Told>(
+    alloc: Global,
+    answer: Result<T, Error>,
+    out: &mut String,
+) -> Result<(), AllocError> {
+    match answer {
+        Ok(answer) => answer.tell(alloc, out),
+        Err(error) => tell_error(&error, out),
+    }
+}
+
+/// A message that no request asked for.
+pub(crate) fn tell_aside(message: &AsyncMessage, out: &mut String) -> Result<(), AllocError> {
+    match message {
+        AsyncMessage::Notice(notice) => write!(out, " notice {}", notice.get()),
+        AsyncMessage::Notification(it) => {
+            write!(
+                out,
+                " notification {} {:?} {:?}",
+                it.process_id(),
+                it.channel(),
+                it.payload()
+            )
+        }
+    }
+}
+
 /// Names of columns.
 fn tell_names(names: &[Text], out: &mut String) -> Result<(), AllocError> {
     out.push_str(" columns")?;
@@ -33,13 +60,30 @@ fn tell_names(names: &[Text], out: &mut String) -> Result<(), AllocError> {
     Ok(())
 }
 
+/// Columns, each with its type.
+pub(crate) fn tell_columns(columns: &[Column], out: &mut String) -> Result<(), AllocError> {
+    out.push_str(" columns")?;
+    for column in columns {
+        write!(out, " {:?} {}", column.name(), column.type_().name())?;
+    }
+    Ok(())
+}
+
+/// A cell of a row of a simple query.
+fn tell_cell(cell: Option<&[u8]>, out: &mut String) -> Result<(), AllocError> {
+    match cell {
+        Some(cell) => written::tell(cell, out),
+        None => out.push_str(" null"),
+    }
+}
+
 /// A row of a simple query.
 fn tell_cells(cells: &[Option<Blob>], out: &mut String) -> Result<(), AllocError> {
     out.push_str(" row")?;
     for cell in cells {
         match cell {
-            Some(cell) => written::tell(cell.as_slice(), out)?,
-            None => out.push_str(" null")?,
+            Some(cell) => tell_cell(Some(cell.as_slice()), out)?,
+            None => tell_cell(None, out)?,
         }
     }
     Ok(())
@@ -64,70 +108,101 @@ impl Told for List<SimpleMessage> {
     }
 }
 
-/// A prepared statement: its name, the oids of its parameters, and its columns.
-fn tell_statement(statement: &Statement, out: &mut String) -> Result<(), AllocError> {
-    write!(out, " statement {:?}", statement.name())?;
-    for ty in statement.params() {
-        write!(out, " {}", ty.oid())?;
-    }
-    out.push_str(" columns")?;
-    for column in statement.columns() {
-        write!(out, " {:?}", column.name())?;
+/// Types of parameters.
+fn tell_types(types: &[Type], out: &mut String) -> Result<(), AllocError> {
+    for ty in types {
+        write!(out, " {}", ty.name())?;
     }
     Ok(())
+}
+
+/// A prepared statement: its name, the types of its parameters, and its columns.
+impl Told for Statement {
+    fn tell(self, alloc: Global, out: &mut String) -> Result<(), AllocError> {
+        write!(out, " statement {:?}", self.name())?;
+        tell_types(self.params(), out)?;
+        tell_columns(self.columns(), out)
+    }
+}
+
+/// A value.
+fn tell_value(value: &Value, out: &mut String) -> Result<(), AllocError> {
+    match value {
+        Value::Null => out.push_str(" null"),
+        Value::Bool(it) => write!(out, " {it}"),
+        Value::Int(n) => write!(out, " {n}"),
+        Value::Text(text) => write!(out, " {:?}", text.as_str()),
+        Value::Bytes(bytes) => written::tell(bytes.as_slice(), out),
+    }
+}
+
+/// A value of a row, or why it isn't one.
+fn tell_read(value: Result<Value, Error>, out: &mut String) -> Result<(), AllocError> {
+    match &value {
+        Ok(value) => tell_value(value, out),
+        Err(error) => tell_error(error, out),
+    }
 }
 
 /// A row, value by value.
 fn tell_row(alloc: Global, row: &Row, out: &mut String) -> Result<(), AllocError> {
     out.push_str(" row")?;
     for i in 0..row.len() {
-        let value: Result<Value, Error> = row.try_get(alloc, RowIndex::At(i));
-        match &value {
-            Ok(value) => write!(out, " {value:?}")?,
-            Err(error) => tell_error(error, out)?,
-        }
+        tell_read(row.try_get(alloc, RowIndex::At(i)), out)?;
     }
     Ok(())
 }
 
-impl Told for Statement {
+/// A row, under its columns.
+impl Told for Row {
     fn tell(self, alloc: Global, out: &mut String) -> Result<(), AllocError> {
-        tell_statement(&self, out)
+        tell_columns(self.columns(), out)?;
+        tell_row(alloc, &self, out)
     }
 }
 
-/// Rows, or why they aren't those of their columns.
-fn tell_rows(
-    alloc: Global,
-    rows: &Result<List<Row>, Error>,
-    out: &mut String,
-) -> Result<(), AllocError> {
-    match rows {
-        Ok(rows) => {
-            for row in rows.as_slice() {
-                tell_row(alloc, row, out)?;
-            }
-            Ok(())
+impl Told for Option<Row> {
+    fn tell(self, alloc: Global, out: &mut String) -> Result<(), AllocError> {
+        match self {
+            Some(row) => row.tell(alloc, out),
+            None => out.push_str(" none"),
         }
-        Err(error) => tell_error(error, out),
     }
 }
 
-/// The rows of a query, and how many its last command affected.
-impl Told for ResultSet {
+impl Told for List<Row> {
     fn tell(self, alloc: Global, out: &mut String) -> Result<(), AllocError> {
-        let affected = self.affected();
-        let rows = self.into_rows(alloc);
-        tell_rows(alloc, &rows, out)?;
-        write!(out, " affected {affected:?}")
+        out.push_str(" rows")?;
+        for row in self.as_slice() {
+            tell_columns(row.columns(), out)?;
+            tell_row(alloc, row, out)?;
+        }
+        Ok(())
+    }
+}
+
+impl Told for Value {
+    fn tell(self, alloc: Global, out: &mut String) -> Result<(), AllocError> {
+        out.push_str(" value")?;
+        tell_value(&self, out)
+    }
+}
+
+impl Told for Option<Value> {
+    fn tell(self, alloc: Global, out: &mut String) -> Result<(), AllocError> {
+        match self {
+            Some(value) => value.tell(alloc, out),
+            None => out.push_str(" none"),
+        }
     }
 }
 
 /// The values of one column.
 impl Told for List<Value> {
     fn tell(self, alloc: Global, out: &mut String) -> Result<(), AllocError> {
+        out.push_str(" values")?;
         for value in self.as_slice() {
-            write!(out, " {value:?}")?;
+            tell_value(value, out)?;
         }
         Ok(())
     }
@@ -144,5 +219,49 @@ impl Told for u64 {
 impl Told for () {
     fn tell(self, alloc: Global, out: &mut String) -> Result<(), AllocError> {
         out.push_str(" done")
+    }
+}
+
+/// Names of columns of a simple query.
+fn tell_simple_columns(columns: &[SimpleColumn], out: &mut String) -> Result<(), AllocError> {
+    out.push_str(" columns")?;
+    for column in columns {
+        write!(out, " {:?}", column.name())?;
+    }
+    Ok(())
+}
+
+/// A value of a row of a simple query, or why it isn't one.
+fn tell_text(text: Result<Option<&str>, Error>, out: &mut String) -> Result<(), AllocError> {
+    match &text {
+        Ok(Some(text)) => written::tell(text.as_bytes(), out),
+        Ok(None) => out.push_str(" null"),
+        Err(error) => tell_error(error, out),
+    }
+}
+
+/// A row of a stream of a simple query.
+fn tell_simple_row(
+    alloc: Global,
+    row: &SimpleQueryRow,
+    out: &mut String,
+) -> Result<(), AllocError> {
+    out.push_str(" row")?;
+    for i in 0..row.len() {
+        tell_text(row.try_get(alloc, RowIndex::At(i)), out)?;
+    }
+    Ok(())
+}
+
+/// A part of a stream of a simple query.
+impl Told for SimpleQueryMessage {
+    fn tell(self, alloc: Global, out: &mut String) -> Result<(), AllocError> {
+        match &self {
+            SimpleQueryMessage::Row(row) => tell_simple_row(alloc, row, out),
+            SimpleQueryMessage::CommandComplete(n) => write!(out, " complete {n}"),
+            SimpleQueryMessage::RowDescription(columns) => {
+                tell_simple_columns(columns.as_slice(), out)
+            }
+        }
     }
 }

@@ -1,177 +1,411 @@
 //! What a case calls.
 
-use crate::answers::{Told, tell_error};
-use crate::opened::{link_of, open};
-use futures::executor::block_on;
-use pg_calls::Client;
-use pg_cases::words::{text, text_at};
-use pg_cases::written;
-use pg_config::Config;
-use pg_connect::Connection;
-use pg_desk::Stamp;
-use pg_drive::Drive;
-use pg_errors::Error;
-use pg_execute::Target;
-use pg_hub::Hub;
-use pg_open::{MaybeTls, NoTls, Opened, StreamOf};
-use pg_query::Polled;
-use pg_types::{Text, Value};
-use pg_wire::MemoryLink;
-use std::alloc::{AllocError, AllocGlobal, Global};
+ghost use Rattle.tokio_postgres.specs.Queries.{IsLiveQuery};
+
+use crate::answers::{tell_answer, tell_error};
+use crate::case::{Case, Form, Given, hands_on};
+use crate::opened::open;
+use crate::session::{Session, ask, drive, set, tell_end};
+use crate::{executions, given_up, others, streams};
+use futures::task::Poll;
+use std::alloc::{AllocError, AllocGlobal};
 use std::random::RandomSource;
 use std::sync::Wait;
+use tokio_postgres::config::TargetSessionAttrs;
+use tokio_postgres::states::SimpleQueryState;
+use tokio_postgres::{Client, Hub, Line, Opened, Polled, SessionInfo, Stamp, Statement, Target};
 
-/// The link of a connection that was opened without TLS.
-type Wired = MaybeTls<MemoryLink, StreamOf<MemoryLink, NoTls>>;
-
-/// What the link took.
-fn tell_link(connection: &Connection<Wired>, out: &mut String) -> Result<(), AllocError> {
-    out.push_str(" took")?;
-    match &connection.link {
-        MaybeTls::Raw(link) => written::tell(link.taken(), out),
-        MaybeTls::Tls(_) => Ok(()),
+/// The kind of session that a word names.
+fn attrs_of(word: &str) -> TargetSessionAttrs {
+    match word {
+        "read-write" => TargetSessionAttrs::ReadWrite,
+        "read-only" => TargetSessionAttrs::ReadOnly,
+        _ => TargetSessionAttrs::Any,
     }
-}
-
-/// The words before and behind the first `:`.
-fn split(words: &[Vec<u8>]) -> (&[Vec<u8>], &[Vec<u8>]) {
-    for place in 0..words.len() {
-        if text(words[place].as_slice()) == ":" {
-            return (&words[..place], &words[place + 1..]);
-        }
-    }
-    (words, &[])
-}
-
-/// The value that a word is: a number, or else a text.
-fn value_of(alloc: Global, word: &[u8]) -> Result<Value, AllocError> {
-    let word = text(word);
-    if let Ok(n) = word.parse::<i64>() {
-        return Ok(Value::Int(n));
-    }
-    match Text::from_str(alloc, word) {
-        Ok(text) => Ok(Value::Text(text)),
-        Err(_) => Err(AllocError),
-    }
-}
-
-/// The values that these words are.
-fn values_of(alloc: Global, words: &[Vec<u8>]) -> Result<Vec<Value>, AllocError> {
-    let mut values = Vec::new(alloc);
-    for word in words {
-        values.push(value_of(alloc, word.as_slice())?)?;
-    }
-    Ok(values)
-}
-
-/// An answer, or an error.
-fn tell_answer<T: Told>(
-    alloc: Global,
-    answer: Result<T, Error>,
-    out: &mut String,
-) -> Result<(), AllocError> {
-    match answer {
-        Ok(answer) => answer.tell(alloc, out),
-        Err(error) => tell_error(&error, out),
-    }
-}
-
-/// Drives the state of a call to its answer, over a hub of its own, and tells that and what the link took.
-fn drive_to_end<R: Wait + RandomSource + AllocGlobal, T: Told, S: Polled<Output = T> + Drop>(
-    rt: &R,
-    state: S,
-    connection: Connection<Wired>,
-    out: &mut String,
-) -> Result<(), AllocError>
-    requires { S.is_live state }
-{
-    let hub = Hub::new(rt.alloc(), 0, 0);
-    let mut drive = Drive::new(rt.alloc(), state, Stamp::new(0, 0, 0), connection, hub);
-    let Ok(answer) = block_on(rt, &mut drive) else {
-        return Err(AllocError);
-    };
-    let (connection, _hub, _messages) = drive.into_parts();
-    tell_answer(rt.alloc(), answer, out)?;
-    tell_link(&connection, out)
 }
 
 /// A call without values, by its name.
 fn tell_plain<R: Wait + RandomSource + AllocGlobal>(
     rt: &R,
-    call: &str,
-    query: &str,
-    opened: Opened<MemoryLink, NoTls>,
+    client: &Client,
+    case: &Case<'_>,
+    given: &Given,
+    session: Session,
     out: &mut String,
-) -> Result<(), AllocError> {
-    let Opened {
-        info,
-        sent: _sent,
-        connection,
-    } = opened;
-    let client = Client::new(0, &info);
-    match call {
-        "simple_query" => drive_to_end(rt, client.simple_query(query), connection, out),
-        "prepare" => drive_to_end(rt, client.prepare(query), connection, out),
-        "batch_execute" => drive_to_end(rt, client.batch_execute(query), connection, out),
-        _ => drive_to_end(rt, client.check_connection(), connection, out),
+) -> Result<Session, AllocError> {
+    let (text, stamp) = (case.text, Stamp::new(0, 0, 0));
+    match case.call {
+        "simple_query" => ask(rt, client.simple_query(text), stamp, session, out),
+        "batch_execute" => ask(rt, client.batch_execute(text), stamp, session, out),
+        "check_connection" => ask(rt, client.check_connection(), stamp, session, out),
+        "session_check" => ask(
+            rt,
+            client.session_check(attrs_of(text)),
+            stamp,
+            session,
+            out,
+        ),
+        "prepare" => ask(rt, client.prepare(text), stamp, session, out),
+        _ => ask(
+            rt,
+            client.prepare_typed(text, given.oids.as_slice()),
+            stamp,
+            session,
+            out,
+        ),
     }
 }
 
-/// A call with values, by its name.
-fn tell_valued<R: Wait + RandomSource + AllocGlobal>(
+/// A call of a text with values of given types, by its name.
+fn tell_typed<R: Wait + RandomSource + AllocGlobal>(
     rt: &R,
-    call: &str,
-    target: Target<'_>,
-    values: &[Value],
-    opened: Opened<MemoryLink, NoTls>,
+    client: &Client,
+    case: &Case<'_>,
+    given: &Given,
+    session: Session,
     out: &mut String,
-) -> Result<(), AllocError> {
-    let Opened {
-        info,
-        sent: _sent,
-        connection,
-    } = opened;
-    let client = Client::new(0, &info);
-    match call {
-        "execute" => drive_to_end(rt, client.execute(target, values), connection, out),
-        "query_scalar" => drive_to_end(rt, client.query_scalar(target, values), connection, out),
-        "query_one" => drive_to_end(rt, client.query_one(target, values), connection, out),
-        "query_opt" => drive_to_end(rt, client.query_opt(target, values), connection, out),
-        _ => drive_to_end(rt, client.query(target, values), connection, out),
+) -> Result<Session, AllocError> {
+    let (text, stamp) = (case.text, Stamp::new(0, 0, 0));
+    let (values, types) = (given.values.as_slice(), given.types.as_slice());
+    match case.call {
+        "query_typed" => ask(
+            rt,
+            client.query_typed(text, values, types),
+            stamp,
+            session,
+            out,
+        ),
+        "query_typed_one" => ask(
+            rt,
+            client.query_typed_one(text, values, types),
+            stamp,
+            session,
+            out,
+        ),
+        "query_typed_opt" => ask(
+            rt,
+            client.query_typed_opt(text, values, types),
+            stamp,
+            session,
+            out,
+        ),
+        _ => ask(
+            rt,
+            client.execute_typed(text, values, types),
+            stamp,
+            session,
+            out,
+        ),
     }
 }
 
-/// Opens a connection over the words behind `:`, and makes the call that the first word names: `simple_query`, `prepare`,
-/// `batch_execute` or `check_connection` with a text, or `query`, `query_one`, `query_opt`, `query_scalar` or `execute` with a
-/// text and values.
+/// A call of a target whose answer is rows or a count, by its name.
+fn tell_rows<R: Wait + RandomSource + AllocGlobal>(
+    rt: &R,
+    client: &Client,
+    case: &Case<'_>,
+    target: Target<'_>,
+    given: &Given,
+    session: Session,
+    out: &mut String,
+) -> Result<Session, AllocError> {
+    let (values, stamp) = (given.values.as_slice(), Stamp::new(0, 0, 0));
+    match case.call {
+        "query" => ask(rt, client.query(target, values), stamp, session, out),
+        "query_one" => ask(rt, client.query_one(target, values), stamp, session, out),
+        "query_opt" => ask(rt, client.query_opt(target, values), stamp, session, out),
+        "execute" => ask(rt, client.execute(target, values), stamp, session, out),
+        _ => ask(rt, client.execute_raw(target, values), stamp, session, out),
+    }
+}
+
+/// A call of a target whose answer is values, by its name.
+fn tell_scalars<R: Wait + RandomSource + AllocGlobal>(
+    rt: &R,
+    client: &Client,
+    case: &Case<'_>,
+    target: Target<'_>,
+    given: &Given,
+    session: Session,
+    out: &mut String,
+) -> Result<Session, AllocError> {
+    let (values, stamp) = (given.values.as_slice(), Stamp::new(0, 0, 0));
+    match case.call {
+        "query_scalar" => ask(rt, client.query_scalar(target, values), stamp, session, out),
+        "query_one_scalar" => ask(
+            rt,
+            client.query_one_scalar(target, values),
+            stamp,
+            session,
+            out,
+        ),
+        _ => ask(
+            rt,
+            client.query_opt_scalar(target, values),
+            stamp,
+            session,
+            out,
+        ),
+    }
+}
+
+/// A call of a target that is polled by hand.
+fn tell_by_hand<R: Wait + RandomSource + AllocGlobal>(
+    rt: &R,
+    client: &Client,
+    case: &Case<'_>,
+    target: Target<'_>,
+    given: &Given,
+    session: Session,
+    out: &mut String,
+) -> Result<Session, AllocError> {
+    let mut session = session;
+    if hands_on(case.call) {
+        streams::tell(rt.alloc(), client, case, target, given, &mut session, out)?;
+    } else {
+        given_up::tell(rt.alloc(), client, case, target, given, &mut session, out)?;
+    }
+    Ok(session)
+}
+
+/// A call of a target, by its name.
+fn tell_target<R: Wait + RandomSource + AllocGlobal>(
+    rt: &R,
+    client: &Client,
+    case: &Case<'_>,
+    target: Target<'_>,
+    given: &Given,
+    session: Session,
+    out: &mut String,
+) -> Result<Session, AllocError> {
+    if case.setting.by_hand {
+        return tell_by_hand(rt, client, case, target, given, session, out);
+    }
+    match case.call {
+        "query_scalar" | "query_one_scalar" | "query_opt_scalar" => {
+            tell_scalars(rt, client, case, target, given, session, out)
+        }
+        _ => tell_rows(rt, client, case, target, given, session, out),
+    }
+}
+
+/// A call of a statement that was prepared.
+fn tell_statement<R: Wait + RandomSource + AllocGlobal>(
+    rt: &R,
+    client: &Client,
+    case: &Case<'_>,
+    statement: Statement,
+    given: &Given,
+    session: Session,
+    out: &mut String,
+) -> Result<Session, AllocError> {
+    let mut session = session;
+    set(&mut session, &case.setting);
+    match case.setting.form {
+        Form::Owned => tell_target(
+            rt,
+            client,
+            case,
+            Target::Owned(statement),
+            given,
+            session,
+            out,
+        ),
+        _ if case.call == "close" => {
+            ask(
+                rt,
+                client.close(&statement),
+                Stamp::new(0, 0, 0),
+                session,
+                out,
+            )
+        }
+        _ => tell_target(
+            rt,
+            client,
+            case,
+            Target::Statement(&statement),
+            given,
+            session,
+            out,
+        ),
+    }
+}
+
+/// Prepares a statement, and makes a call of it.
+fn tell_prepared<R: Wait + RandomSource + AllocGlobal>(
+    rt: &R,
+    client: &Client,
+    case: &Case<'_>,
+    given: &Given,
+    session: Session,
+    out: &mut String,
+) -> Result<Session, AllocError> {
+    let stamp = Stamp::new(0, 0, 0);
+    let (session, prepared) = drive(rt, client.prepare(case.text), stamp, session, out)?;
+    match prepared {
+        Ok(statement) => tell_statement(rt, client, case, statement, given, session, out),
+        Err(error) => {
+            tell_error(&error, out)?;
+            Ok(session)
+        }
+    }
+}
+
+/// The word at a place, if there is one there.
+fn bytes_at(words: &[Vec<u8>], place: usize) -> &[u8] {
+    match words.get(place) {
+        Some(word) => word.as_slice(),
+        None => &[],
+    }
+}
+
+/// A call that is done at once.
+fn tell_other<R: Wait + RandomSource + AllocGlobal>(
+    rt: &R,
+    client: &Client,
+    case: &Case<'_>,
+    session: Session,
+    out: &mut String,
+) -> Result<Session, AllocError> {
+    let mut session = session;
+    match case.call {
+        "cancel_token" => others::tell_cancel(rt.alloc(), client.cancel_token(), out)?,
+        "is_closed" => others::tell_closed(client, &mut session, out)?,
+        "executions" => {
+            let count = case.text.parse::<u64>().unwrap_or(0);
+            executions::tell(rt.alloc(), client, count, bytes_at(case.values, 0), out)?
+        }
+        _ => return others::tell_clearing(rt, client, case.text, session, out),
+    }
+    Ok(session)
+}
+
+/// Makes the call of a case.
+fn tell_call<R: Wait + RandomSource + AllocGlobal>(
+    rt: &R,
+    client: &Client,
+    case: &Case<'_>,
+    session: Session,
+    out: &mut String,
+) -> Result<Session, AllocError> {
+    let given = Given::read(rt.alloc(), case)?;
+    if case.setting.form != Form::Query {
+        return tell_prepared(rt, client, case, &given, session, out);
+    }
+    let mut session = session;
+    set(&mut session, &case.setting);
+    match case.call {
+        "cancel_token" | "is_closed" | "clear_type_cache" | "executions" => {
+            tell_other(rt, client, case, session, out)
+        }
+        "query_typed" | "query_typed_one" | "query_typed_opt" | "execute_typed" => {
+            tell_typed(rt, client, case, &given, session, out)
+        }
+        "simple_query"
+        | "batch_execute"
+        | "check_connection"
+        | "session_check"
+        | "prepare"
+        | "prepare_typed"
+            if !case.setting.by_hand => { tell_plain(rt, client, case, &given, session, out) }
+        _ => tell_target(
+            rt,
+            client,
+            case,
+            Target::Query(case.text),
+            &given,
+            session,
+            out,
+        ),
+    }
+}
+
+/// Drives what another client asked first to its answer.
+fn tell_beside<R: Wait + RandomSource + AllocGlobal>(
+    rt: &R,
+    other: SimpleQueryState<'_>,
+    stamp: Stamp,
+    session: Session,
+    out: &mut String,
+) -> Result<Session, AllocError>
+    requires { IsLiveQuery other }
+{
+    out.push_str(" beside")?;
+    ask(rt, other, stamp, session, out)
+}
+
+/// Makes the call of a case, behind what another client asks.
+fn tell_behind<R: Wait + RandomSource + AllocGlobal>(
+    rt: &R,
+    client: &Client,
+    case: &Case<'_>,
+    other: SimpleQueryState<'_>,
+    stamp: Stamp,
+    session: Session,
+    out: &mut String,
+) -> Result<Session, AllocError>
+    requires { IsLiveQuery other }
+{
+    let mut other = other;
+    let mut session = session;
+    match other.poll(rt.alloc(), &mut session.hub, stamp) {
+        Poll::Ready(answer) => {
+            tell_answer(rt.alloc(), answer, out)?;
+            Ok(session)
+        }
+        Poll::Pending => {
+            let session = tell_call(rt, client, case, session, out)?;
+            tell_beside(rt, other, stamp, session, out)
+        }
+    }
+}
+
+/// Makes the call of a case, and what another client asks beside it.
+fn tell_both<R: Wait + RandomSource + AllocGlobal>(
+    rt: &R,
+    info: &SessionInfo,
+    case: &Case<'_>,
+    session: Session,
+    out: &mut String,
+) -> Result<Session, AllocError> {
+    let client = Client::new(0, info);
+    let Some(text) = case.setting.beside else {
+        return tell_call(rt, &client, case, session, out);
+    };
+    let client_beside = Client::new(1, info);
+    let stamp = Stamp::new(client_beside.owner(), 0, 0);
+    let other = client_beside.simple_query(text);
+    if case.call != "run" {
+        return tell_behind(rt, &client, case, other, stamp, session, out);
+    }
+    let mut session = session;
+    set(&mut session, &case.setting);
+    let query = client.simple_query(case.text);
+    others::run_both(rt, query, other, stamp, &mut session, out)?;
+    Ok(session)
+}
+
+/// Opens a connection, makes the call of a case, ends the connection, and tells what the call answered and which frames the server
+/// got.
 pub(crate) fn tell<R: Wait + RandomSource + AllocGlobal>(
     rt: &R,
     words: &[Vec<u8>],
     out: &mut String,
 ) -> Result<(), AllocError> {
-    let (asked, plan) = split(words);
-    let Ok(config) = Config::from_str(rt.alloc(), "user=a") else {
-        return Err(AllocError);
-    };
-    let opened = match open(rt.alloc(), link_of(rt.alloc(), plan)?, &config) {
+    let case = Case::read(words);
+    let opened = match open(rt, case.plan, case.setting.ends) {
         Ok(opened) => opened,
         Err(error) => return tell_error(&error, out),
     };
-    let (call, query) = (text_at(asked, 0), text_at(asked, 1));
-    match call {
-        "simple_query" | "prepare" | "batch_execute" | "check_connection" => tell_plain(
-            rt, call, query, opened, out,
-        ),
-        _ => {
-            let values = values_of(rt.alloc(), asked.get(2..).unwrap_or(&[]))?;
-            tell_valued(
-                rt,
-                call,
-                Target::Query(query),
-                values.as_slice(),
-                opened,
-                out,
-            )
-        }
-    }
+    let Opened {
+        info,
+        sent,
+        connection,
+    } = opened;
+    let first = if case.setting.spent { u32::MAX } else { 0 };
+    let session = Line::new(rt.alloc(), connection, Hub::new(rt.alloc(), first, 0));
+    let mut session = tell_both(rt, &info, &case, session, out)?;
+    let _ = session.close(rt, rt.alloc());
+    tell_end(&session, sent.as_slice().len(), out)
 }

@@ -1,10 +1,16 @@
-//! Cases of calls of a client: reads a case a line from standard input, drives each to its answer over a link in memory, and
-//! prints beside it what the call answered and what the link took.
+//! Cases of calls of a client: reads a case a line from standard input, polls each to its answer over a link in memory, and
+//! prints beside it what the call answered and which frames the server got.
 #![tactic(auto)]
 
 mod answers;
 mod calls;
+mod case;
+mod executions;
+mod given_up;
 mod opened;
+mod others;
+mod session;
+mod streams;
 
 use std::alloc::{AllocError, AllocGlobal};
 use std::io;

@@ -1,50 +1,35 @@
 //! A connection that is opened over a link in memory.
 
-ghost use Rattle.pg_open.specs.Opening.{IsOpening};
-
-use futures::task::Poll;
-use pg_config::Config;
-use pg_errors::Error;
-use pg_open::{NoTls, Opened, connect_raw};
-use pg_wire::MemoryLink;
-use std::alloc::{AllocError, Global};
+use std::alloc::{AllocError, AllocGlobal, Global};
+use std::sync::Wait;
+use tokio_postgres::{Config, Error, MemoryLink, NoTls, Opened, connect_raw};
 
 /// How many bytes the link gives or takes at once.
 const PIECE: usize = 8192;
 
-/// How often the startup is polled at most.
-const POLLS: u32 = 9;
+/// AuthenticationOk, BackendKeyData of the process 1234 and the key 5678, and ReadyForQuery.
+const STARTED: &[u8; 28] = b"R\0\0\0\x08\0\0\0\0K\0\0\0\x0c\0\0\x04\xd2\0\0\x16.Z\0\0\0\x05I";
 
-/// A link that gives these words, each behind a frame that gives the turn, and takes all.
-pub(crate) fn link_of(alloc: Global, words: &[Vec<u8>]) -> Result<MemoryLink, AllocError> {
+/// A link of a server that starts up, and then gives these words, each behind a frame that gives the turn.
+fn link_of(alloc: Global, words: &[Vec<u8>], ends: bool) -> Result<MemoryLink, AllocError> {
     let mut plan = Vec::new(alloc);
+    plan.push(Vec::from_slice(alloc, STARTED)?)?;
     for word in words {
         plan.push(Vec::from_slice(alloc, word.as_slice())?)?;
     }
-    Ok(MemoryLink::new(alloc, plan, PIECE, PIECE, false))
+    Ok(MemoryLink::new(alloc, plan, PIECE, PIECE, ends))
 }
 
-/// Opens a connection over this link. Closed comes where its startup isn't over in some polls.
-pub(crate) fn open(
-    alloc: Global,
-    link: MemoryLink,
-    config: &Config,
+/// Opens a connection to a server that gives these words.
+pub(crate) fn open<R: Wait + AllocGlobal>(
+    rt: &R,
+    words: &[Vec<u8>],
+    ends: bool,
 ) -> Result<Opened<MemoryLink, NoTls>, Error> {
-    let mut raw = connect_raw(
-        link,
-        NoTls,
-        false,
-        config,
-        b"abcdefghijklmnopqrstuvwx",
-        1 << 20,
-    );
-    'polls: for _ in 0..POLLS {
-        match raw.poll(alloc) {
-            Poll::Ready(answer) => return answer,
-            Poll::Pending => {
-                let _ = raw.wait();
-            }
-        }
-    }
-    Err(Error::Closed)
+    let alloc = rt.alloc();
+    let config = Config::from_str(alloc, "user=a")?;
+    let link = link_of(alloc, words, ends)?;
+    let nonce = b"abcdefghijklmnopqrstuvwx";
+    let mut raw = connect_raw(link, NoTls, false, &config, nonce, 1 << 20);
+    tokio_postgres::open(rt, alloc, &mut raw)
 }

@@ -1,0 +1,3 @@
+//! Rows.
+
+pub use pg_rows::{CellIter, Row, RowCells, RowIndex, SimpleColumn, SimpleColumns, SimpleQueryRow};
