@@ -8,7 +8,7 @@ use Rattle.pg_types.specs.declared.fault.RustType.TheVariants as rust
 use Rattle.pg_types.specs.declared.value.Value.{Value}
 use Rattle.pg_types.specs.declared.value.Value.TheVariants as value
 use Rattle.pg_types.specs.Oids as oids
-use Rattle.pg_types.specs.Values.{Given, bytes_given, wrong_type, Checked, bool_bytes, bool_in, int_bytes, int_in, oid_bytes, oid_in}
+use Rattle.pg_types.specs.Values.{Given, bytes_given, wrong_type, checked, bool_bytes, bool_in, int_bytes, int_in, oid_bytes, oid_in}
 
 -- the width of the signed numbers that are a type's values
 abbrev pub int_width : ℕ → Option Width
@@ -72,10 +72,14 @@ value_gives (value.Int z) n = number_given z n
 value_gives (value.Text t) n = if oids.is_text n then bytes_given t else wrong_given n
 value_gives (value.Bytes b) n = if n == oids.bytea then bytes_given b else wrong_given n
 
--- what the value at a place may give, WrongType where it may not stand under the type; behind the last value nothing is asked
-abbrev pub GivenAt : Option Value → ℕ → Given → Type 0
-GivenAt None n given = Ok None ≡ given
-GivenAt (Some v) n given = Checked (is_accepted v n) n rust.Value (λ g. value_gives v n ≡ g) given
+-- what a value gives, WrongType where it may not stand under the type
+abbrev pub value_checked : Value → ℕ → Given
+value_checked v n = checked (is_accepted v n) n rust.Value (value_gives v n)
+
+-- the same of the value at a place; behind the last value nothing is asked
+abbrev pub value_at : Option Value → ℕ → Given
+value_at None n = Ok None
+value_at (Some v) n = value_checked v n
 
 -- a value whose bytes are of their form
 abbrev pub in_form : Bool → Value → Result Value ValueFault

@@ -23,7 +23,7 @@ NamesElement name (sort.ArrayOf oid) =
     (element : BuiltIn) × (row_of oid ≡ Some element) × (element.sort ≡ sort.Base) × (name ≡ codes "_" ++ element.name)
 
 -- bytes that a value gives are read as that value and no other
-abbrev pub ReadsBack : {A B : Type 0} → (A → B) → (Given → Type 0) → (Option (List ℕ) → A → Type 0) → (Option (List ℕ) → Option ValueFault → Type 0) → A → Type 0
-ReadsBack {A = A} seen gives spelled refused v =
-    (bytes : List ℕ) → gives (Ok (Some bytes))
+abbrev pub ReadsBack : {A B : Type 0} → (A → B) → Given → (Option (List ℕ) → A → Type 0) → (Option (List ℕ) → Option ValueFault → Type 0) → A → Type 0
+ReadsBack {A = A} seen given spelled refused v =
+    (bytes : List ℕ) → given ≡ Ok (Some bytes)
     → refused (Some bytes) None × spelled (Some bytes) v × ((w : A) → spelled (Some bytes) w → seen w ≡ seen v)

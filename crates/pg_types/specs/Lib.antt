@@ -7,3 +7,4 @@ pub mod Values
 pub mod formers
 pub mod Getters
 pub mod Sources
+pub mod Texts

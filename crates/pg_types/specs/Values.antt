@@ -1,7 +1,6 @@
 -- What a value gives under a type, and what bytes give as a Rust type (PostgreSQL documentation,
 -- "Formats and Format Codes": a value's binary form is that of its type's send and receive functions).
 use Rattle.std.specs.Prelude.{◌≡◌, ◌⊎◌, ℕ, Bool, true, false, List, [], ◌∷◌, ◌++◌, length, ◌==◌, not, Option, Some, None, Result, Ok, Err, if◌then◌else◌, ℤ}
-use Rattle.std.specs.Bool.{MatchBool}
 use Rattle.std.specs.Int.{Width, byte_len, cast_signed, cast_unsigned}
 use Rattle.byteorder.specs.Endian.{big_bytes, big_number}
 use Rattle.pg_types.specs.declared.fault.ValueFault.{ValueFault}
@@ -27,20 +26,23 @@ wrong_type oid rust = record { postgres = oid; rust = rust }
 abbrev pub type_fault : Bool → ℕ → RustType → Option WrongType
 type_fault stands oid rust = if stands then None else Some (wrong_type oid rust)
 
--- what a value may give, WrongType where it may not stand under the type
-abbrev pub Checked : Bool → ℕ → RustType → (Given → Type 0) → Given → Type 0
-Checked accepted oid rust gives given = MatchBool accepted (gives given) (Err (fault.WrongType (wrong_type oid rust)) ≡ given)
+-- what a value gives, WrongType where it may not stand under the type
+abbrev pub checked : Bool → ℕ → RustType → Given → Given
+checked accepted oid rust given = if accepted then given else Err (fault.WrongType (wrong_type oid rust))
 
--- one of the things that a value may give is told: its bytes stand behind what was there; with null and with a fault what was there
--- stays. A fault is the value's own, or want of memory where there are bytes to write
-abbrev pub WritesOneOf : (Given → Type 0) → List ℕ → List ℕ → Result IsNull ValueFault → Type 0
-WritesOneOf gives old new (Ok null.No) = (bytes : List ℕ) × gives (Ok (Some bytes)) × (new ≡ old ++ bytes)
-WritesOneOf gives old new (Ok null.Yes) = gives (Ok None) × (new ≡ old)
-WritesOneOf gives old new (Err f) = (((bytes : List ℕ) × gives (Ok (Some bytes)) × (f ≡ fault.OutOfMemory)) ⊎ gives (Err f)) × (new ≡ old)
+-- writing may lack memory: there are bytes, or the value has parts, of which some are written before one is refused
+abbrev pub write_may_lack : (has_parts : Bool) → Given → Bool
+write_may_lack has_parts (Ok (Some bytes)) = true
+write_may_lack has_parts (Ok None) = false
+write_may_lack has_parts (Err fault.BadValue) = has_parts
+write_may_lack has_parts (Err other) = false
 
--- what a value gives is told so
-abbrev pub Writes : Given → List ℕ → List ℕ → Result IsNull ValueFault → Type 0
-Writes given old new result = WritesOneOf (λ g. given ≡ g) old new result
+-- what a value gives is told: its bytes stand behind what was there; with null and with a fault what was there stays. Want of memory
+-- comes only where writing may lack it
+abbrev pub Writes : (has_parts : Bool) → Given → (old new : List ℕ) → Result IsNull ValueFault → Type 0
+Writes has_parts given old new (Ok null.No) = (bytes : List ℕ) × (given ≡ Ok (Some bytes)) × (new ≡ old ++ bytes)
+Writes has_parts given old new (Ok null.Yes) = (given ≡ Ok None) × (new ≡ old)
+Writes has_parts given old new (Err f) = ((write_may_lack has_parts given ≡ true) × (f ≡ fault.OutOfMemory) ⊎ (given ≡ Err f)) × (new ≡ old)
 
 -- reading may lack memory: there are bytes, and the Rust type owns memory
 abbrev pub may_lack : Bool → Option (List ℕ) → Bool
@@ -92,9 +94,9 @@ abbrev pub oid_in : List ℕ → ℕ
 oid_in bytes = big_number 4 bytes
 
 -- null where there is no value
-abbrev pub GivenOrNull : {A : Type 0} → (A → Given → Type 0) → Option A → Given → Type 0
-GivenOrNull gives None given = Ok None ≡ given
-GivenOrNull gives (Some value) given = gives value given
+abbrev pub given_or_null : {A : Type 0} → (A → Given) → Option A → Given
+given_or_null gives None = Ok None
+given_or_null gives (Some value) = gives value
 
 -- a value may stand under a type by its own rule, and null by the Rust type's
 abbrev pub accepted_or_null : {A : Type 0} → (A → Bool) → Bool → Option A → Bool

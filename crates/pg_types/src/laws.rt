@@ -53,7 +53,7 @@ pub fn texts_read_back(text: &str, bytes: &[u8], ty: &Type)
 
 /// What a `Value` of any kind wrote is read back as it, and null as null.
 pub fn values_read_back(truth: bool, number: i64, text: &str, bytes: &[u8], ty: &Type)
-    ensures null_given { ⟦<Value as ToSql>⟧.gives value.Null ty.now (Ok None) }
+    ensures null_given { ⟦<Value as ToSql>⟧.gives value.Null ty.now ≡ Ok None }
     ensures null { ⟦<Value as FromSqlOwned>⟧.spelled ty.now None value.Null }
     ensures truth { ReadsBack (λ x. x) (⟦<Value as ToSql>⟧.gives (value.Bool truth) ty.now)
         (⟦<Value as FromSqlOwned>⟧.spelled ty.now) (⟦<Value as FromSqlOwned>⟧.refused ty.now) (value.Bool truth) }
@@ -68,7 +68,7 @@ pub fn values_read_back(truth: bool, number: i64, text: &str, bytes: &[u8], ty: 
 /// What an `Option` wrote is read back as it, where that holds for the value inside; and null as None.
 pub fn options_read_back<T: ToSql + FromSqlOwned>(inside: &T, ty: &Type)
     requires { ReadsBack (λ x. x) (T.gives inside.now ty.now) (T.spelled ty.now) (T.refused ty.now) inside.now }
-    ensures null_given { ⟦<Option<T> as ToSql>⟧.gives None ty.now (Ok None) }
+    ensures null_given { ⟦<Option<T> as ToSql>⟧.gives None ty.now ≡ Ok None }
     ensures null { ⟦<Option<T> as FromSqlOwned>⟧.spelled ty.now None None }
     ensures inside { ReadsBack (λ x. x) (⟦<Option<T> as ToSql>⟧.gives (Some inside.now) ty.now)
         (⟦<Option<T> as FromSqlOwned>⟧.spelled ty.now) (⟦<Option<T> as FromSqlOwned>⟧.refused ty.now) (Some inside.now) }

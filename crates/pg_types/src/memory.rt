@@ -1,17 +1,12 @@
 //! Want of memory as an error of its own.
 
 use std::alloc::{AllocError, AllocFailed};
-use std::fmt;
+use thiserror::Error;
 
 /// Want of memory.
-#[derive(Clone, Copy, Debug, PartialEq, Eq)]
+#[derive(Clone, Copy, Debug, PartialEq, Eq, Error)]
+#[error("out of memory")]
 pub struct OutOfMemory;
-
-impl fmt::Display for OutOfMemory {
-    fn fmt<W: fmt::Write>(&self, f: &mut fmt::Formatter<W>) -> fmt::Result {
-        f.write_str("out of memory")
-    }
-}
 
 impl From<AllocError> for OutOfMemory {
     fn from(_: AllocError) -> OutOfMemory {

@@ -7,9 +7,11 @@ use bytes::BytesMut;
 use std::alloc::Global;
 
 impl<T: ToSql> ToSql for Option<T> {
-    ghost use Rattle.pg_types.specs.Values.{GivenOrNull, accepted_or_null};
+    ghost use Rattle.pg_types.specs.Values.{accepted_or_null, given_or_null};
 
-    ghost gives = { λ o ty given. GivenOrNull (λ x. T.gives x ty) o given };
+    ghost gives = { λ o ty. given_or_null (λ x. T.gives x ty) o };
+
+    ghost has_parts = { T.has_parts };
 
     ghost accepted = { λ o ty. accepted_or_null (λ x. T.accepted x ty) (T.stands_for ty) o };
 

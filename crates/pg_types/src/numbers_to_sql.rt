@@ -6,12 +6,14 @@ use byteorder::{BigEndian, ByteOrder};
 use bytes::BytesMut;
 
 impl ToSql for bool {
-    ghost use Rattle.std.specs.Prelude.{◌≡◌, ◌==◌};
+    ghost use Rattle.std.specs.Prelude.{◌==◌, false};
     ghost use Rattle.pg_types.specs.declared.fault.RustType.TheVariants as rust_type;
     ghost use Rattle.pg_types.specs.Oids as oids;
     ghost use Rattle.pg_types.specs.Values.{bytes_given, bool_bytes};
 
-    ghost gives = { λ b _ given. bytes_given (bool_bytes b) ≡ given };
+    ghost gives = { λ b _. bytes_given (bool_bytes b) };
+
+    ghost has_parts = { false };
 
     ghost accepted = { λ _ ty. ty.oid == oids.bool };
 
@@ -40,13 +42,15 @@ impl ToSql for bool {
 }
 
 impl ToSql for i8 {
-    ghost use Rattle.std.specs.Prelude.{◌≡◌, ◌==◌};
+    ghost use Rattle.std.specs.Prelude.{◌==◌, false};
     ghost use Rattle.std.specs.Int.{w8};
     ghost use Rattle.pg_types.specs.declared.fault.RustType.TheVariants as rust_type;
     ghost use Rattle.pg_types.specs.Oids as oids;
     ghost use Rattle.pg_types.specs.Values.{bytes_given, int_bytes};
 
-    ghost gives = { λ n _ given. bytes_given (int_bytes w8 n) ≡ given };
+    ghost gives = { λ n _. bytes_given (int_bytes w8 n) };
+
+    ghost has_parts = { false };
 
     ghost accepted = { λ _ ty. ty.oid == oids.char };
 
@@ -75,13 +79,15 @@ impl ToSql for i8 {
 }
 
 impl ToSql for i16 {
-    ghost use Rattle.std.specs.Prelude.{◌≡◌, ◌==◌};
+    ghost use Rattle.std.specs.Prelude.{◌==◌, false};
     ghost use Rattle.std.specs.Int.{w16};
     ghost use Rattle.pg_types.specs.declared.fault.RustType.TheVariants as rust_type;
     ghost use Rattle.pg_types.specs.Oids as oids;
     ghost use Rattle.pg_types.specs.Values.{bytes_given, int_bytes};
 
-    ghost gives = { λ n _ given. bytes_given (int_bytes w16 n) ≡ given };
+    ghost gives = { λ n _. bytes_given (int_bytes w16 n) };
+
+    ghost has_parts = { false };
 
     ghost accepted = { λ _ ty. ty.oid == oids.int2 };
 
@@ -112,13 +118,15 @@ impl ToSql for i16 {
 }
 
 impl ToSql for i32 {
-    ghost use Rattle.std.specs.Prelude.{◌≡◌, ◌==◌};
+    ghost use Rattle.std.specs.Prelude.{◌==◌, false};
     ghost use Rattle.std.specs.Int.{w32};
     ghost use Rattle.pg_types.specs.declared.fault.RustType.TheVariants as rust_type;
     ghost use Rattle.pg_types.specs.Oids as oids;
     ghost use Rattle.pg_types.specs.Values.{bytes_given, int_bytes};
 
-    ghost gives = { λ n _ given. bytes_given (int_bytes w32 n) ≡ given };
+    ghost gives = { λ n _. bytes_given (int_bytes w32 n) };
+
+    ghost has_parts = { false };
 
     ghost accepted = { λ _ ty. ty.oid == oids.int4 };
 
@@ -149,13 +157,15 @@ impl ToSql for i32 {
 }
 
 impl ToSql for i64 {
-    ghost use Rattle.std.specs.Prelude.{◌≡◌, ◌==◌};
+    ghost use Rattle.std.specs.Prelude.{◌==◌, false};
     ghost use Rattle.std.specs.Int.{w64};
     ghost use Rattle.pg_types.specs.declared.fault.RustType.TheVariants as rust_type;
     ghost use Rattle.pg_types.specs.Oids as oids;
     ghost use Rattle.pg_types.specs.Values.{bytes_given, int_bytes};
 
-    ghost gives = { λ n _ given. bytes_given (int_bytes w64 n) ≡ given };
+    ghost gives = { λ n _. bytes_given (int_bytes w64 n) };
+
+    ghost has_parts = { false };
 
     ghost accepted = { λ _ ty. ty.oid == oids.int8 };
 
@@ -186,12 +196,14 @@ impl ToSql for i64 {
 }
 
 impl ToSql for u32 {
-    ghost use Rattle.std.specs.Prelude.{◌≡◌, ◌==◌};
+    ghost use Rattle.std.specs.Prelude.{◌==◌, false};
     ghost use Rattle.pg_types.specs.declared.fault.RustType.TheVariants as rust_type;
     ghost use Rattle.pg_types.specs.Oids as oids;
     ghost use Rattle.pg_types.specs.Values.{bytes_given, oid_bytes};
 
-    ghost gives = { λ n _ given. bytes_given (oid_bytes n) ≡ given };
+    ghost gives = { λ n _. bytes_given (oid_bytes n) };
+
+    ghost has_parts = { false };
 
     ghost accepted = { λ _ ty. ty.oid == oids.oid };
 

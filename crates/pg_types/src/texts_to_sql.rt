@@ -18,12 +18,14 @@ pub(crate) fn is_text(ty: &Type) -> bool
 }
 
 impl ToSql for &str {
-    ghost use Rattle.std.specs.Prelude.{◌≡◌};
+    ghost use Rattle.std.specs.Prelude.{◌≡◌, false};
     ghost use Rattle.pg_types.specs.declared.fault.RustType.TheVariants as rust_type;
     ghost use Rattle.pg_types.specs.Oids as oids;
     ghost use Rattle.pg_types.specs.Values.{bytes_given, type_fault};
 
-    ghost gives = { λ s _ given. bytes_given s.now ≡ given };
+    ghost gives = { λ s _. bytes_given s.now };
+
+    ghost has_parts = { false };
 
     ghost accepted = { λ _ ty. oids.is_text ty.oid };
 
@@ -54,12 +56,14 @@ impl ToSql for &str {
 }
 
 impl ToSql for Text {
-    ghost use Rattle.std.specs.Prelude.{◌≡◌};
+    ghost use Rattle.std.specs.Prelude.{false};
     ghost use Rattle.pg_types.specs.declared.fault.RustType.TheVariants as rust_type;
     ghost use Rattle.pg_types.specs.Oids as oids;
     ghost use Rattle.pg_types.specs.Values.{bytes_given};
 
-    ghost gives = { λ t _ given. bytes_given t ≡ given };
+    ghost gives = { λ t _. bytes_given t };
+
+    ghost has_parts = { false };
 
     ghost accepted = { λ _ ty. oids.is_text ty.oid };
 
@@ -88,12 +92,14 @@ impl ToSql for Text {
 }
 
 impl ToSql for &[u8] {
-    ghost use Rattle.std.specs.Prelude.{◌≡◌, ◌==◌};
+    ghost use Rattle.std.specs.Prelude.{◌≡◌, ◌==◌, false};
     ghost use Rattle.pg_types.specs.declared.fault.RustType.TheVariants as rust_type;
     ghost use Rattle.pg_types.specs.Oids as oids;
     ghost use Rattle.pg_types.specs.Values.{bytes_given, type_fault};
 
-    ghost gives = { λ b _ given. bytes_given b.now ≡ given };
+    ghost gives = { λ b _. bytes_given b.now };
+
+    ghost has_parts = { false };
 
     ghost accepted = { λ _ ty. ty.oid == oids.bytea };
 
@@ -124,12 +130,14 @@ impl ToSql for &[u8] {
 }
 
 impl ToSql for Blob {
-    ghost use Rattle.std.specs.Prelude.{◌≡◌, ◌==◌};
+    ghost use Rattle.std.specs.Prelude.{◌==◌, false};
     ghost use Rattle.pg_types.specs.declared.fault.RustType.TheVariants as rust_type;
     ghost use Rattle.pg_types.specs.Oids as oids;
     ghost use Rattle.pg_types.specs.Values.{bytes_given};
 
-    ghost gives = { λ b _ given. bytes_given b ≡ given };
+    ghost gives = { λ b _. bytes_given b };
+
+    ghost has_parts = { false };
 
     ghost accepted = { λ _ ty. ty.oid == oids.bytea };
 

@@ -1,18 +1,21 @@
 //! Values that are written as the server's types.
 
-ghost use Rattle.std.specs.Prelude.{◌≡◌, Bool};
+ghost use Rattle.std.specs.Prelude.{◌≡◌, Bool, false};
 ghost use Rattle.pg_types.specs.declared.pg_type.PgType.{PgType};
 ghost use Rattle.pg_types.specs.declared.fault.RustType.{RustType};
 ghost use Rattle.pg_types.specs.declared.format.Format.TheVariants.{Binary};
-ghost use Rattle.pg_types.specs.Values.{Checked, Given, Writes, WritesOneOf, bytes_given, type_fault};
+ghost use Rattle.pg_types.specs.Values.{Given, Writes, bytes_given, checked, type_fault};
 
 use crate::{Format, IsNull, RustType, Type, ValueFault, WrongType};
 use bytes::BytesMut;
 
 /// A value that can be written as some of the server's types.
 pub trait ToSql {
-    /// What the value may give under a type: bytes, null, or a fault.
-    ghost gives: { Self → PgType → Given → Type 0 };
+    /// What the value gives under a type: bytes, null, or a fault.
+    ghost gives: { Self → PgType → Given };
+
+    /// The value has parts: writing it may lack memory before one of them is refused.
+    ghost has_parts: { Bool };
 
     /// The value may stand under a type.
     ghost accepted: { Self → PgType → Bool };
@@ -30,9 +33,9 @@ pub trait ToSql {
         ensures { result ≡ type_fault (stands_for ty.now) ty.now.oid rust };
 
     /// Appends the value's bytes. After null and after a fault `out` is as before. BadValue comes where
-    /// the value is out of the type's range.
+    /// the value, or a part of it, has no bytes under the type, as a number out of its range.
     fn to_sql(&self, ty: &Type, out: &mut BytesMut) -> Result<IsNull, ValueFault>
-        ensures { WritesOneOf (gives self.now ty.now) out.old.items out.new.items result };
+        ensures { Writes has_parts (gives self.now ty.now) out.old.items out.new.items result };
 
     /// Whether the value may stand under a type.
     fn accepts(&self, ty: &Type) -> bool
@@ -47,13 +50,13 @@ pub trait ToSql {
 
     /// Like `to_sql`, but WrongType exactly where the value may not stand under the type.
     fn to_sql_checked(&self, ty: &Type, out: &mut BytesMut) -> Result<IsNull, ValueFault>
-        ensures { WritesOneOf (Checked (accepted self.now ty.now) ty.now.oid rust (gives self.now ty.now))
+        ensures { Writes has_parts (checked (accepted self.now ty.now) ty.now.oid rust (gives self.now ty.now))
             out.old.items out.new.items result };
 }
 
 /// Appends the bytes of a value.
 pub(crate) fn put(bytes: &[u8], out: &mut BytesMut) -> Result<IsNull, ValueFault>
-    ensures { Writes (bytes_given bytes.now) out.old.items out.new.items result }
+    ensures { Writes false (bytes_given bytes.now) out.old.items out.new.items result }
 {
     out.extend_from_slice(bytes)?;
     Ok(IsNull::No)

@@ -1,6 +1,6 @@
 //! A `Value`, written.
 
-ghost use Rattle.std.specs.Prelude.{◌≡◌};
+ghost use Rattle.std.specs.Prelude.{◌≡◌, false};
 ghost use Rattle.std.specs.Int.{w8, w16, w32, w64};
 ghost use Rattle.pg_types.specs.AnyValues.{int_given, oid_given, number_given, is_int};
 ghost use Rattle.pg_types.specs.Values.{Writes, wrong_type};
@@ -35,7 +35,7 @@ pub(crate) fn wrong_type(ty: &Type) -> ValueFault
 
 /// Appends a number of 8 bits.
 fn put_char(n: i64, out: &mut BytesMut) -> Result<IsNull, ValueFault>
-    ensures { Writes (int_given w8 n) out.old.items out.new.items result }
+    ensures { Writes false (int_given w8 n) out.old.items out.new.items result }
 {
     if n < -128 || n >= 128 {
         return Err(ValueFault::BadValue);
@@ -45,7 +45,7 @@ fn put_char(n: i64, out: &mut BytesMut) -> Result<IsNull, ValueFault>
 
 /// Appends a number of 16 bits.
 fn put_int2(n: i64, out: &mut BytesMut) -> Result<IsNull, ValueFault>
-    ensures { Writes (int_given w16 n) out.old.items out.new.items result }
+    ensures { Writes false (int_given w16 n) out.old.items out.new.items result }
 {
     if n < -32_768 || n >= 32_768 {
         return Err(ValueFault::BadValue);
@@ -57,7 +57,7 @@ fn put_int2(n: i64, out: &mut BytesMut) -> Result<IsNull, ValueFault>
 
 /// Appends a number of 32 bits.
 fn put_int4(n: i64, out: &mut BytesMut) -> Result<IsNull, ValueFault>
-    ensures { Writes (int_given w32 n) out.old.items out.new.items result }
+    ensures { Writes false (int_given w32 n) out.old.items out.new.items result }
 {
     if n < -2_147_483_648 || n >= 2_147_483_648 {
         return Err(ValueFault::BadValue);
@@ -69,7 +69,7 @@ fn put_int4(n: i64, out: &mut BytesMut) -> Result<IsNull, ValueFault>
 
 /// Appends a number of 64 bits.
 fn put_int8(n: i64, out: &mut BytesMut) -> Result<IsNull, ValueFault>
-    ensures { Writes (int_given w64 n) out.old.items out.new.items result }
+    ensures { Writes false (int_given w64 n) out.old.items out.new.items result }
 {
     let mut bytes = [0; 8];
     BigEndian::write_i64(&mut bytes, n);
@@ -78,7 +78,7 @@ fn put_int8(n: i64, out: &mut BytesMut) -> Result<IsNull, ValueFault>
 
 /// Appends an unsigned number of 32 bits.
 fn put_oid(n: i64, out: &mut BytesMut) -> Result<IsNull, ValueFault>
-    ensures { Writes (oid_given n) out.old.items out.new.items result }
+    ensures { Writes false (oid_given n) out.old.items out.new.items result }
 {
     if n < 0 || n >= 4_294_967_296 {
         return Err(ValueFault::BadValue);
@@ -90,7 +90,7 @@ fn put_oid(n: i64, out: &mut BytesMut) -> Result<IsNull, ValueFault>
 
 /// Appends a whole number as the type has it.
 fn put_number(n: i64, ty: &Type, out: &mut BytesMut) -> Result<IsNull, ValueFault>
-    ensures { Writes (number_given n ty.now.oid) out.old.items out.new.items result }
+    ensures { Writes false (number_given n ty.now.oid) out.old.items out.new.items result }
 {
     match ty.oid() {
         oid::CHAR => put_char(n, out),
@@ -103,10 +103,12 @@ fn put_number(n: i64, ty: &Type, out: &mut BytesMut) -> Result<IsNull, ValueFaul
 }
 
 impl ToSql for Value {
-    ghost use Rattle.std.specs.Prelude.{◌≡◌, true};
+    ghost use Rattle.std.specs.Prelude.{false, true};
     ghost use Rattle.pg_types.specs.AnyValues.{value_gives, is_accepted};
 
-    ghost gives = { λ v ty given. value_gives v ty.oid ≡ given };
+    ghost gives = { λ v ty. value_gives v ty.oid };
+
+    ghost has_parts = { false };
 
     ghost accepted = { λ v ty. is_accepted v ty.oid };
 

@@ -20,3 +20,11 @@ pub mod DatumWritten
 pub mod SpanLaws
 pub mod ShortLaws
 pub mod TraitLaws
+pub mod SendLaws
+pub mod SentCases
+pub mod SentValues
+pub mod SentParts
+pub mod NumericOnly
+pub mod NumericSent
+pub mod SentForms
+pub mod UnsentForms

@@ -26,7 +26,7 @@ numeral_some : (sign scale : ℕ) (weight : _) (digits : List ℕ) → IsNumeral
 numeral_some sign scale weight digits (inl n) = absurd (cc n.same)
 numeral_some sign scale weight digits (inr n) = absurd (cc n.same)
 
-value_some : (n : ℕ) (bytes : List ℕ) → IsValue false n d.Null bytes → ⊥
+pub value_some : (n : ℕ) (bytes : List ℕ) → IsValue false n d.Null bytes → ⊥
 value_some n bytes is =
     let same : value.Null ≡ is.value = same_value value.Null is.value is.same in
     null_none n bytes (is.spelled ∙ ap (λ (v : Value). Ok v) (sym same))
@@ -61,7 +61,7 @@ either_along : (b : Bool) (P Q R S : Type 0) → (P → R) → (Q → S) → Mat
 either_along true P Q R S p q is = p is
 either_along false P Q R S p q is = q is
 
-numeric_plain : (v : Datum) (bytes : List ℕ) → SpellsNumeric true v bytes → SpellsNumeric false v bytes
+pub numeric_plain : (v : Datum) (bytes : List ℕ) → SpellsNumeric true v bytes → SpellsNumeric false v bytes
 numeric_plain v bytes is = record {
   sign = is.sign;
   scale = is.scale;

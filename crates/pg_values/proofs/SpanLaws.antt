@@ -38,7 +38,7 @@ no_more front last value r s some below e less =
     omega (arith, some, below, one)
 
 -- the first digit isn't zero, so the power is no higher
-no_higher : (p q first low : ℕ) → first ≢ 0 → first * 10000 ^ p + low < 10000 ^ (q + 1) → p ≤ q
+pub no_higher : (p q first low : ℕ) → first ≢ 0 → first * 10000 ^ p + low < 10000 ^ (q + 1) → p ≤ q
 no_higher p q first low some less = pick (cases_lt q p)
   where
     pick : (q < p) ⊎ (p ≤ q) → p ≤ q
@@ -77,7 +77,7 @@ fewest p q (x ∷ ds) (y ∷ es) a b first last n m e =
     pick high down also none (inl less) = absurd (none less)
     pick high down also none (inr less) = omega (arith, high, down, also, less)
 
-room : (w : ℤ) (n : ℕ) → n ≤ top w n + 1
+pub room : (w : ℤ) (n : ℕ) → n ≤ top w n + 1
 room (pos w) n = omega arith
 room (negsuc w) n = omega arith
 

@@ -16,11 +16,11 @@ use Rattle.pg_types.specs.declared.fault.RustType.{RustType}
 use Rattle.pg_types.specs.declared.fault.RustType.TheVariants as rust
 use Rattle.pg_types.specs.Oids as oids
 use Rattle.pg_types.specs.Oids.{is_text}
-use Rattle.pg_types.specs.Values.{Checked, Given, Writes, WritesOneOf, bytes_given, wrong_type, bool_in, bool_bytes, int_in, int_bytes, oid_in, oid_bytes}
+use Rattle.pg_types.specs.Values.{Given, bytes_given, wrong_type, bool_in, bool_bytes, int_in, int_bytes, oid_in, oid_bytes}
 use Rattle.pg_values.specs.declared.datum.Datum as d
 use Rattle.pg_values.specs.declared.datum.Datum.{Datum}
 use Rattle.pg_values.specs.Scalars.{datum_of, IsValue, IsDate, IsTimestamp}
-use Rattle.pg_values.specs.Writing.{AreBytes, Begins, HasNone, Sends, WritesAs}
+use Rattle.pg_values.specs.Writing.{AreBytes}
 use Rattle.pg_types.proofs.RoundTrips.{number_in, text_in}
 
 -- ---- the value of a datum
@@ -33,7 +33,7 @@ value_of (d.Text t) = Some (value.Text t)
 value_of (d.Bytes b) = Some (value.Bytes b)
 value_of v = None
 
-value_back : (v : Value) → value_of (datum_of v) ≡ Some v
+pub value_back : (v : Value) → value_of (datum_of v) ≡ Some v
 value_back value.Null = refl
 value_back (value.Bool b) = refl
 value_back (value.Int z) = refl
@@ -92,6 +92,29 @@ shape_of None n bytes v p = shape_none n bytes v p
 
 pub shape : (n : ℕ) (bytes : List ℕ) (v : Value) → value_in n bytes ≡ Ok v → Shape (int_width n) n bytes v
 shape n bytes v p = shape_of (int_width n) n bytes v p
+
+-- a text is UTF-8
+utf8_of : (w : Option Width) (n : ℕ) (bytes t : List ℕ) → value_of_width w n bytes ≡ Ok (value.Text t) → is_utf8 t ≡ true
+utf8_of (Some w) n bytes t p = let f = formed (length bytes == byte_len w) (value.Int (int_in w bytes)) (value.Text t) p in absurd (cc f.1)
+utf8_of None n bytes t p = go (n == oids.bool) (n == oids.oid) (is_text n) (n == oids.bytea) p
+  where
+    go : (a b c e : Bool)
+        → (if a then in_form (length bytes == 1) (value.Bool (bool_in bytes))
+        else if b then in_form (length bytes == 4) (value.Int (pos (oid_in bytes)))
+        else if c then in_form (is_utf8 bytes) (value.Text bytes)
+        else if e then Ok (value.Bytes bytes)
+        else Err (fault.WrongType (wrong_type n rust.Value))) ≡ Ok (value.Text t) → is_utf8 t ≡ true
+    go true b c e p = let f = formed (length bytes == 1) (value.Bool (bool_in bytes)) (value.Text t) p in absurd (cc f.1)
+    go false true c e p = let f = formed (length bytes == 4) (value.Int (pos (oid_in bytes))) (value.Text t) p in absurd (cc f.1)
+    go false false true e p =
+        let f = formed (is_utf8 bytes) (value.Text bytes) (value.Text t) p in
+        let same : bytes ≡ t = cc f.1 in
+        ap is_utf8 (sym same) ∙ f.0
+    go false false false true p = let same : value.Bytes bytes ≡ value.Text t = cc p in absurd (cc same)
+    go false false false false p = absurd (cc p)
+
+pub text_is_utf8 : (n : ℕ) (bytes t : List ℕ) → value_in n bytes ≡ Ok (value.Text t) → is_utf8 t ≡ true
+text_is_utf8 n bytes t p = utf8_of (int_width n) n bytes t p
 
 -- all bytes of a value are as many
 int_length : (w : Option Width) (n : ℕ) (a b : List ℕ) → IntShape w n a → IntShape w n b → length a ≡ length b
@@ -153,10 +176,10 @@ fits_is8 z f = search rules
 fits_is16 : (z : ℤ) → FitsSigned w16 z → fits w16 z ≡ true
 fits_is16 z f = search rules
 
-fits_is32 : (z : ℤ) → FitsSigned w32 z → fits w32 z ≡ true
+pub fits_is32 : (z : ℤ) → FitsSigned w32 z → fits w32 z ≡ true
 fits_is32 z f = search rules
 
-fits_is64 : (z : ℤ) → FitsSigned w64 z → fits w64 z ≡ true
+pub fits_is64 : (z : ℤ) → FitsSigned w64 z → fits w64 z ≡ true
 fits_is64 z f = search rules
 
 in8 : (bytes : List ℕ) → length bytes ≡ 1 → AreBytes bytes → fits w8 (int_in w8 bytes) ≡ true
@@ -165,10 +188,10 @@ in8 bytes e are = fits_is8 (int_in w8 bytes) (to_z-Fits w8 (big_number 1 bytes) 
 in16 : (bytes : List ℕ) → length bytes ≡ 2 → AreBytes bytes → fits w16 (int_in w16 bytes) ≡ true
 in16 bytes e are = fits_is16 (int_in w16 bytes) (to_z-Fits w16 (big_number 2 bytes) (record { fits = number2 bytes e are }))
 
-in32 : (bytes : List ℕ) → length bytes ≡ 4 → AreBytes bytes → fits w32 (int_in w32 bytes) ≡ true
+pub in32 : (bytes : List ℕ) → length bytes ≡ 4 → AreBytes bytes → fits w32 (int_in w32 bytes) ≡ true
 in32 bytes e are = fits_is32 (int_in w32 bytes) (to_z-Fits w32 (big_number 4 bytes) (record { fits = number4 bytes e are }))
 
-in64 : (bytes : List ℕ) → length bytes ≡ 8 → AreBytes bytes → fits w64 (int_in w64 bytes) ≡ true
+pub in64 : (bytes : List ℕ) → length bytes ≡ 8 → AreBytes bytes → fits w64 (int_in w64 bytes) ≡ true
 in64 bytes e are = fits_is64 (int_in w64 bytes) (to_z-Fits w64 (big_number 8 bytes) (record { fits = number8 bytes e are }))
 
 fits_is_oid : (n : ℕ) → n < 2 ^ 32 → fits_oid (pos n) ≡ true
@@ -208,73 +231,29 @@ no_number z bytes f are n =
     decide n 26 (λ p. subst P (sym p) (refused (length bytes == 4) (fits_oid z) z (pos (oid_in bytes)) _ f (λ l e. ap fits_oid e ∙ in_oid bytes (same_nat (length bytes) 4 l) are))) (λ e26 e spelled.
     no_int z n bytes (rw (e18, e21, e23, e20) refl) e26 spelled)))))
 
--- ---- what came of it
+-- ---- a date and a timestamp
 
-nothing : (old : List ℕ) → Begins old old
-nothing old = record { more = []; behind = sym (append-nil old) }
-
-wrote_bytes : (W S : List ℕ → Type 0) (old new bytes : List ℕ) (result : Result (Unit {0}) ValueFault) → W bytes → new ≡ old ++ bytes → IsOk result → WritesAs W S old new result
-wrote_bytes W S old new bytes (Ok r) is e ok = record { bytes = bytes; formed = is; behind = e }
-wrote_bytes W S old new bytes (Err f) is e ok = absurd (cc ok)
-
-wrote_none : (W S : List ℕ → Type 0) (old new : List ℕ) (f : ValueFault) (result : Result (Unit {0}) ValueFault) → HasNone S → new ≡ old → Sends (Err f) result → WritesAs W S old new result
-wrote_none W S old new fault.OutOfMemory result none e sent = rw (sent, e) (nothing old)
-wrote_none W S old new fault.BadValue result none e sent = rw (sent, e) (none, nothing old)
-wrote_none W S old new fault.WasNull result none e sent = rw (sent, e) (none, nothing old)
-wrote_none W S old new (fault.WrongType wrong) result none e sent = rw (sent, e) (none, nothing old)
-
-lacked : (W S : List ℕ → Type 0) (old new : List ℕ) (f : ValueFault) (result : Result (Unit {0}) ValueFault) → f ≡ fault.OutOfMemory → new ≡ old → Sends (Err f) result → WritesAs W S old new result
-lacked W S old new f result is e sent =
-    let same : result ≡ Err fault.OutOfMemory = subst (λ (g : ValueFault). Sends (Err g) result) is sent in rw (same, e) (nothing old)
-
-pub wrote_given : (W S : List ℕ → Type 0) (given : Given) (old new : List ℕ) (answer : Result IsNull ValueFault) (result : Result (Unit {0}) ValueFault)
-    → (given ≡ Ok None → ⊥) → ((bytes : List ℕ) → given ≡ bytes_given bytes → W bytes) → ((f : ValueFault) → given ≡ Err f → HasNone S)
-    → Writes given old new answer → Sends answer result → WritesAs W S old new result
-wrote_given W S given old new (Ok null.No) result some is none wrote sent = wrote_bytes W S old new wrote.0 result (is wrote.0 wrote.1) wrote.2 sent
-wrote_given W S given old new (Ok null.Yes) result some is none wrote sent = absurd (some wrote.0)
-wrote_given W S given old new (Err f) result some is none (inl lack, e) sent = lacked W S old new f result lack.2 e sent
-wrote_given W S given old new (Err f) result some is none (inr wrong, e) sent = wrote_none W S old new f result (none f wrong) e sent
-
--- a date and a timestamp
 back32 : (z : ℤ) → FitsSigned w32 z → int_in w32 (int_bytes w32 z) ≡ z
 back32 z f = search rules
 
 back64 : (z : ℤ) → FitsSigned w64 z → int_in w64 (int_bytes w64 z) ≡ z
 back64 z f = search rules
 
-bytes_are : (own bytes : List ℕ) → bytes_given own ≡ bytes_given bytes → own ≡ bytes
-bytes_are own bytes e = cc e
-
-date_bytes : (z : ℤ) → FitsSigned w32 z → IsDate (d.Date z) (int_bytes w32 z)
+pub date_bytes : (z : ℤ) → FitsSigned w32 z → IsDate (d.Date z) (int_bytes w32 z)
 date_bytes z f = record { four = refl; same = ap (λ (y : ℤ). d.Date y) (sym (back32 z f)) }
 
-timestamp_bytes : (z : ℤ) → FitsSigned w64 z → IsTimestamp (d.Timestamp z) (int_bytes w64 z)
+pub timestamp_bytes : (z : ℤ) → FitsSigned w64 z → IsTimestamp (d.Timestamp z) (int_bytes w64 z)
 timestamp_bytes z f = record { eight = refl; same = ap (λ (y : ℤ). d.Timestamp y) (sym (back64 z f)) }
 
-given_none : (own : List ℕ) → bytes_given own ≡ Ok None → ⊥
+pub given_none : (own : List ℕ) → bytes_given own ≡ Ok None → ⊥
 given_none own e = cc e
-
-given_right : (own : List ℕ) (f : ValueFault) → bytes_given own ≡ Err f → ⊥
-given_right own f e = cc e
-
-pub date_written : (z : ℤ) → FitsSigned w32 z → (old new : List ℕ) (answer : Result IsNull ValueFault) (result : Result (Unit {0}) ValueFault)
-    → Writes (bytes_given (int_bytes w32 z)) old new answer → Sends answer result → WritesAs (IsDate (d.Date z)) (IsDate (d.Date z)) old new result
-date_written z f old new answer result =
-    wrote_given (IsDate (d.Date z)) (IsDate (d.Date z)) (bytes_given (int_bytes w32 z)) old new answer result (given_none (int_bytes w32 z))
-    (λ bytes e. subst (IsDate (d.Date z)) (bytes_are (int_bytes w32 z) bytes e) (date_bytes z f)) (λ g e. absurd (given_right (int_bytes w32 z) g e))
-
-pub timestamp_written : (z : ℤ) → FitsSigned w64 z → (old new : List ℕ) (answer : Result IsNull ValueFault) (result : Result (Unit {0}) ValueFault)
-    → Writes (bytes_given (int_bytes w64 z)) old new answer → Sends answer result → WritesAs (IsTimestamp (d.Timestamp z)) (IsTimestamp (d.Timestamp z)) old new result
-timestamp_written z f old new answer result =
-    wrote_given (IsTimestamp (d.Timestamp z)) (IsTimestamp (d.Timestamp z)) (bytes_given (int_bytes w64 z)) old new answer result (given_none (int_bytes w64 z))
-    (λ bytes e. subst (IsTimestamp (d.Timestamp z)) (bytes_are (int_bytes w64 z) bytes e) (timestamp_bytes z f)) (λ g e. absurd (given_right (int_bytes w64 z) g e))
 
 -- ---- each value
 
 pub has_value : (v : Value) (n : ℕ) (bytes : List ℕ) → IsValue false n (datum_of v) bytes → value_in n bytes ≡ Ok v
 has_value v n bytes is = is.spelled ∙ ap (λ (w : Value). Ok w) (sym (same_value v is.value is.same))
 
-is_value : (v : Value) (n : ℕ) (bytes : List ℕ) → value_in n bytes ≡ Ok v → value_gives v n ≡ bytes_given bytes → IsValue true n (datum_of v) bytes
+pub is_value : (v : Value) (n : ℕ) (bytes : List ℕ) → value_in n bytes ≡ Ok v → value_gives v n ≡ bytes_given bytes → IsValue true n (datum_of v) bytes
 is_value v n bytes spelled given = record { value = v; spelled = spelled; same = refl; given = λ p. given }
 
 given_some : (fit : Bool) (own : List ℕ) → (if fit then bytes_given own else Err fault.BadValue) ≡ Ok None → ⊥
@@ -289,83 +268,18 @@ width_some None z n e = oid_some (n == oids.oid) (fits_oid z) e
     oid_some true fit e = given_some fit (oid_bytes (unsigned_abs z)) e
     oid_some false fit e = cc e
 
-number_some : (z : ℤ) (n : ℕ) → number_given z n ≡ Ok None → ⊥
+pub number_some : (z : ℤ) (n : ℕ) → number_given z n ≡ Ok None → ⊥
 number_some z n e = width_some (int_width n) z n e
 
-pub int_written : (z : ℤ) (n : ℕ) (old new : List ℕ) (answer : Result IsNull ValueFault) (result : Result (Unit {0}) ValueFault)
-    → Writes (number_given z n) old new answer → Sends answer result → WritesAs (IsValue true n (d.Int z)) (IsValue false n (d.Int z)) old new result
-int_written z n old new answer result =
-    wrote_given (IsValue true n (d.Int z)) (IsValue false n (d.Int z)) (number_given z n) old new answer result (λ e. number_some z n e)
-    (λ bytes e. is_value (value.Int z) n bytes (number_in z bytes n e) e)
-    (λ f e bytes are is. no_number z bytes f are n e (has_value (value.Int z) n bytes is))
-
 -- a truth value and bytes are read again
-bool_back : (b : Bool) (n : ℕ) (bytes : List ℕ) → n ≡ oids.bool → bool_bytes b ≡ bytes → value_in n bytes ≡ Ok (value.Bool b)
+pub bool_back : (b : Bool) (n : ℕ) (bytes : List ℕ) → n ≡ oids.bool → bool_bytes b ≡ bytes → value_in n bytes ≡ Ok (value.Bool b)
 bool_back true n bytes e is = subst (λ (m : ℕ). value_in m bytes ≡ Ok (value.Bool true)) (sym e) (subst (λ (l : List ℕ). value_in oids.bool l ≡ Ok (value.Bool true)) is refl)
 bool_back false n bytes e is = subst (λ (m : ℕ). value_in m bytes ≡ Ok (value.Bool false)) (sym e) (subst (λ (l : List ℕ). value_in oids.bool l ≡ Ok (value.Bool false)) is refl)
 
-bytea_back : (t : List ℕ) (n : ℕ) (bytes : List ℕ) → n ≡ oids.bytea → t ≡ bytes → value_in n bytes ≡ Ok (value.Bytes t)
+pub bytea_back : (t : List ℕ) (n : ℕ) (bytes : List ℕ) → n ≡ oids.bytea → t ≡ bytes → value_in n bytes ≡ Ok (value.Bytes t)
 bytea_back t n bytes e is = subst (λ (m : ℕ). value_in m bytes ≡ Ok (value.Bytes t)) (sym e) (ap (λ (l : List ℕ). Ok (value.Bytes l)) (sym is))
 
 -- a choice of bytes
-some_chosen : (b : Bool) (own : List ℕ) (f : ValueFault) → (if b then bytes_given own else Err f) ≡ Ok None → ⊥
+pub some_chosen : (b : Bool) (own : List ℕ) (f : ValueFault) → (if b then bytes_given own else Err f) ≡ Ok None → ⊥
 some_chosen true own f e = cc e
 some_chosen false own f e = cc e
-
-chosen : (b : Bool) (own bytes : List ℕ) (f : ValueFault) → (if b then bytes_given own else Err f) ≡ bytes_given bytes → (b ≡ true) × (own ≡ bytes)
-chosen true own bytes f e = (refl, cc e)
-chosen false own bytes f e = absurd (cc e)
-
-not_chosen : (b : Bool) (own : List ℕ) (f g : ValueFault) → (if b then bytes_given own else Err f) ≡ Err g → b ≡ false
-not_chosen true own f g e = absurd (cc e)
-not_chosen false own f g e = refl
-
--- what a value gives that may not stand under every type
-abbrev given_if : Bool → ℕ → RustType → List ℕ → Given
-given_if b n r own = if b then bytes_given own else Err (fault.WrongType (wrong_type n r))
-
-checked_is : (b : Bool) (n : ℕ) (r : RustType) (own : List ℕ) (given : Given) → Checked b n r (λ g. bytes_given own ≡ g) given → given_if b n r own ≡ given
-checked_is true n r own given e = e
-checked_is false n r own given e = e
-
--- what is written is one of those too
-pub wider : (G H : Given → Type 0) (old new : List ℕ) (answer : Result IsNull ValueFault) → ((given : Given) → G given → H given)
-    → WritesOneOf G old new answer → WritesOneOf H old new answer
-wider G H old new (Ok null.No) to wrote = (wrote.0, to (Ok (Some wrote.0)) wrote.1, wrote.2)
-wider G H old new (Ok null.Yes) to wrote = (to (Ok None) wrote.0, wrote.1)
-wider G H old new (Err f) to (inl lack, e) = (inl (lack.0, to (Ok (Some lack.0)) lack.1, lack.2), e)
-wider G H old new (Err f) to (inr own, e) = (inr (to (Err f) own), e)
-
-checked_written : (b : Bool) (n : ℕ) (r : RustType) (own old new : List ℕ) (answer : Result IsNull ValueFault)
-    → WritesOneOf (Checked b n r (λ g. bytes_given own ≡ g)) old new answer → Writes (given_if b n r own) old new answer
-checked_written b n r own old new answer wrote =
-    wider (Checked b n r (λ g. bytes_given own ≡ g)) (λ g. given_if b n r own ≡ g) old new answer (checked_is b n r own) wrote
-
-pub bool_written : (b : Bool) (n : ℕ) (old new : List ℕ) (answer : Result IsNull ValueFault) (result : Result (Unit {0}) ValueFault)
-    → Writes (value_gives (value.Bool b) n) old new answer → Sends answer result → WritesAs (IsValue true n (d.Bool b)) (IsValue false n (d.Bool b)) old new result
-bool_written b n old new answer result =
-    wrote_given (IsValue true n (d.Bool b)) (IsValue false n (d.Bool b)) (value_gives (value.Bool b) n) old new answer result (λ e. some_chosen (n == oids.bool) (bool_bytes b) _ e)
-    (λ bytes e. let is = chosen (n == oids.bool) (bool_bytes b) bytes _ e in is_value (value.Bool b) n bytes (bool_back b n bytes (same_nat n oids.bool is.0) is.1) e)
-    (λ f e bytes are is. absurd (cc ((shape n bytes (value.Bool b) (has_value (value.Bool b) n bytes is)).0, not_chosen (n == oids.bool) (bool_bytes b) _ f e)))
-
-pub text_written : (t : List ℕ) → is_utf8 t ≡ true → (n : ℕ) (old new : List ℕ) (answer : Result IsNull ValueFault) (result : Result (Unit {0}) ValueFault)
-    → WritesOneOf (Checked (is_text n) n rust.Str (λ g. bytes_given t ≡ g)) old new answer → Sends answer result
-    → WritesAs (IsValue true n (d.Text t)) (IsValue false n (d.Text t)) old new result
-text_written t u n old new answer result wrote sent =
-    wrote_given (IsValue true n (d.Text t)) (IsValue false n (d.Text t)) (given_if (is_text n) n rust.Str t) old new answer result (λ e. some_chosen (is_text n) t _ e)
-    (λ bytes e. let is = chosen (is_text n) t bytes _ e in
-    let given : value_gives (value.Text t) n ≡ bytes_given bytes = rw is.0 (ap (λ (l : List ℕ). bytes_given l) is.1) in
-    is_value (value.Text t) n bytes (text_in t u bytes n given) given)
-    (λ f e bytes are is. absurd (cc ((shape n bytes (value.Text t) (has_value (value.Text t) n bytes is)).0, not_chosen (is_text n) t _ f e)))
-    (checked_written (is_text n) n rust.Str t old new answer wrote) sent
-
-pub bytea_written : (t : List ℕ) (n : ℕ) (old new : List ℕ) (answer : Result IsNull ValueFault) (result : Result (Unit {0}) ValueFault)
-    → WritesOneOf (Checked (n == oids.bytea) n rust.Blob (λ g. bytes_given t ≡ g)) old new answer → Sends answer result
-    → WritesAs (IsValue true n (d.Bytes t)) (IsValue false n (d.Bytes t)) old new result
-bytea_written t n old new answer result wrote sent =
-    wrote_given (IsValue true n (d.Bytes t)) (IsValue false n (d.Bytes t)) (given_if (n == oids.bytea) n rust.Blob t) old new answer result (λ e. some_chosen (n == oids.bytea) t _ e)
-    (λ bytes e. let is = chosen (n == oids.bytea) t bytes _ e in
-    let given : value_gives (value.Bytes t) n ≡ bytes_given bytes = rw is.0 (ap (λ (l : List ℕ). bytes_given l) is.1) in
-    is_value (value.Bytes t) n bytes (bytea_back t n bytes (same_nat n oids.bytea is.0) is.1) given)
-    (λ f e bytes are is. absurd (cc ((shape n bytes (value.Bytes t) (has_value (value.Bytes t) n bytes is)).0, not_chosen (n == oids.bytea) t _ f e)))
-    (checked_written (n == oids.bytea) n rust.Blob t old new answer wrote) sent

@@ -6,5 +6,6 @@ pub mod Groups
 pub mod Parts
 pub mod Spelling
 pub mod Reading
+pub mod Sending
 pub mod Writing
 pub mod Worked

@@ -1,5 +1,5 @@
 -- What writing a value answers.
-use Rattle.std.specs.Prelude.{◌≡◌, ◌≢◌, ◌<◌, ◌++◌, ℕ, true, false, List, Some, None, Result, Ok, Err, IsOk, MatchResult}
+use Rattle.std.specs.Prelude.{◌≡◌, ◌≢◌, ◌<◌, ◌++◌, ℕ, true, false, List, Option, Some, None, Result, Ok, Err, IsOk, MatchResult}
 use Rattle.std.specs.List.{AllByRecursion}
 use Rattle.pg_types.specs.declared.fault.ValueFault.{ValueFault}
 use Rattle.pg_types.specs.declared.fault.ValueFault.TheVariants as fault
@@ -54,6 +54,14 @@ WritesAs written spelled old new (Err fault.OutOfMemory) = Begins old new
 WritesAs written spelled old new (Err (fault.WrongType wrong)) = ⊥
 WritesAs written spelled old new (Err fault.WasNull) = ⊥
 
+-- the bytes that are sent stand behind what was there; BadValue where there are none. After a fault what was there stands in front
+abbrev pub WritesSent : {A : Type 0} → Option (List ℕ) → (old new : List ℕ) → Result A ValueFault → Type 0
+WritesSent sent old new (Ok _) = (bytes : List ℕ) × (sent ≡ Some bytes) × (new ≡ old ++ bytes)
+WritesSent sent old new (Err fault.BadValue) = (sent ≡ None) × Begins old new
+WritesSent sent old new (Err fault.OutOfMemory) = Begins old new
+WritesSent sent old new (Err (fault.WrongType wrong)) = ⊥
+WritesSent sent old new (Err fault.WasNull) = ⊥
+
 -- bytes in the written form stand behind what was there, and are read again as the value
 pub record IsWritten (ty : PgType) (v : Datum) (old new : List ℕ) : Type 0 where
   pub bytes : List ℕ
@@ -82,12 +90,12 @@ pub record IsWrittenAs (ty : PgType) (v : Datum) (bytes : List ℕ) : Type 0 whe
   pub written : spells true ty v (Some bytes)
   pub again : IsTheValue ty (Some bytes) v
 
--- what a value may give under a type: bytes in the written form; null, where it is null; WrongType exactly where the type isn't
--- supported; BadValue where no bytes spell the value. Memory may lack where there is a value to be written
+-- this is what a value gives under a type: bytes in the written form; null, where it is null; WrongType exactly where the type isn't
+-- supported; BadValue where no bytes spell the value
 abbrev pub GivesDatum : Datum → PgType → Given → Type 0
 GivesDatum v ty (Ok (Some bytes)) = IsWrittenAs ty v bytes
 GivesDatum v ty (Ok None) = (is_supported ty ≡ true) × (v ≡ d.Null)
 GivesDatum v ty (Err (fault.WrongType wrong)) = IsWrong ty wrong
 GivesDatum v ty (Err fault.BadValue) = HasNoBytes ty v
-GivesDatum v ty (Err fault.OutOfMemory) = (is_supported ty ≡ true) × (v ≢ d.Null)
+GivesDatum v ty (Err fault.OutOfMemory) = ⊥
 GivesDatum v ty (Err fault.WasNull) = ⊥

@@ -12,9 +12,12 @@ use pg_types::{IsNull, ToSql, Type, ValueFault, WrongType};
 /// A `Datum` is written by `write_datum`. It may stand under each supported type, whichever the value; BadValue comes where no bytes
 /// of the type spell it.
 impl ToSql for Datum {
-    ghost use Rattle.pg_values.specs.Writing.{GivesDatum};
+    ghost use Rattle.std.specs.Prelude.{true};
+    ghost use Rattle.pg_values.specs.Sending.{datum_gives};
 
-    ghost gives = { λ v ty given. GivesDatum v ty given };
+    ghost gives = { λ v ty. datum_gives ty v };
+
+    ghost has_parts = { true };
 
     ghost accepted = { λ _ ty. is_supported ty };
 

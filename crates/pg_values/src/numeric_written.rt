@@ -4,7 +4,8 @@ ghost use Rattle.std.specs.Int.{w16};
 ghost use Rattle.std.specs.Prelude.{FitsSigned, pos, ◌+ℤ◌, ◌+◌, ◌≡◌, ◌≢◌, ◌↔◌, IsTrue, ◌<◌, ◌≤◌, ◌-◌, ◌*◌, ◌^◌, true, false};
 ghost use Rattle.pg_values.specs.Groups.{AreGroups, AreDigitsIn, IsWrittenNumber, IsSignOf, head_bytes};
 ghost use Rattle.pg_values.specs.Numerics.{SpellsNumeric};
-ghost use Rattle.pg_values.specs.Writing.{WritesAs, Fills};
+ghost use Rattle.pg_values.specs.Sending.{numeric_send};
+ghost use Rattle.pg_values.specs.Writing.{WritesAs, WritesSent, Fills};
 ghost use Rattle.pg_values.specs.declared.datum.Datum as d;
 
 use crate::datum::Datum;
@@ -158,6 +159,13 @@ fn write_number(unscaled: i128, scale: u16, out: &mut BytesMut) -> Result<(), Va
 
 /// A numeric.
 pub(crate) fn write_numeric(value: &Datum, out: &mut BytesMut) -> Result<(), ValueFault>
+    ensures { WritesSent (numeric_send value.now) out.old.items out.new.items result }
+{
+    write_form(value, out)
+}
+
+/// A numeric in its written form.
+fn write_form(value: &Datum, out: &mut BytesMut) -> Result<(), ValueFault>
     ensures { WritesAs (SpellsNumeric true value.now) (SpellsNumeric false value.now) out.old.items out.new.items result }
 {
     match value {

@@ -1,9 +1,8 @@
 //! Values without parts, written.
 
-ghost use Rattle.std.specs.Prelude.{◌≡◌, ◌↔◌, IsTrue, Contains, false, true};
-ghost use Rattle.pg_types.specs.declared.value.Value.TheVariants as value;
-ghost use Rattle.pg_values.specs.Scalars.{datum_of, IsValue, IsDate, IsTimestamp, IsUuid, IsLabel};
-ghost use Rattle.pg_values.specs.Writing.{WritesAs, Sends};
+ghost use Rattle.std.specs.Prelude.{◌↔◌, Contains, IsTrue};
+ghost use Rattle.pg_values.specs.Sending.{value_send, date_send, timestamp_send, uuid_send, enum_send};
+ghost use Rattle.pg_values.specs.Writing.{WritesSent, Sends};
 ghost use Rattle.pg_values.specs.declared.datum.Datum as d;
 
 use crate::datum::Datum;
@@ -25,40 +24,35 @@ fn sent(answer: Result<IsNull, ValueFault>) -> Result<(), ValueFault>
 
 /// A truth value.
 fn write_bool(b: bool, ty: &Type, out: &mut BytesMut) -> Result<(), ValueFault>
-    ensures { WritesAs (IsValue true ty.now.oid (datum_of (value.Bool b))) (IsValue false ty.now.oid (datum_of (value.Bool b)))
-        out.old.items out.new.items result }
+    ensures { WritesSent (value_send ty.now.oid (d.Bool b)) out.old.items out.new.items result }
 {
     sent(Value::Bool(b).to_sql(ty, out))
 }
 
 /// A whole number.
 fn write_int(n: i64, ty: &Type, out: &mut BytesMut) -> Result<(), ValueFault>
-    ensures { WritesAs (IsValue true ty.now.oid (datum_of (value.Int n))) (IsValue false ty.now.oid (datum_of (value.Int n)))
-        out.old.items out.new.items result }
+    ensures { WritesSent (value_send ty.now.oid (d.Int n)) out.old.items out.new.items result }
 {
     sent(Value::Int(n).to_sql(ty, out))
 }
 
 /// A text.
 fn write_text(text: &str, ty: &Type, out: &mut BytesMut) -> Result<(), ValueFault>
-    ensures { WritesAs (IsValue true ty.now.oid (datum_of (value.Text text.now)))
-        (IsValue false ty.now.oid (datum_of (value.Text text.now))) out.old.items out.new.items result }
+    ensures { WritesSent (value_send ty.now.oid (d.Text text.now)) out.old.items out.new.items result }
 {
     sent(text.to_sql_checked(ty, out))
 }
 
 /// Bytes.
 fn write_bytea(bytes: &Blob, ty: &Type, out: &mut BytesMut) -> Result<(), ValueFault>
-    ensures { WritesAs (IsValue true ty.now.oid (datum_of (value.Bytes bytes.now)))
-        (IsValue false ty.now.oid (datum_of (value.Bytes bytes.now))) out.old.items out.new.items result }
+    ensures { WritesSent (value_send ty.now.oid (d.Bytes bytes.now)) out.old.items out.new.items result }
 {
     sent(bytes.to_sql_checked(ty, out))
 }
 
 /// A value of the types that a `Value` is written as.
 pub(crate) fn write_value(value: &Datum, ty: &Type, out: &mut BytesMut) -> Result<(), ValueFault>
-    ensures { WritesAs (IsValue true ty.now.oid value.now) (IsValue false ty.now.oid value.now)
-        out.old.items out.new.items result }
+    ensures { WritesSent (value_send ty.now.oid value.now) out.old.items out.new.items result }
 {
     match value {
         Datum::Bool(b) => write_bool(*b, ty, out),
@@ -71,22 +65,21 @@ pub(crate) fn write_value(value: &Datum, ty: &Type, out: &mut BytesMut) -> Resul
 
 /// Days from 2000-01-01.
 fn write_days(days: i32, ty: &Type, out: &mut BytesMut) -> Result<(), ValueFault>
-    ensures { WritesAs (IsDate (d.Date days)) (IsDate (d.Date days)) out.old.items out.new.items result }
+    ensures { WritesSent (date_send (d.Date days)) out.old.items out.new.items result }
 {
     sent(days.to_sql(ty, out))
 }
 
 /// Microseconds from the begin of 2000-01-01.
 fn write_microseconds(microseconds: i64, ty: &Type, out: &mut BytesMut) -> Result<(), ValueFault>
-    ensures { WritesAs (IsTimestamp (d.Timestamp microseconds)) (IsTimestamp (d.Timestamp microseconds))
-        out.old.items out.new.items result }
+    ensures { WritesSent (timestamp_send (d.Timestamp microseconds)) out.old.items out.new.items result }
 {
     sent(microseconds.to_sql(ty, out))
 }
 
 /// A date.
 pub(crate) fn write_date(value: &Datum, ty: &Type, out: &mut BytesMut) -> Result<(), ValueFault>
-    ensures { WritesAs (IsDate value.now) (IsDate value.now) out.old.items out.new.items result }
+    ensures { WritesSent (date_send value.now) out.old.items out.new.items result }
 {
     match value {
         Datum::Date(days) => write_days(*days, ty, out),
@@ -100,7 +93,7 @@ pub(crate) fn write_timestamp(
     ty: &Type,
     out: &mut BytesMut,
 ) -> Result<(), ValueFault>
-    ensures { WritesAs (IsTimestamp value.now) (IsTimestamp value.now) out.old.items out.new.items result }
+    ensures { WritesSent (timestamp_send value.now) out.old.items out.new.items result }
 {
     match value {
         Datum::Timestamp(microseconds) => write_microseconds(*microseconds, ty, out),
@@ -110,7 +103,7 @@ pub(crate) fn write_timestamp(
 
 /// Sixteen bytes.
 pub(crate) fn write_uuid(value: &Datum, out: &mut BytesMut) -> Result<(), ValueFault>
-    ensures { WritesAs (IsUuid value.now) (IsUuid value.now) out.old.items out.new.items result }
+    ensures { WritesSent (uuid_send value.now) out.old.items out.new.items result }
 {
     match value {
         Datum::Uuid(bytes) if bytes.as_slice().len() == 16 => put(bytes.as_slice(), out),
@@ -130,19 +123,26 @@ fn is_known(labels: &[Text], bytes: &[u8]) -> bool
     false
 }
 
+/// This label, where it is one of them.
+fn put_label(label: &[u8], labels: &[Text], out: &mut BytesMut) -> Result<(), ValueFault>
+    ensures { WritesSent (enum_send labels.now (d.Label label.now)) out.old.items out.new.items result }
+{
+    if !is_known(labels, label) {
+        return Err(ValueFault::BadValue);
+    }
+    put(label, out)
+}
+
 /// One of the labels.
 pub(crate) fn write_label(
     value: &Datum,
     labels: &[Text],
     out: &mut BytesMut,
 ) -> Result<(), ValueFault>
-    ensures { WritesAs (IsLabel labels.now value.now) (IsLabel labels.now value.now) out.old.items out.new.items result }
+    ensures { WritesSent (enum_send labels.now value.now) out.old.items out.new.items result }
 {
     match value {
-        Datum::Label(label) if is_known(labels, label.as_str().as_bytes()) => put(
-            label.as_str().as_bytes(),
-            out,
-        ),
+        Datum::Label(label) => put_label(label.as_str().as_bytes(), labels, out),
         _ => Err(ValueFault::BadValue),
     }
 }

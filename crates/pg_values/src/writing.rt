@@ -1,11 +1,13 @@
 //! A value, written by its type.
 
-ghost use Rattle.std.specs.Prelude.{◌≡◌, ◌↔◌, ◌<◌, ◌≤◌, ◌+◌, ◌^◌, [], Bool, Err, IsTrue, List, None, get_or, Contains, length, false, true, flat_map, MatchOption};
+ghost use Rattle.std.specs.Prelude.{◌≡◌, ◌↔◌, ◌<◌, ◌≤◌, ◌+◌, ◌^◌, Bool, Err, IsTrue, List, None, get_or, Contains, length, false, true, flat_map, MatchOption};
 ghost use Rattle.pg_types.proofs.KindLaws.{row_of};
-ghost use Rattle.pg_values.specs.Spelling.{SpellsKind, SpellsScalar, SpellFields, IsArray, IsRange, IsComposite, IsFront, array_front, dim_bytes, count_of, count_fields, values_of};
+ghost use Rattle.pg_types.specs.Values.{Writes};
 ghost use Rattle.pg_types.specs.declared.fault.ValueFault.TheVariants as fault;
-ghost use Rattle.pg_values.specs.Parts.{IsNext, SpellItems, part_bytes};
-ghost use Rattle.pg_values.specs.Writing.{WritesAs, WritesDatum, Fills, Puts};
+ghost use Rattle.pg_values.specs.Parts.{part_bytes};
+ghost use Rattle.pg_values.specs.Sending.{datum_gives, kind_send, scalar_send, fields_send, value_or_null_send, items_send, array_send, range_send, record_send};
+ghost use Rattle.pg_values.specs.Spelling.{IsFront, array_front, count_of, dim_bytes, count_fields, values_of};
+ghost use Rattle.pg_values.specs.Writing.{WritesDatum, WritesSent, Fills, Puts};
 ghost use Rattle.pg_values.specs.declared.datum.Dim.{Dim};
 ghost use Rattle.pg_values.specs.declared.datum.Bound.{Bound};
 ghost use Rattle.pg_values.specs.declared.datum.Datum as d;
@@ -25,7 +27,15 @@ use pg_types::{Field, IsNull, Kind, Oid, RustType, Type, ValueFault, WrongType};
 /// Appends the bytes of a value under a type, none for null. WrongType comes exactly where the type isn't supported, and BadValue
 /// only where it is and no bytes spell the value. After a fault `out` is as before.
 pub fn write_datum(value: &Datum, ty: &Type, out: &mut BytesMut) -> Result<IsNull, ValueFault>
-    ensures { WritesDatum ty.now value.now out.old.items out.new.items result }
+    ensures gives { Writes true (datum_gives ty.now value.now) out.old.items out.new.items result }
+    ensures form { WritesDatum ty.now value.now out.old.items out.new.items result }
+{
+    write_given(value, ty, out)
+}
+
+/// The same.
+fn write_given(value: &Datum, ty: &Type, out: &mut BytesMut) -> Result<IsNull, ValueFault>
+    ensures { Writes true (datum_gives ty.now value.now) out.old.items out.new.items result }
 {
     if !is_supported(ty) {
         return Err(ValueFault::WrongType(WrongType {
@@ -66,8 +76,7 @@ fn put_null(nullable: bool, out: &mut BytesMut) -> Result<(), ValueFault>
 
 /// A value without parts.
 fn write_scalar(value: &Datum, ty: &Type, out: &mut BytesMut) -> Result<(), ValueFault>
-    ensures { WritesAs (SpellsScalar true ty.now.oid value.now) (SpellsScalar false ty.now.oid value.now)
-        out.old.items out.new.items result }
+    ensures { WritesSent (scalar_send ty.now.oid value.now) out.old.items out.new.items result }
 {
     match ty.oid() {
         1700 => write_numeric(value, out),
@@ -82,8 +91,7 @@ fn write_scalar(value: &Datum, ty: &Type, out: &mut BytesMut) -> Result<(), Valu
 /// A value that isn't null.
 #[cycle(writing)]
 fn write_bytes(ty: &Type, value: &Datum, out: &mut BytesMut) -> Result<(), ValueFault>
-    ensures { WritesAs (SpellsKind true ty.now.oid ty.now.kind value.now) (SpellsKind false ty.now.oid ty.now.kind value.now)
-        out.old.items out.new.items result }
+    ensures { WritesSent (kind_send ty.now.oid ty.now.kind value.now) out.old.items out.new.items result }
 {
     match ty.kind() {
         Kind::Simple => write_scalar(value, ty, out),
@@ -104,8 +112,7 @@ fn write_part(
     nullable: bool,
     out: &mut BytesMut,
 ) -> Result<(), ValueFault>
-    ensures { WritesAs (λ b. IsNext nullable (SpellsKind true ty.now.oid ty.now.kind) value.now b [])
-        (λ b. IsNext nullable (SpellsKind false ty.now.oid ty.now.kind) value.now b []) out.old.items out.new.items result }
+    ensures { WritesSent (value_or_null_send nullable (kind_send ty.now.oid ty.now.kind) value.now) out.old.items out.new.items result }
 {
     if is_null(value) {
         return put_null(nullable, out);
@@ -124,8 +131,7 @@ fn write_items(
     nullable: bool,
     out: &mut BytesMut,
 ) -> Result<(), ValueFault>
-    ensures { WritesAs (SpellItems nullable (SpellsKind true ty.now.oid ty.now.kind) items.now)
-        (SpellItems nullable (SpellsKind false ty.now.oid ty.now.kind) items.now) out.old.items out.new.items result }
+    ensures { WritesSent (items_send nullable (kind_send ty.now.oid ty.now.kind) items.now) out.old.items out.new.items result }
 {
     for item in items {
         write_part(ty, item, nullable, out)?;
@@ -198,8 +204,7 @@ fn array_parts(value: &Datum) -> Option<(&[Dim], &[Datum])>
 /// An array of items of a type.
 #[cycle(writing)]
 fn write_array(element: &Type, value: &Datum, out: &mut BytesMut) -> Result<(), ValueFault>
-    ensures { WritesAs (IsArray true element.now.oid (SpellsKind true element.now.oid element.now.kind) value.now)
-        (IsArray false element.now.oid (SpellsKind false element.now.oid element.now.kind) value.now)
+    ensures { WritesSent (array_send element.now.oid (kind_send element.now.oid element.now.kind) value.now)
         out.old.items out.new.items result }
 {
     let Some((dims, items)) = array_parts(value) else {
@@ -239,8 +244,7 @@ fn are_counted(bounds: &[Datum], lower: Bound, upper: Bound) -> bool
 /// A range between values of a type.
 #[cycle(writing)]
 fn write_range(element: &Type, value: &Datum, out: &mut BytesMut) -> Result<(), ValueFault>
-    ensures { WritesAs (IsRange true (SpellsKind true element.now.oid element.now.kind) value.now)
-        (IsRange false (SpellsKind false element.now.oid element.now.kind) value.now) out.old.items out.new.items result }
+    ensures { WritesSent (range_send (kind_send element.now.oid element.now.kind) value.now) out.old.items out.new.items result }
 {
     let Some((empty, lower, upper, bounds)) = range_parts(value) else {
         return Err(ValueFault::BadValue);
@@ -277,8 +281,7 @@ fn are_paired(values: &[Datum], fields: &[Field]) -> bool
 /// A composite of these fields.
 #[cycle(writing)]
 fn write_composite(fields: &[Field], value: &Datum, out: &mut BytesMut) -> Result<(), ValueFault>
-    ensures { WritesAs (IsComposite (count_fields (row_of fields.now)) (SpellFields true (row_of fields.now)) value.now)
-        (IsComposite (count_fields (row_of fields.now)) (SpellFields false (row_of fields.now)) value.now)
+    ensures { WritesSent (record_send (count_fields (row_of fields.now)) (fields_send (row_of fields.now)) value.now)
         out.old.items out.new.items result }
 {
     let Some(values) = composite_parts(value) else {
@@ -303,8 +306,7 @@ fn value_at(values: &[Datum], place: usize) -> &Datum
 #[cycle(writing)]
 fn write_fields(fields: &[Field], values: &[Datum], out: &mut BytesMut) -> Result<(), ValueFault>
     requires { length values.now ≡ length fields.now }
-    ensures { WritesAs (SpellFields true (row_of fields.now) values.now) (SpellFields false (row_of fields.now) values.now)
-        out.old.items out.new.items result }
+    ensures { WritesSent (fields_send (row_of fields.now) values.now) out.old.items out.new.items result }
 {
     let mut place = 0;
     for field in fields {
