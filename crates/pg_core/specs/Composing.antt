@@ -1,4 +1,4 @@
--- Questions and requests of a dialogue. How one stands behind another's value says pg_scripts.
+-- Questions and requests of a dialogue. How one stands behind another's value says `Behind`.
 use Rattle.std.specs.Prelude.{ℕ, List, false, Result, Ok, Err}
 use Rattle.pg_spec.specs.Faults.{FrameFault, Encode, Frame}
 use Rattle.pg_types.specs.declared.error.Error.{Error}

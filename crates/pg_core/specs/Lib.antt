@@ -15,6 +15,7 @@ pub mod Composing
 pub mod Cells
 pub mod QueryReplies
 pub mod Descriptions
+pub mod ParamTypes
 pub mod Prepares
 pub mod Lookups
 pub mod Searches

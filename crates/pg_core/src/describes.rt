@@ -1,12 +1,14 @@
 //! A text that is sent, and what the server says of it (PostgreSQL documentation, "Extended Query").
 
-ghost use Rattle.std.specs.Prelude.{◌≡◌, ◌≤◌, IfOk, MatchResult, Ok, true};
+ghost use Rattle.std.specs.Prelude.{◌≡◌, ◌≤◌, map, IfOk, MatchResult, Ok, true};
+ghost use Rattle.pg_types.specs.Texts.{sql_text};
 ghost use Rattle.pg_wire.specs.Faults.{frame_fault};
 ghost use Rattle.pg_wire.specs.Writes.{IsRefusal};
 ghost use Rattle.pg_query.specs.Reading.{reads};
 ghost use Rattle.pg_query.specs.SingleRequests.{dialogue_of, steps_of};
 ghost use Rattle.pg_core.specs.Composing.{asks_for, or_encode};
 ghost use Rattle.pg_core.specs.Descriptions.{description};
+ghost use Rattle.pg_core.specs.ParamTypes.{param_oids};
 ghost use Rattle.pg_core.specs.Prepares as spec;
 ghost use Rattle.pg_core.specs.Described.{reading_of};
 ghost use Rattle.pg_core.specs.Parsing.{prepare_frames};
@@ -14,12 +16,13 @@ ghost use Rattle.pg_core.specs.Parsing.{prepare_frames};
 use crate::description::{Description, NewStatement};
 use crate::description_reading::DescriptionReading;
 use crate::making::statement_name;
+use crate::param_types::{ParamTypes, oids_of};
 use crate::ready::{Answered, Ready};
 use crate::{Draws, Go, Maybe, OrAnswer, Then};
 use bytes::{Bytes, BytesMut};
 use pg_errors::{Cause, Error};
 use pg_query::{Script, SingleRequest};
-use pg_types::Oid;
+use pg_types::{Oid, Sql, Type};
 use pg_wire::{FrameFault, describe, parse, sync};
 use std::alloc::{AllocError, Global};
 
@@ -39,19 +42,54 @@ fn frames(alloc: Global, name: &str, text: &str, oids: &[Oid]) -> Result<Bytes, 
     }
 }
 
+/// The same, with types in place of oids.
+fn frames_of_types(
+    alloc: Global,
+    name: &str,
+    text: &str,
+    types: &[Type],
+) -> Result<Bytes, FrameFault>
+    ensures { MatchResult result
+        (λ bytes. prepare_frames name.now text.now (map (λ ty. ty.oid) types.now) ≡ Ok bytes)
+        (λ fault. IsRefusal (prepare_frames name.now text.now (map (λ ty. ty.oid) types.now)) (frame_fault fault)) }
+{
+    match oids_of(alloc, types) {
+        Ok(oids) => frames(alloc, name, text, &oids),
+        Err(_) => Err(FrameFault::OutOfMemory),
+    }
+}
+
+/// The same, however the types are told.
+fn frames_under(
+    alloc: Global,
+    name: &str,
+    text: &str,
+    types: &ParamTypes,
+) -> Result<Bytes, FrameFault>
+    ensures { MatchResult result
+        (λ bytes. prepare_frames name.now text.now (param_oids types.now) ≡ Ok bytes)
+        (λ fault. IsRefusal (prepare_frames name.now text.now (param_oids types.now)) (frame_fault fault)) }
+{
+    match types {
+        ParamTypes::Oids(oids) => frames(alloc, name, text, *oids),
+        ParamTypes::Types(types) => frames_of_types(alloc, name, text, *types),
+        ParamTypes::Owned(types) => frames_of_types(alloc, name, text, types.as_slice()),
+    }
+}
+
 /// The request that prepares a text, or the error of one that can't be sent.
 fn prepare_request(
     alloc: Global,
     number: u32,
     text: &str,
-    oids: &[Oid],
+    types: &ParamTypes,
 ) -> Result<Result<Bytes, Error>, AllocError>
-    ensures { IfOk result (λ request. request ≡ or_encode (spec.prepare_request number text.now oids.now)) }
+    ensures { IfOk result (λ request. request ≡ or_encode (spec.prepare_request number text.now (param_oids types.now))) }
 {
     let Ok(name) = statement_name(alloc, number) else {
         return Err(AllocError);
     };
-    match frames(alloc, name.as_str(), text, oids) {
+    match frames_under(alloc, name.as_str(), text, types) {
         Ok(request) => Ok(Ok(request)),
         Err(FrameFault::OutOfMemory) => Err(AllocError),
         Err(fault) => Ok(Err(Error::Encode(Cause::Frame(fault)))),
@@ -63,13 +101,13 @@ fn ask(
     alloc: Global,
     number: u32,
     text: &str,
-    oids: &[Oid],
+    types: &ParamTypes,
 ) -> Result<SingleRequest<DescriptionReading, Description>, AllocError>
-    ensures asks { IfOk result (λ one. dialogue_of reading_of one ≡ asks_for (or_encode (spec.prepare_request number text.now oids.now)) (reads true description)) }
+    ensures asks { IfOk result (λ one. dialogue_of reading_of one ≡ asks_for (or_encode (spec.prepare_request number text.now (param_oids types.now))) (reads true description)) }
     ensures steps { IfOk result (λ one. steps_of one ≤ 2) }
 {
     let reading = DescriptionReading::new();
-    match prepare_request(alloc, number, text, oids)? {
+    match prepare_request(alloc, number, text, types)? {
         Ok(request) => Ok(SingleRequest::new(reading, request, true)),
         Err(error) => Ok(SingleRequest::refused(reading, error)),
     }
@@ -113,27 +151,37 @@ pub type Parsing = Then<
 >;
 
 /// Sends a text under the number that was drawn for it.
-#[derive(Drop)]
 pub struct Parses<'a> {
-    text: &'a str,
-    oids: &'a [Oid],
+    text: Sql<'a>,
+    types: ParamTypes<'a>,
+}
+
+impl<'a> Drop for Parses<'a> {
+    fn drop(self) {
+        let Parses { text, types } = self;
+        drop(text);
+        drop(types);
+    }
 }
 
 impl<'a> Go for Parses<'a> {
+    ghost use Rattle.pg_types.specs.Texts.{sql_text};
+    ghost use Rattle.pg_core.specs.ParamTypes.{param_oids};
     ghost use Rattle.pg_core.specs.Parsing.{parses};
 
     type Input = u32;
 
     type Next = Parsing;
 
-    ghost to = { λ k number. parses k.text.now k.oids.now number };
+    ghost to = { λ k number. parses (sql_text k.text) (param_oids k.types) number };
 
     ghost most = { λ _. 2 };
 
     fn go(self, alloc: Global, number: u32) -> Result<Parsing, AllocError> {
-        let one = ask(alloc, number, self.text, self.oids)?;
+        let asked = ask(alloc, number, self.text.as_str(), &self.types);
+        drop(self);
         let go = Numbers { number };
-        Ok(Then::First(one, OrAnswer { go }))
+        Ok(Then::First(asked?, OrAnswer { go }))
     }
 }
 
@@ -142,10 +190,10 @@ impl<'a> Go for Parses<'a> {
 pub type Describes<'a> = Then<Draws, OrAnswer<Parses<'a>>, Maybe<NewStatement, Parsing>>;
 
 /// Describes this text, with the types of its first parameters. It takes no memory.
-pub fn describes_text<'a>(text: &'a str, oids: &'a [Oid]) -> Describes<'a>
-    ensures dialogue { ⟦<Describes<'a> as Script>⟧.dialogue result ≡ spec.describes text.now oids.now }
+pub fn describes_text<'a>(text: Sql<'a>, types: ParamTypes<'a>) -> Describes<'a>
+    ensures dialogue { ⟦<Describes<'a> as Script>⟧.dialogue result ≡ spec.describes (sql_text text.entry) (param_oids types.entry) }
     ensures steps { ⟦<Describes<'a> as Script>⟧.steps result ≤ 3 }
 {
-    let go = Parses { text, oids };
+    let go = Parses { text, types };
     Then::First(Draws::new(), OrAnswer { go })
 }

@@ -19,6 +19,7 @@ mod laws;
 mod lookup_laws;
 mod making;
 mod maybe;
+mod param_types;
 mod prepares;
 mod ready;
 mod then;
@@ -48,6 +49,7 @@ pub use lookup_laws::{
 };
 pub use making::columns_of;
 pub use maybe::Maybe;
+pub use param_types::ParamTypes;
 pub use prepares::{FindsTypes, Makes, MakesStatement, Prepares};
 pub use ready::{Answered, Ready};
 pub use then::Then;

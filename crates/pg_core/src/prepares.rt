@@ -1,18 +1,21 @@
 //! A text that is prepared: a statement, whose types are found.
 
 ghost use Rattle.std.specs.Prelude.{◌≡◌, ◌≤◌, ◌+◌, IfOk};
+ghost use Rattle.pg_types.specs.Texts.{sql_text};
+ghost use Rattle.pg_core.specs.ParamTypes.{param_oids};
 ghost use Rattle.pg_core.specs.Prepares as spec;
 
 use crate::describes::{Describes, describes_text};
 use crate::description::NewStatement;
 use crate::finder::Finder;
 use crate::making::statement_of;
+use crate::param_types::ParamTypes;
 use crate::ready::{Answered, Ready};
 use crate::{Go, Maybe, OrAnswer, Then};
 use pg_desk::Statement;
 use pg_errors::Error;
 use pg_query::{Cleanup, Reply, Script, Want};
-use pg_types::{List, Oid, Type};
+use pg_types::{List, Sql, Type};
 use pg_wire::{Message, WireFault};
 use std::alloc::{AllocError, Global};
 use std::collections::VecDeque;
@@ -93,13 +96,13 @@ impl<'a, F: Drop, S: Drop> Drop for Prepares<'a, F, S> {
 
 impl<'a, F: Finder> Prepares<'a, F, F::Search> {
     /// This text, with the types of its first parameters. It takes no memory.
-    pub fn new(text: &'a str, oids: &'a [Oid], finder: F) -> Prepares<'a, F, F::Search>
-        ensures dialogue { ⟦<Prepares<'a, F, F::Search> as Script>⟧.dialogue result ≡ spec.prepares (F.finds finder) text.now oids.now }
+    pub fn new(text: Sql<'a>, types: ParamTypes<'a>, finder: F) -> Prepares<'a, F, F::Search>
+        ensures dialogue { ⟦<Prepares<'a, F, F::Search> as Script>⟧.dialogue result ≡ spec.prepares (F.finds finder) (sql_text text.entry) (param_oids types.entry) }
         ensures steps { ⟦<Prepares<'a, F, F::Search> as Script>⟧.steps result ≤ 3 + F.most finder }
     {
         let go = FindsTypes { finder };
         Prepares {
-            script: Then::First(describes_text(text, oids), OrAnswer { go }),
+            script: Then::First(describes_text(text, types), OrAnswer { go }),
         }
     }
 }

@@ -14,7 +14,7 @@ use Rattle.pg_core.specs.Lookups.{TypeRow, FieldRows}
 use Rattle.pg_search.specs.declared.stack.Stack.{Stack}
 use Rattle.pg_search.specs.declared.search.Job.{Job}
 use Rattle.pg_search.specs.declared.search.Job.TheVariants as job
-use Rattle.pg_search.specs.declared.search.Search.{Search}
+use Rattle.pg_search.specs.declared.search.SearchBy.{SearchBy}
 use Rattle.pg_search.specs.Stacks.{row_goes, labels_goes, fields_goes}
 use Rattle.pg_search.specs.Steps.{most_fields, finding_steps, row_steps, stack_steps, more_over}
 use Rattle.pg_search.specs.Searching.{Searched, job_dialogue, job_waits, job_steps, search_dialogue, search_refuses, search_waits}
@@ -48,10 +48,10 @@ module _ {A R L F : Type 0} (rd : R → Dialogue TypeRow) (rr : R → Error → 
       Searched rd rr rk ld lr lk fd fr fk (behind [] d (fields_goes st oid row)) want.Read (record { asker = a; stack = st; job = job.Fields oid row script })
   fields-reads a st oid row script d w e g = reads-held fd fr fk (search_dialogue rd ld fd) (search_refuses rr lr fr) (search_waits rd rk ld lk fd fk) script (fields_goes st oid row) (record { asker = a; stack = st; job = job.Fields oid row script }) (record { stands = refl; denied = refl; waiting = λ h. h; hears = λ h. h }) d (subst (λ (y : Want FieldRows). GoesOn fd fr fk d y script) e g)
 
-  pub moved : (w : Want (List PgType)) (new : Search A R L F) (a b : Dialogue (List PgType)) → a ≡ b → Searched rd rr rk ld lr lk fd fr fk a w new → Searched rd rr rk ld lr lk fd fr fk b w new
+  pub moved : (w : Want (List PgType)) (new : SearchBy A R L F) (a b : Dialogue (List PgType)) → a ≡ b → Searched rd rr rk ld lr lk fd fr fk a w new → Searched rd rr rk ld lr lk fd fr fk b w new
   moved w new a b e g = record { is = g.is ∙ e; wanted = g.wanted }
 
-  pub moved-ok : {E : Type 0} (r : Result (Want (List PgType)) E) (new : Search A R L F) (a b : Dialogue (List PgType)) → a ≡ b → IfOk r (λ w. Searched rd rr rk ld lr lk fd fr fk a w new) → IfOk r (λ w. Searched rd rr rk ld lr lk fd fr fk b w new)
+  pub moved-ok : {E : Type 0} (r : Result (Want (List PgType)) E) (new : SearchBy A R L F) (a b : Dialogue (List PgType)) → a ≡ b → IfOk r (λ w. Searched rd rr rk ld lr lk fd fr fk a w new) → IfOk r (λ w. Searched rd rr rk ld lr lk fd fr fk b w new)
   moved-ok (Ok w) new a b e g = moved w new a b e g
   moved-ok (Err x) new a b e g = tt
 

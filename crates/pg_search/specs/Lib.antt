@@ -9,3 +9,4 @@ pub mod Keeping
 pub mod Saying
 pub mod Asking
 pub mod Rows
+pub mod Finding

@@ -13,7 +13,7 @@ use Rattle.pg_core.specs.Lookups.{TypeRow, FieldRows, kept_told, find_all, unles
 use Rattle.pg_search.specs.declared.stack.Stack.{Stack}
 use Rattle.pg_search.specs.declared.search.Job.{Job}
 use Rattle.pg_search.specs.declared.search.Job.TheVariants as job
-use Rattle.pg_search.specs.declared.search.Search.{Search}
+use Rattle.pg_search.specs.declared.search.SearchBy.{SearchBy}
 use Rattle.pg_search.specs.Stacks.{searching_at, may_find, told_goes, row_goes, labels_goes, fields_goes}
 use Rattle.pg_search.specs.Steps.{most_fields, finding_steps, row_steps, stack_steps, more_at, more_over}
 
@@ -56,22 +56,25 @@ job_steps most row labels fields s job.Keeps = stack_steps most s
 job_steps most row labels fields s job.Over = 0
 
 -- the same of a search
-abbrev pub search_dialogue : {A R L F : Type 0} → (R → Dialogue TypeRow) → (L → Dialogue (List (List ℕ))) → (F → Dialogue FieldRows) → Search A R L F → Dialogue (List PgType)
+abbrev pub search_dialogue : {A R L F : Type 0} → (R → Dialogue TypeRow) → (L → Dialogue (List (List ℕ))) → (F → Dialogue FieldRows) → SearchBy A R L F → Dialogue (List PgType)
 search_dialogue row labels fields s = job_dialogue row labels fields s.stack s.job
 
-abbrev pub search_refuses : {A R L F : Type 0} → (R → Error → Dialogue TypeRow) → (L → Error → Dialogue (List (List ℕ))) → (F → Error → Dialogue FieldRows) → Search A R L F → Error → Dialogue (List PgType)
+-- the same where the desk refuses what was asked
+abbrev pub search_refuses : {A R L F : Type 0} → (R → Error → Dialogue TypeRow) → (L → Error → Dialogue (List (List ℕ))) → (F → Error → Dialogue FieldRows) → SearchBy A R L F → Error → Dialogue (List PgType)
 search_refuses row labels fields s = job_refuses row labels fields s.stack s.job
 
+-- what a search waits for
 abbrev pub search_waits : {A R L F : Type 0} (row : R → Dialogue TypeRow) → ((r : R) → Waiting (row r)) → (labels : L → Dialogue (List (List ℕ))) → ((l : L) → Waiting (labels l)) →
-    (fields : F → Dialogue FieldRows) → ((f : F) → Waiting (fields f)) → (s : Search A R L F) → Waiting (search_dialogue row labels fields s)
+    (fields : F → Dialogue FieldRows) → ((f : F) → Waiting (fields f)) → (s : SearchBy A R L F) → Waiting (search_dialogue row labels fields s)
 search_waits row row_waits labels labels_waits fields fields_waits s = job_waits row row_waits labels labels_waits fields fields_waits s.stack s.job
 
-abbrev pub search_steps : {A R L F : Type 0} → (most : ℕ) → (R → ℕ) → (L → ℕ) → (F → ℕ) → Search A R L F → ℕ
+-- how many steps a search has left
+abbrev pub search_steps : {A R L F : Type 0} → (most : ℕ) → (R → ℕ) → (L → ℕ) → (F → ℕ) → SearchBy A R L F → ℕ
 search_steps most row labels fields s = job_steps most row labels fields s.stack s.job
 
 -- A search that stood at this dialogue wants this, and stands behind it.
 abbrev pub Searched : {A R L F : Type 0} (row : R → Dialogue TypeRow) → (R → Error → Dialogue TypeRow) → ((r : R) → Waiting (row r)) →
     (labels : L → Dialogue (List (List ℕ))) → (L → Error → Dialogue (List (List ℕ))) → ((l : L) → Waiting (labels l)) →
-    (fields : F → Dialogue FieldRows) → (F → Error → Dialogue FieldRows) → ((f : F) → Waiting (fields f)) → Dialogue (List PgType) → Want (List PgType) → Search A R L F → Type 0
+    (fields : F → Dialogue FieldRows) → (F → Error → Dialogue FieldRows) → ((f : F) → Waiting (fields f)) → Dialogue (List PgType) → Want (List PgType) → SearchBy A R L F → Type 0
 Searched row row_refuses row_waits labels labels_refuses labels_waits fields fields_refuses fields_waits from w new =
     GoesOn (search_dialogue row labels fields) (search_refuses row_refuses labels_refuses fields_refuses) (search_waits row row_waits labels labels_waits fields fields_waits) from w new

@@ -4,10 +4,9 @@ ghost use Rattle.std.specs.Prelude.{◌≡◌, ◌≤◌, IfOk};
 ghost use Rattle.pg_core.specs.Lookups as spec;
 ghost use Rattle.pg_search.specs.Asking.{ask_steps};
 
-use crate::boxed::Boxed;
-use crate::lookup_statement::LookupStatement;
+use crate::looks_up::LooksUp;
 use crate::{LabelsReading, RowReading, TypeRow, ask, oid_request, settled};
-use pg_core::{Go, Maybe, OrAnswer, Then};
+use pg_core::{Go, Maybe};
 use pg_desk::{Lookup, Statement};
 use pg_query::{Script, SingleRequest};
 use pg_types::{List, Oid, Text};
@@ -43,28 +42,15 @@ impl Go for AsksRow {
     }
 }
 
-type RowThen = Then<LookupStatement, OrAnswer<AsksRow>, Maybe<TypeRow, AskedRow>>;
-
 /// Asks for a type's own row. The request is hung up behind it.
-pub type RowOf = Boxed<RowThen>;
+pub type RowOf = LooksUp<AsksRow, AskedRow, TypeRow>;
 
 /// The row of this oid. Its error is want of memory.
 pub fn row_of(alloc: Global, oid: Oid) -> Result<RowOf, AllocError>
     ensures dialogue { IfOk result (λ s. ⟦<RowOf as Script>⟧.dialogue s ≡ spec.row_of oid) }
     ensures steps { IfOk result (λ s. ⟦<RowOf as Script>⟧.steps s ≤ ask_steps) }
 {
-    match Box::new(alloc, row_then(oid)) {
-        Ok(script) => Ok(Boxed { script }),
-        Err(_) => Err(AllocError),
-    }
-}
-
-fn row_then(oid: Oid) -> RowThen
-    ensures dialogue { ⟦<RowThen as Script>⟧.dialogue result ≡ spec.row_of oid }
-    ensures steps { ⟦<RowThen as Script>⟧.steps result ≤ ask_steps }
-{
-    let go = AsksRow { oid };
-    Then::First(LookupStatement::new(Lookup::Info), OrAnswer { go })
+    LooksUp::new(alloc, Lookup::Info, AsksRow { oid })
 }
 
 // ---- labels
@@ -97,30 +83,13 @@ impl Go for AsksLabels {
     }
 }
 
-type LabelsThen = Then<
-    LookupStatement,
-    OrAnswer<AsksLabels>,
-    Maybe<List<Text>, SingleRequest<LabelsReading, List<Text>>>,
->;
-
 /// Asks for the labels of an enumeration, in order.
-pub type LabelsOf = Boxed<LabelsThen>;
+pub type LabelsOf = LooksUp<AsksLabels, SingleRequest<LabelsReading, List<Text>>, List<Text>>;
 
 /// The labels of this oid. Its error is want of memory.
 pub fn labels_of(alloc: Global, oid: Oid) -> Result<LabelsOf, AllocError>
     ensures dialogue { IfOk result (λ s. ⟦<LabelsOf as Script>⟧.dialogue s ≡ spec.labels_of oid) }
     ensures steps { IfOk result (λ s. ⟦<LabelsOf as Script>⟧.steps s ≤ ask_steps) }
 {
-    match Box::new(alloc, labels_then(oid)) {
-        Ok(script) => Ok(Boxed { script }),
-        Err(_) => Err(AllocError),
-    }
-}
-
-fn labels_then(oid: Oid) -> LabelsThen
-    ensures dialogue { ⟦<LabelsThen as Script>⟧.dialogue result ≡ spec.labels_of oid }
-    ensures steps { ⟦<LabelsThen as Script>⟧.steps result ≤ ask_steps }
-{
-    let go = AsksLabels { oid };
-    Then::First(LookupStatement::new(Lookup::Enum), OrAnswer { go })
+    LooksUp::new(alloc, Lookup::Enum, AsksLabels { oid })
 }

@@ -6,8 +6,7 @@ ghost use Rattle.pg_core.specs.Lookups as spec;
 ghost use Rattle.pg_search.specs.Asking.{ask_steps};
 ghost use Rattle.pg_search.specs.Rows.{given_at};
 
-use crate::boxed::Boxed;
-use crate::lookup_statement::LookupStatement;
+use crate::looks_up::LooksUp;
 use crate::{FieldRows, FieldsReading, ask, oid_request, settled};
 use pg_core::{Go, Maybe, OrAnswer, Then};
 use pg_desk::{Lookup, Statement};
@@ -136,26 +135,13 @@ impl Go for AsksFields {
     }
 }
 
-type FieldsThen = Then<LookupStatement, OrAnswer<AsksFields>, Maybe<FieldRows, RowsThen>>;
-
 /// Asks for the rows of a relation's columns; none of them is read yet.
-pub type FieldsOf = Boxed<FieldsThen>;
+pub type FieldsOf = LooksUp<AsksFields, RowsThen, FieldRows>;
 
 /// The columns of this relation. Its error is want of memory.
 pub fn fields_of(alloc: Global, relation: Oid) -> Result<FieldsOf, AllocError>
     ensures dialogue { IfOk result (λ s. ⟦<FieldsOf as Script>⟧.dialogue s ≡ spec.field_rows relation) }
     ensures steps { IfOk result (λ s. ⟦<FieldsOf as Script>⟧.steps s ≤ ask_steps) }
 {
-    match Box::new(alloc, fields_then(relation)) {
-        Ok(script) => Ok(Boxed { script }),
-        Err(_) => Err(AllocError),
-    }
-}
-
-fn fields_then(relation: Oid) -> FieldsThen
-    ensures dialogue { ⟦<FieldsThen as Script>⟧.dialogue result ≡ spec.field_rows relation }
-    ensures steps { ⟦<FieldsThen as Script>⟧.steps result ≤ ask_steps }
-{
-    let go = AsksFields { relation };
-    Then::First(LookupStatement::new(Lookup::Composite), OrAnswer { go })
+    LooksUp::new(alloc, Lookup::Composite, AsksFields { relation })
 }

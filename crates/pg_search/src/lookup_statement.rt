@@ -7,10 +7,11 @@ ghost use Rattle.pg_core.specs.Lookups as spec;
 ghost use Rattle.pg_search.specs.Asking.{first_steps, lookup_steps, prepare_steps, second_steps};
 
 use crate::{Keeps, Kept, is_unknown, lookup_text};
-use pg_core::{Follow, Go, Known, KnownTypes, Maybe, OrAnswer, Prepares, Then};
+use pg_core::{Follow, Go, Known, KnownTypes, Maybe, OrAnswer, ParamTypes, Prepares, Then};
 use pg_desk::{Lookup, Statement};
 use pg_errors::Error;
 use pg_query::{Cleanup, Reply, Script, Want};
+use pg_types::Sql;
 use pg_wire::{Message, WireFault};
 use std::alloc::{AllocError, Global};
 use std::collections::VecDeque;
@@ -23,7 +24,8 @@ fn prepares_text(which: Lookup, first: bool) -> PreparesText
     ensures dialogue { ⟦<PreparesText as Script>⟧.dialogue result ≡ spec.prepared which first }
     ensures steps { ⟦<PreparesText as Script>⟧.steps result ≤ prepare_steps }
 {
-    Prepares::new(lookup_text(which, first), &[], Known {})
+    let text = Sql::Borrowed(lookup_text(which, first));
+    Prepares::new(text, ParamTypes::Oids(&[]), Known {})
 }
 
 /// Goes on with a prepared statement, which the desk is to keep.

@@ -47,16 +47,16 @@ pub(crate) enum Job<R, L, F> {
     Over,
 }
 
-/// The search for the types of several oids.
-pub struct Search<A, R, L, F> {
+/// The search for the types of several oids, by an asker.
+pub struct SearchBy<A, R, L, F> {
     pub(crate) asker: A,
     pub(crate) stack: Stack,
     pub(crate) job: Job<R, L, F>,
 }
 
-impl<A: Drop, R: Drop, L: Drop, F: Drop> Drop for Search<A, R, L, F> {
+impl<A: Drop, R: Drop, L: Drop, F: Drop> Drop for SearchBy<A, R, L, F> {
     fn drop(self) {
-        let Search { asker, stack, job } = self;
+        let SearchBy { asker, stack, job } = self;
         drop(asker);
         drop(stack);
         drop(job);
@@ -85,7 +85,7 @@ fn kept_of(reply: Reply) -> Result<Type, Error>
     }
 }
 
-impl<A: Asker> Search<A, A::Row, A::Labels, A::Fields> {
+impl<A: Asker> SearchBy<A, A::Row, A::Labels, A::Fields> {
     ghost use Rattle.pg_search.specs.Searching.{Searched, search_dialogue, search_steps, search_waits};
     ghost use Rattle.pg_search.specs.Stacks.{fields_goes, labels_goes, made_at, may_find, next_dialogue, row_goes, searching_at, told_goes, turn_dialogue};
     ghost use Rattle.pg_search.specs.Steps.{finding_steps, more_at, more_over, most_fields, next_steps, row_steps, stack_steps, turn_steps};
@@ -95,11 +95,11 @@ impl<A: Asker> Search<A, A::Row, A::Labels, A::Fields> {
         alloc: Global,
         asker: A,
         oids: VecDeque<Oid>,
-    ) -> Search<A, A::Row, A::Labels, A::Fields>
+    ) -> SearchBy<A, A::Row, A::Labels, A::Fields>
         ensures dialogue { search_dialogue A.Row.dialogue A.Labels.dialogue A.Fields.dialogue result ≡ spec.find_all oids.items }
         ensures steps { search_steps A.most A.Row.steps A.Labels.steps A.Fields.steps result ≡ length oids.items * finding_steps A.most 64 }
     {
-        Search {
+        SearchBy {
             asker,
             stack: Stack::new(alloc, VecDeque::new(alloc)),
             job: Job::New(oids),
@@ -366,7 +366,7 @@ fn ends<T>(want: &Want<T>) -> bool
     matches!(want, Want::Answer(_) | Want::Act(Action::HangUp))
 }
 
-impl<A: Asker> Script for Search<A, A::Row, A::Labels, A::Fields> {
+impl<A: Asker> Script for SearchBy<A, A::Row, A::Labels, A::Fields> {
     ghost use Rattle.pg_search.specs.Searching.{search_dialogue, search_refuses, search_steps, search_waits};
 
     type Output = List<Type>;
