@@ -1,5 +1,6 @@
 -- Commands of one request that write their frame in their first poll: where each stands.
 use Rattle.std.specs.Prelude.{ℕ, List, Err}
+use Rattle.pg_types.specs.Texts.{sql_text}
 use Rattle.pg_types.specs.declared.error.Error.{Error}
 use Rattle.pg_query.specs.Dialogue.{Dialogue, Answer}
 use Rattle.pg_query.specs.Scripts.{Waiting, Nothing, waiting_at}
@@ -22,7 +23,7 @@ refuses_of s e = Answer (Err e)
 
 -- what it asks and answers from here on
 abbrev pub dialogue_of_simple : SimpleScript → Dialogue (List SimpleMessage)
-dialogue_of_simple (simple_script.New text take) = simple_query text.now take
+dialogue_of_simple (simple_script.New text take) = simple_query (sql_text text) take
 dialogue_of_simple (simple_script.Asked one) = one_request.dialogue_of simple.reading_of one
 
 -- what it waits for
@@ -39,7 +40,7 @@ steps_of_simple (simple_script.Asked one) = one_request.steps_of one
 
 -- what it asks and answers from here on
 abbrev pub dialogue_of_done : DoneScript → Dialogue (Unit {0})
-dialogue_of_done (done_script.Batch text) = batch_execute text.now
+dialogue_of_done (done_script.Batch text) = batch_execute (sql_text text)
 dialogue_of_done done_script.Check = check_connection
 dialogue_of_done (done_script.Asked one) = one_request.dialogue_of done.reading_of one
 

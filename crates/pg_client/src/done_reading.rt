@@ -19,7 +19,7 @@ pub struct DoneReading {
 
 impl DoneReading {
     /// The reply to a batch of statements.
-    pub(crate) fn of_batch() -> DoneReading
+    pub fn of_batch() -> DoneReading
         ensures { result.results ≡ true }
     {
         DoneReading { results: true }

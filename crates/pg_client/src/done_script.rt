@@ -12,6 +12,7 @@ use crate::simple_script::query_frame;
 use bytes::{Bytes, BytesMut};
 use pg_errors::Error;
 use pg_query::{Cleanup, Reply, Script, SingleRequest, Want};
+use pg_types::Sql;
 use pg_wire::{Message, WireFault, sync};
 use std::alloc::{AllocError, Global};
 use std::collections::VecDeque;
@@ -55,9 +56,9 @@ fn ask_check(alloc: Global) -> Result<SingleRequest<DoneReading, ()>, AllocError
 
 /// A batch, or a check.
 #[derive(Drop)]
-pub(crate) enum DoneScript<'a> {
+pub enum DoneScript<'a> {
     /// A batch for which nothing was done yet.
-    Batch(&'a str),
+    Batch(Sql<'a>),
     /// A check for which nothing was done yet.
     Check,
     Asked(SingleRequest<DoneReading, ()>),
@@ -95,7 +96,7 @@ impl<'a> Script for DoneScript<'a> {
     fn next(&mut self, alloc: Global) -> Result<Want<()>, AllocError> {
         match self {
             DoneScript::Batch(text) => {
-                let one = ask_batch(alloc, text)?;
+                let one = ask_batch(alloc, text.as_str())?;
                 self.begin(alloc, one)
             }
             DoneScript::Check => {

@@ -43,7 +43,7 @@ fn ask(
 
 /// A check of a session.
 #[derive(Drop)]
-pub(crate) enum ShowScript {
+pub enum ShowScript {
     /// Nothing was done for it yet.
     New(TargetSessionAttrs),
     Asked(SingleRequest<ShowReading, ()>),

@@ -2,19 +2,21 @@
 
 ghost use Rattle.std.specs.Prelude.{◌≡◌, IfOk};
 ghost use Rattle.pg_query.specs.SingleRequests as one_request;
+ghost use Rattle.pg_client.specs.Asking.{dialogue_of_simple};
 ghost use Rattle.pg_client.specs.Simple.{FramesQuery, reading_of, simple_query};
 
 use crate::simple_reading::SimpleReading;
 use bytes::{Bytes, BytesMut};
 use pg_errors::{Cause, Error};
 use pg_query::{Cleanup, Reply, Script, SimpleMessage, SingleRequest, Want};
-use pg_types::List;
+use pg_types::{List, Sql};
 use pg_wire::{FrameFault, Message, WireFault, query};
 use std::alloc::{AllocError, Global};
 use std::collections::VecDeque;
 
-/// The frame of a text, or the error of one that can't be sent.
-pub(crate) fn query_frame(alloc: Global, text: &str) -> Result<Bytes, Error>
+/// The frame of a text, or the error of one that can't be sent. OutOfMemory comes where there is no room for it,
+/// and Encode only where the text holds a zero byte or is too long for its frame.
+pub fn query_frame(alloc: Global, text: &str) -> Result<Bytes, Error>
     ensures { FramesQuery text.now result }
 {
     // Its tag, its length and the zero byte behind its text.
@@ -57,10 +59,26 @@ fn ask(
 
 /// A simple query.
 #[derive(Drop)]
-pub(crate) enum SimpleScript<'a> {
+pub enum SimpleScript<'a> {
     /// Nothing was done for it yet.
-    New(&'a str, Option<u64>),
+    New(Sql<'a>, Option<u64>),
     Asked(SingleRequest<SimpleReading, List<SimpleMessage>>),
+}
+
+impl<'a> SimpleScript<'a> {
+    /// Its request.
+    fn asks(
+        &self,
+        alloc: Global,
+    ) -> Result<SingleRequest<SimpleReading, List<SimpleMessage>>, AllocError>
+        ensures { IfOk result (λ one. one_request.dialogue_of reading_of one ≡ dialogue_of_simple self.now) }
+    {
+        match self {
+            SimpleScript::New(text, take) => ask(alloc, text.as_str(), *take),
+            // It has asked.
+            SimpleScript::Asked(_) => Err(AllocError),
+        }
+    }
 }
 
 impl<'a> Script for SimpleScript<'a> {
@@ -78,8 +96,8 @@ impl<'a> Script for SimpleScript<'a> {
 
     fn next(&mut self, alloc: Global) -> Result<Want<List<SimpleMessage>>, AllocError> {
         match self {
-            SimpleScript::New(text, take) => {
-                let mut one = ask(alloc, text, *take)?;
+            SimpleScript::New(_, _) => {
+                let mut one = self.asks(alloc)?;
                 let want = one.next(alloc)?;
                 *self = SimpleScript::Asked(one);
                 Ok(want)

@@ -68,5 +68,6 @@ pub record PipelineBecomes (a : InFlight) (es : List Event) (b : InFlight) : Typ
   pub stands : (s : State) → PipelineFits s a → IsExact s es × PipelineFits (after_all s es) b
   pub touched : (s : State) → PipelineFits s a → b.touched ≡ (moves s es || a.touched)
 
+-- whether a connection is closed: its requests were closed, or it failed
 abbrev pub PipelineIsClosedBy : InFlight → Bool → Type 0
 PipelineIsClosedBy q answer = answer ≡ (q.closed || q.failed)

@@ -16,6 +16,7 @@ IsAt id (m ∷ ms) (suc i) = IsAt id ms i
 abbrev pub kept_at : List Kept → ℕ → Kept
 kept_at kept i = get_or kept i (record { id = 0; mailbox = Empty })
 
+-- the mailbox of the request at this place
 abbrev pub mailbox_at : List Kept → ℕ → Mailbox
 mailbox_at kept i = let m = kept_at kept i in m.mailbox
 
@@ -23,5 +24,6 @@ mailbox_at kept i = let m = kept_at kept i in m.mailbox
 abbrev pub less_at : List Kept → ℕ → (finished : ℕ) → Kept → List Kept
 less_at kept i finished m = if is_held m.id finished m.mailbox then slice_set kept i m else remove kept i
 
+-- what is kept once the oldest batch of the request at this place was taken
 abbrev pub taken_at : List Kept → ℕ → (finished : ℕ) → List Kept
 taken_at kept i finished = let m = kept_at kept i in less_at kept i finished (record { id = m.id; mailbox = rest_of m.mailbox })

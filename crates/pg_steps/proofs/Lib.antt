@@ -2,4 +2,3 @@ pub mod Decides
 pub mod Plans
 pub mod Same
 pub mod Machine
-pub mod Mapped

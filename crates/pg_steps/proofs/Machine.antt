@@ -1,17 +1,22 @@
 -- What a message and a giving up do to the machine.
-use Rattle.std.proofs.Common.{◌≡◌, ◌∙◌, refl, sym, ap, subst, ◌∷◌, true, Option, Some, None, is_some, Result, Err, if◌then◌else◌}
+use Rattle.std.proofs.Common.{◌≡◌, ◌∙◌, refl, sym, ap, subst, [], ◌∷◌, Bool, true, Option, Some, None, is_some, Result, Ok, Err, IfOk, if◌then◌else◌}
+use Rattle.pg_spec.specs.Faults as spec
+use Rattle.pg_spec.specs.Messages.{Message}
 use Rattle.pg_spec.specs.RawMessages.{RawMessage}
 use Rattle.pg_types.specs.declared.error.Error.{Error}
+use Rattle.std.specs.declared.alloc.AllocError.{AllocError}
 use Rattle.pg_types.specs.declared.faults.WireFault.{WireFault}
 use Rattle.pg_wire.specs.Faults.{wire_fault}
-use Rattle.pg_query.specs.Messages.{IsMalformed}
-use Rattle.pg_query.specs.Replies.{malformed_error}
-use Rattle.pg_client.proofs.Done.{done-malformed}
+use Rattle.pg_wire.specs.declared.message.Message as received
+use Rattle.pg_query.specs.Messages.{IsMalformed, Means}
+use Rattle.pg_query.specs.declared.script.Want.{Want}
 use Rattle.pg_query.specs.declared.desk_call.Cleanup.TheVariants.{Release}
 use Rattle.pg_query.specs.declared.script.Want.TheVariants as want
 use Rattle.pg_query.specs.Dialogue.{Dialogue, Read, feed_one}
-use Rattle.pg_query.specs.Scripts.{GoesOn, IsMessage, IsRead, cleanup_of}
-use Rattle.pg_client.specs.Done.{batch_reading, done_next}
+use Rattle.pg_query.specs.Scripts.{GoesOn, IsLast, IsMessage, IsRead, Stops, cleanup_of}
+use Rattle.pg_client.specs.Done.{batch_reading, done_message, done_next, done_reading, reading_of}
+use Rattle.pg_client.specs.declared.done_reading.DoneReading.{DoneReading}
+use Rattle.pg_steps.specs.Replies.{IsFailure}
 use Rattle.pg_steps.specs.Steps.{behind_reply, dialogue_at, dialogue_of, means, posts, refuses_of, replies, told_to, waits_at, waits_of}
 use Rattle.pg_steps.specs.declared.steps.Phase.{Phase}
 use Rattle.pg_steps.specs.declared.steps.Phase.TheVariants as phase
@@ -28,9 +33,32 @@ alone : (o : Told) → first_of None o ≡ o
 alone None = refl
 alone (Some r) = refl
 
--- a malformed message tells its error
-pub told-malformed : (raw : RawMessage) (fault : WireFault) (e : Error) → IsMalformed raw (wire_fault fault) → Some e ≡ malformed_error (wire_fault fault) → Some (Err e) ≡ done_next true raw
-told-malformed raw fault e m h = sym (done-malformed true raw fault e m h) ∙ alone (done_next true raw)
+-- what a message alone tells is what it tells next
+pub told-next : (r : DoneReading) → r.results ≡ true → (raw : RawMessage) (o : Told) → reading_of r (raw ∷ []) ≡ o → done_next true raw ≡ o
+told-next r batch raw o h = sym (alone (done_next true raw)) ∙ sym (ap (λ (b : Bool). done_reading b (raw ∷ [])) batch) ∙ h
+
+-- where an answer is told, it is an error
+abbrev Failing : Told → Type 0
+Failing None = Unit {0}
+Failing (Some r) = IsFailure r
+
+-- what is told of a message that may be malformed
+abbrev told_of : Result Message spec.WireFault → Told
+told_of read = elim read as (λ _. Told) [ Ok message ↦ done_message true message | Err fault ↦ Some (Err (spec.Parse (spec.Wire fault))) ]
+
+-- a malformed message tells an error
+pub malformed-fails : (raw : RawMessage) (fault : Option spec.WireFault) (r : Result (Unit {0}) Error) → IsMalformed raw fault → done_next true raw ≡ Some r → IsFailure r
+malformed-fails raw None r m h = absurd m
+malformed-fails raw (Some c) r m h =
+    let is : Some (Err (spec.Parse (spec.Wire c))) ≡ Some r = sym (ap told_of m) ∙ h in
+    subst (λ (o : Told). Failing o) is tt
+
+-- behind a malformed message nothing is read
+pub stops-at : (m : Result received.Message WireFault) (raw : RawMessage) (r : Result (Unit {0}) Error) (w : Result (Want (Unit {0})) AllocError) (s : Steps) → Means raw m → done_next true raw ≡ Some r →
+    (IsFailure r → IfOk w (λ x. IsLast x (dialogue_of s))) → IfOk w (λ x. Stops m x (dialogue_of s))
+stops-at (Ok message) raw r (Ok x) s m h last = tt
+stops-at (Ok message) raw r (Err e) s m h last = tt
+stops-at (Err fault) raw r w s m h last = last (malformed-fails raw (wire_fault fault) r m h)
 
 module _ (s : Steps) (raw : RawMessage) where
   -- a reply behind a message that tells this

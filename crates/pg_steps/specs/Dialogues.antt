@@ -29,10 +29,11 @@ begin m = asks_for (or_encode (query_frame (start_text m))) (behind (Post rollba
 abbrev pub savepoint : Name → Dialogue (Unit {0})
 savepoint s = batch_execute (savepoint_text s)
 
--- a level is ended, and what was done in it is kept, or undone
+-- a level is ended, and what was done in it is kept
 abbrev pub commit : Option Name → Dialogue (Unit {0})
 commit level = batch_execute (commit_text level)
 
+-- what was done in a level is undone, and the reply is read
 abbrev pub rollback : Option Name → Dialogue (Unit {0})
 rollback level = batch_execute (rollback_text level)
 

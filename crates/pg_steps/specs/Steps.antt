@@ -75,6 +75,7 @@ dialogue_at steps c r failed phase.Reads = replies r (means steps c r)
 dialogue_at steps c r failed phase.Fails = fails r (error_once failed)
 dialogue_at steps c r failed phase.Ends = Answer (Err (error_once failed))
 
+-- what is asked and answered from where the machine stands
 abbrev pub dialogue_of : Steps → Dialogue (Unit {0})
 dialogue_of s = dialogue_at s.plan.now s.call s.rolls_back s.failed s.phase
 
@@ -83,6 +84,7 @@ abbrev pub refuses_at : (r : Bool) → Phase → Error → Dialogue (Unit {0})
 refuses_at r phase.Goes e = fails r e
 refuses_at r _ e = Answer (Err e)
 
+-- the same of the machine, where the desk refuses what it sent
 abbrev pub refuses_of : Steps → Error → Dialogue (Unit {0})
 refuses_of s e = refuses_at s.rolls_back s.phase e
 
@@ -93,6 +95,7 @@ waits_at steps c r failed phase.Reads = AMessage tt
 waits_at steps c r failed phase.Fails = Nothing
 waits_at steps c r failed phase.Ends = Nothing
 
+-- what the machine waits for
 abbrev pub waits_of : (s : Steps) → Waiting (dialogue_of s)
 waits_of s = waits_at s.plan.now s.call s.rolls_back s.failed s.phase
 
@@ -103,6 +106,7 @@ steps_at steps phase.Reads = 0
 steps_at steps phase.Fails = 1
 steps_at steps phase.Ends = 0
 
+-- how many the machine has left
 abbrev pub steps_of : Steps → ℕ
 steps_of s = steps_at s.plan.now s.phase
 

@@ -1,6 +1,6 @@
 -- The texts of transactions (PostgreSQL documentation, "START TRANSACTION", "SAVEPOINT", "RELEASE SAVEPOINT", "ROLLBACK TO SAVEPOINT",
 -- "COMMIT", "ROLLBACK").
-use Rattle.std.specs.Prelude.{ℕ, Bool, true, false, List, [], ◌∷◌, ◌++◌, Option, Some, None, codes, decimal}
+use Rattle.std.specs.Prelude.{ℕ, Bool, true, false, List, [], ◌∷◌, ◌++◌, Option, Some, None, option_map, codes, decimal}
 use Rattle.pg_steps.specs.declared.modes.IsolationLevel.{IsolationLevel}
 use Rattle.pg_steps.specs.declared.modes.IsolationLevel.TheVariants.{ReadUncommitted, ReadCommitted, RepeatableRead, Serializable}
 use Rattle.pg_steps.specs.declared.modes.Modes.{Modes}
@@ -51,21 +51,35 @@ start_text m = start_by (modes_of m)
 
 -- ---- its levels
 
--- a name is written as it was given; without one it says how many savepoints are open
+-- a savepoint without a name says how many are open with it
+abbrev pub depth_name : ℕ → List ℕ
+depth_name depth = codes "sp_" ++ decimal depth
+
+-- a name is written as it was given
 abbrev pub savepoint_name : Savepoint → List ℕ
 savepoint_name (Named name) = name.now
-savepoint_name (AtDepth depth) = codes "sp_" ++ decimal depth
+savepoint_name (AtDepth depth) = depth_name depth
 
--- a savepoint is opened
-abbrev pub savepoint_text : Savepoint → List ℕ
-savepoint_text s = codes "SAVEPOINT " ++ savepoint_name s
+-- a savepoint of this name is opened
+abbrev pub opens_by : (name : List ℕ) → List ℕ
+opens_by name = codes "SAVEPOINT " ++ name
 
 -- A level is ended, and what was done in it stays. None is the transaction itself.
-abbrev pub commit_text : Option Savepoint → List ℕ
-commit_text None = codes "COMMIT"
-commit_text (Some s) = codes "RELEASE " ++ savepoint_name s
+abbrev pub commits_by : (name : Option (List ℕ)) → List ℕ
+commits_by None = codes "COMMIT"
+commits_by (Some name) = codes "RELEASE " ++ name
 
 -- what was done in a level is undone
+abbrev pub rolls_back_by : (name : Option (List ℕ)) → List ℕ
+rolls_back_by None = codes "ROLLBACK"
+rolls_back_by (Some name) = codes "ROLLBACK TO " ++ name
+
+-- the same of a savepoint
+abbrev pub savepoint_text : Savepoint → List ℕ
+savepoint_text s = opens_by (savepoint_name s)
+
+abbrev pub commit_text : Option Savepoint → List ℕ
+commit_text level = commits_by (option_map savepoint_name level)
+
 abbrev pub rollback_text : Option Savepoint → List ℕ
-rollback_text None = codes "ROLLBACK"
-rollback_text (Some s) = codes "ROLLBACK TO " ++ savepoint_name s
+rollback_text level = rolls_back_by (option_map savepoint_name level)

@@ -3,7 +3,6 @@
 
 mod abandoning;
 mod call;
-mod end;
 mod laws;
 mod modes;
 mod one;
@@ -17,6 +16,7 @@ pub use call::{Call, command};
 pub use laws::{calls_are_commands, lists_of_steps_are_commands};
 pub use modes::{IsolationLevel, Modes};
 pub use one::{Gives, One};
+pub use requests::query_request;
 pub use savepoint::Savepoint;
 pub use step::Step;
 pub use steps::Steps;

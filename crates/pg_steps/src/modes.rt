@@ -6,7 +6,7 @@ ghost use Rattle.pg_steps.specs.Transactions as spec;
 use std::alloc::{AllocError, Global};
 
 /// How far a transaction is apart from others that run beside it (PostgreSQL documentation, "Transaction Isolation").
-#[derive(Clone, Copy, Drop)]
+#[derive(Clone, Copy, Debug, Drop)]
 pub enum IsolationLevel {
     /// The server treats it as `ReadCommitted`.
     ReadUncommitted,
@@ -19,7 +19,7 @@ pub enum IsolationLevel {
 }
 
 /// The modes of a transaction. What is None is as the session's defaults say.
-#[derive(Clone, Copy, Drop)]
+#[derive(Clone, Copy, Debug, Drop)]
 pub struct Modes {
     pub isolation_level: Option<IsolationLevel>,
     pub read_only: Option<bool>,

@@ -2,7 +2,7 @@
 
 ghost use Rattle.std.specs.Prelude.{◌≡◌};
 ghost use Rattle.pg_steps.specs.Dialogues.{says};
-ghost use Rattle.pg_steps.specs.Mapped.{giving, mapped_poll};
+ghost use Rattle.pg_steps.specs.Mapped.{giving};
 
 use crate::call::{Call, command};
 use crate::steps::Steps;
@@ -37,17 +37,6 @@ impl<'a, G: Drop> Drop for One<'a, G> {
     }
 }
 
-/// What was polled, with what is given where all went well.
-fn given<G: Gives>(gives: &G, polled: Poll<Result<(), Error>>) -> Poll<Result<G::Given, Error>>
-    ensures { result ≡ mapped_poll (λ _. G.gives gives.now) polled }
-{
-    match polled {
-        Poll::Pending => Poll::Pending,
-        Poll::Ready(Ok(())) => Poll::Ready(Ok(gives.give())),
-        Poll::Ready(Err(error)) => Poll::Ready(Err(error)),
-    }
-}
-
 impl<'a, G: Gives> One<'a, G> {
     /// The state of this call. It takes no memory, and books nothing before its first poll.
     pub fn new(call: Call<'a>, gives: G) -> One<'a, G>
@@ -62,11 +51,12 @@ impl<'a, G: Gives> One<'a, G> {
 }
 
 impl<'a, G: Gives> Polled for One<'a, G> {
-    ghost use Rattle.pg_steps.specs.Mapped.{mapped_place};
+    ghost use Rattle.std.specs.Prelude.{Ok};
+    ghost use Rattle.pg_query.specs.Made.{made_place};
 
     type Output = G::Given;
 
-    ghost place = { λ one. mapped_place (λ _. G.gives one.gives) (⟦<Command<Steps<'a>> as Polled>⟧.place one.command) };
+    ghost place = { λ one. made_place (λ _. Ok (G.gives one.gives)) (⟦<Command<Steps<'a>> as Polled>⟧.place one.command) };
 
     ghost is_live = { λ one. ⟦<Command<Steps<'a>> as Polled>⟧.is_live one.command };
 
@@ -76,8 +66,11 @@ impl<'a, G: Gives> Polled for One<'a, G> {
         desk: &mut D,
         stamp: Stamp,
     ) -> Poll<Result<G::Given, Error>> {
-        let polled = self.command.poll(alloc, desk, stamp);
-        given(&self.gives, polled)
+        match self.command.poll(alloc, desk, stamp) {
+            Poll::Ready(Ok(())) => Poll::Ready(Ok(self.gives.give())),
+            Poll::Ready(Err(error)) => Poll::Ready(Err(error)),
+            Poll::Pending => Poll::Pending,
+        }
     }
 
     fn hang_up<D: Desk>(self, alloc: Global, desk: &mut D, stamp: Stamp) -> Result<(), Error> {

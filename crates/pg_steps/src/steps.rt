@@ -10,11 +10,11 @@ ghost use Rattle.pg_steps.specs.Steps.{Takes};
 ghost use Rattle.pg_steps.specs.declared.steps.Phase.TheVariants as phase;
 
 use crate::call::Call;
-use crate::end::told_next;
 use crate::requests::rollback_frame;
 use crate::step::Step;
+use pg_client::DoneReading;
 use pg_errors::Error;
-use pg_query::{Action, Cleanup, Reply, Script, Want};
+use pg_query::{Action, Cleanup, Reading, Reply, Script, Want};
 use pg_wire::{Message, WireFault};
 use std::alloc::{AllocError, Global};
 use std::collections::VecDeque;
@@ -219,7 +219,8 @@ impl<'a> Script for Steps<'a> {
         alloc: Global,
         message: &Result<Message, WireFault>,
     ) -> Result<Want<()>, AllocError> {
-        match told_next(alloc, message)? {
+        let mut reading = DoneReading::of_batch();
+        match reading.message(alloc, message)? {
             // It waited for a message, so it reads, and goes on with that.
             None => Ok(Want::Read),
             Some(answer) => self.told(alloc, answer),
