@@ -1,70 +1,16 @@
 -- What a message does where the rest of a reply is taken.
-use Rattle.std.proofs.Common.{◌≡◌, List, [], ◌∷◌, Bool, true, false, ◌||◌, if◌then◌else◌, Option, Some, None, is_some, option_map, Result, Ok, Err, refl, sym, ap, subst, ◌∙◌}
+use Rattle.std.proofs.Common.{◌≡◌, List, [], ◌∷◌, Bool, true, false, ◌||◌, if◌then◌else◌, Option, Result, Ok, refl, sym, ap, subst, ◌∙◌}
 use Rattle.pg_spec.specs.RawMessages.{RawMessage}
-use Rattle.pg_spec.specs.Readings.{Next, Answers, decision, decided_by}
 use Rattle.pg_types.specs.declared.error.Error.{Error}
 use Rattle.pg_query.specs.declared.desk_call.Cleanup.TheVariants.{Release}
 use Rattle.pg_query.specs.Dialogue.{Dialogue, Answer, HangUp, Read, feed_one}
-use Rattle.pg_query.specs.Reading.{ReadsOn}
 use Rattle.pg_query.specs.Scripts.{GoesOn, IsMessage, IsRead, cleanup_of, waiting_at}
 use Rattle.pg_query.specs.declared.script.Action.TheVariants as act
 use Rattle.pg_query.specs.declared.script.Want.TheVariants as want
-use Rattle.pg_core.specs.QueryReplies.{said_by, told_by}
-use Rattle.pg_core.proofs.Telling.{reads-on}
-use Rattle.pg_core.specs.Described.{Does}
-use Rattle.pg_execute.specs.Rows.{rows_by}
 use Rattle.pg_execute.specs.Typed.{has_ended, is_end, told_or}
 use Rattle.pg_execute.specs.declared.got.Got.{Got}
-use Rattle.pg_execute.specs.Rests.{Takes, rest_at, rest_from, rest_refuses, rest_told, rows_told, takes_by, told_before}
+use Rattle.pg_execute.specs.Rests.{Takes, rest_at, rest_from, rest_refuses, rest_told, takes_by}
 use Rattle.pg_execute.specs.declared.takes_rest.TakesRest.{TakesRest}
-
--- ---- what is kept of a message
-
--- something was told before
-pub takes-none : (old : TakesRest) (raw : RawMessage) → is_some old.told ≡ true → Takes old raw old
-takes-none old raw h = by old.told refl h
-  where
-    by : (o : Option (Result Got Error)) → old.told ≡ o → is_some o ≡ true → Takes old raw old
-    by (Some r) e h = record {
-      told = ap (λ (o : Option (Result Got Error)). told_or o) e ∙ sym (ap (λ (o : Option (Result Got Error)). told_or (told_before o (rows_told old.how_many old.columns old.got (raw ∷ [])))) e);
-      later = λ ms. ap (λ (o : Option (Result Got Error)). told_before o (rows_told old.how_many old.columns old.got (raw ∷ ms))) e
-          ∙ sym (ap (λ (o : Option (Result Got Error)). told_before o (rows_told old.how_many old.columns old.got ms)) e);
-    }
-    by None e h = absurd cc
-
--- what a message does to the rows
-abbrev step : TakesRest → Got → RawMessage → Next Got (Result Got Error)
-step s g raw = rows_by s.how_many (λ g. Ok g) g (said_by g.bound s.columns raw)
-
--- nothing was told before, and the message does this
-pub takes-told : (old : TakesRest) (raw : RawMessage) (got : Got) (told : Option (Result Got Error)) → is_some old.told ≡ false → Does (step old old.got raw) told got →
-    Takes old raw (record old { got = got; told = told })
-takes-told old raw got told h does = by old.told refl h told does
-  where
-    new : Option (Result Got Error) → TakesRest
-    new t = record old { got = got; told = t }
-
-    none : old.told ≡ None → (ms : List RawMessage) → rest_told old ms ≡ rows_told old.how_many old.columns old.got ms
-    none e ms = ap (λ (o : Option (Result Got Error)). told_before o (rows_told old.how_many old.columns old.got ms)) e
-
-    at-once : (r : Result Got Error) → step old old.got raw ≡ Answers r → (ms : List RawMessage) → rows_told old.how_many old.columns old.got (raw ∷ ms) ≡ Some r
-    at-once r e ms = ap (λ (n : Next Got (Result Got Error)). option_map (λ d. d.answer) (decided_by n (λ later. decision (λ s. None) (step old) later ms))) e
-
-    does-so : old.told ≡ None → (t : Option (Result Got Error)) → Does (step old old.got raw) t got → Takes old raw (new t)
-    does-so e (Some r) d = record {
-      told = sym (ap (λ (o : Option (Result Got Error)). told_or o) (none e (raw ∷ []) ∙ at-once r d []));
-      later = λ ms. none e (raw ∷ ms) ∙ at-once r d ms;
-    }
-    does-so e None d =
-        let k : ReadsOn (λ (g : Got). told_by (step old) g) old.got raw None got = reads-on (step old) (λ (g : Got). g) old.got got raw None d in
-        record {
-          told = sym (ap (λ (o : Option (Result Got Error)). told_or o) (none e (raw ∷ []) ∙ k.0));
-          later = λ ms. none e (raw ∷ ms) ∙ k.1 ms;
-        }
-
-    by : (o : Option (Result Got Error)) → old.told ≡ o → is_some o ≡ false → (t : Option (Result Got Error)) → Does (step old old.got raw) t got → Takes old raw (new t)
-    by None e h t d = does-so e t d
-    by (Some r) e h t d = absurd cc
 
 -- ---- what the script wants
 

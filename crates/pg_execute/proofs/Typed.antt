@@ -6,7 +6,6 @@ use Rattle.pg_spec.specs.RawMessages.{RawMessage}
 use Rattle.pg_spec.specs.Readings.{Next, GoesOn, Answers, Decision, decision, decided_by, one_later}
 use Rattle.pg_types.specs.declared.pg_type.PgType.{PgType}
 use Rattle.pg_types.specs.BuiltIns.{built_in_type}
-use Rattle.pg_types.specs.declared.value.Value.{Value}
 use Rattle.pg_types.specs.declared.error.Error.{Error}
 use Rattle.pg_desk.specs.declared.statement.Described.{Described as Statement}
 use Rattle.pg_query.specs.declared.desk_call.Cleanup.TheVariants.{Release}
@@ -21,7 +20,7 @@ use Rattle.pg_core.specs.Prepares.{columns_of}
 use Rattle.pg_core.specs.QueryReplies.{Said, Bound, Row, Complete, Empty, Suspended, Ready, Fails, said_by, told_by}
 use Rattle.pg_execute.specs.Executes.{whole_rows}
 use Rattle.pg_execute.specs.Rows.{is_enough, may_have, rows_by, rows_read}
-use Rattle.pg_execute.specs.Typed.{all_known, behind_head, columns_came, has_ended, head, known_or, or_else, query_typed, takes_rest, told_or, type_told, typed_request, typed_rows, unnamed}
+use Rattle.pg_execute.specs.Typed.{all_known, behind_head, columns_came, has_ended, head, known_or, or_else, takes_rest, told_or, type_told, typed_rows, unnamed}
 use Rattle.pg_execute.specs.declared.got.Got.{Got}
 use Rattle.pg_execute.specs.declared.how_many.HowMany.{HowMany}
 use Rattle.pg_execute.specs.declared.result_set.ResultSet.{ResultSet}
@@ -182,9 +181,3 @@ asks-behind f d (Err e) = refl
 pub asked-at : (find : List ℕ → Dialogue (List PgType)) (how : HowMany) (request : Result (List ℕ) Error) (d : Dialogue (List Field)) → d ≡ asks_for request (reads false head) →
     then_do d (behind_head find how) ≡ asks_for request (then_do (reads false head) (behind_head find how))
 asked-at find how request d is = ap (λ (x : Dialogue (List Field)). then_do x (behind_head find how)) is ∙ asks-behind (behind_head find how) (reads false head) request
-
--- the request that was written is that of the text
-pub written-at : (find : List ℕ → Dialogue (List PgType)) (how : HowMany) (text : List ℕ) (types : List PgType) (vs : List Value) (request : Result (List ℕ) Error) (d : Dialogue ResultSet) →
-    request ≡ typed_request text types vs → d ≡ asks_for request (then_do (reads false head) (behind_head find how)) → d ≡ query_typed find how text types vs
-written-at find how text types vs request d is stands =
-    stands ∙ ap (λ (r : Result (List ℕ) Error). asks_for r (then_do (reads false head) (behind_head find how))) is

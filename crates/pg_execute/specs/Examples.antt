@@ -16,6 +16,7 @@ use Rattle.pg_core.specs.Lookups.{find_all, prepare}
 use Rattle.pg_core.specs.LookupReplies.{column, data_row, described, message, ready}
 use Rattle.pg_core.specs.Worlds.{new_desk}
 use Rattle.pg_execute.specs.Executes.{query, query_raw, query_scalar, execute, on_text}
+use Rattle.pg_execute.specs.Parameters.{given_of}
 use Rattle.pg_execute.specs.Typed.{execute_typed, query_typed}
 use Rattle.pg_execute.specs.declared.how_many.HowMany.{HowMany}
 use Rattle.pg_execute.specs.declared.result_set.ResultSet.{ResultSet}
@@ -83,11 +84,11 @@ close_s0 = hex (codes "4300000008537330005300000004")
 
 -- a statement is queried with the value 7
 abbrev pub asked_7 : HowMany → List RawMessage → Came ResultSet
-asked_7 how reply = over new_desk (query how of_one (value.Int (pos 7) ∷ [])) (reply ∷ [])
+asked_7 how reply = over new_desk (query how of_one (given_of (value.Int (pos 7) ∷ []))) (reply ∷ [])
 
 -- it is queried with these values
 abbrev pub asked_with : List Value → Came ResultSet
-asked_with vs = over new_desk (query Any of_one vs) (bound [] ∷ [])
+asked_with vs = over new_desk (query Any of_one (given_of vs)) (bound [] ∷ [])
 
 -- the rows of an answer
 abbrev pub found : Statement → List Cells → Option ℕ → ResultSet
@@ -95,15 +96,15 @@ found s rows affected = record { statement = s; rows = rows; affected = affected
 
 -- the values of a column are asked for
 abbrev pub scalars_of : HowMany → Statement → List Value → List RawMessage → Came (List Value)
-scalars_of how s vs reply = over new_desk (query_scalar how s vs) (reply ∷ [])
+scalars_of how s vs reply = over new_desk (query_scalar how s (given_of vs)) (reply ∷ [])
 
 -- the statement is executed with the value 7
 abbrev pub executed : List RawMessage → Came ℕ
-executed reply = over new_desk (execute of_one (value.Int (pos 7) ∷ [])) (bound reply ∷ [])
+executed reply = over new_desk (execute of_one (given_of (value.Int (pos 7) ∷ []))) (bound reply ∷ [])
 
 -- the text `q`, of one int4, is executed with these values
 abbrev pub text_executed : List Value → List (List RawMessage) → Came ℕ
-text_executed vs replies = over new_desk (on_text (prepare (codes "q") []) (λ s. execute s vs)) replies
+text_executed vs replies = over new_desk (on_text (prepare (codes "q") []) (λ s. execute s (given_of vs))) replies
 
 -- how the server describes it
 abbrev pub q_described : List RawMessage
@@ -111,11 +112,11 @@ q_described = described (23 ∷ []) []
 
 -- the first rows of a statement are queried with the value 7
 abbrev pub first_of : (take : ℕ) → List RawMessage → Came ResultSet
-first_of take reply = over new_desk (query_raw take of_one (value.Int (pos 7) ∷ [])) (reply ∷ [])
+first_of take reply = over new_desk (query_raw take of_one (given_of (value.Int (pos 7) ∷ []))) (reply ∷ [])
 
 -- the same of the text `q`
 abbrev pub text_first : (take : ℕ) → List RawMessage → Came ResultSet
-text_first take reply = over new_desk (on_text (prepare (codes "q") []) (λ s. query_raw take s (value.Int (pos 7) ∷ []))) (q_described ∷ reply ∷ [])
+text_first take reply = over new_desk (on_text (prepare (codes "q") []) (λ s. query_raw take s (given_of (value.Int (pos 7) ∷ [])))) (q_described ∷ reply ∷ [])
 
 -- ---- a text with types of its values
 
@@ -134,15 +135,15 @@ headed_without_rows = message (byte "1") [] ∷ message (byte "2") [] ∷ messag
 
 -- the text `q` is queried without values
 abbrev pub typed_query : HowMany → List (List RawMessage) → Came ResultSet
-typed_query how replies = over new_desk (query_typed find_all how (codes "q") [] []) replies
+typed_query how replies = over new_desk (query_typed find_all how (codes "q") [] (given_of [])) replies
 
 -- it is queried with an int4, as this value
 abbrev pub typed_with : (text : List ℕ) → List Value → Came ResultSet
-typed_with text vs = over new_desk (query_typed find_all Any text (int4 ∷ []) vs) []
+typed_with text vs = over new_desk (query_typed find_all Any text (int4 ∷ []) (given_of vs)) []
 
 -- it is executed without values
 abbrev pub typed_executed : List RawMessage → Came ℕ
-typed_executed reply = over new_desk (execute_typed (codes "q") [] []) (reply ∷ [])
+typed_executed reply = over new_desk (execute_typed (codes "q") [] (given_of [])) (reply ∷ [])
 
 -- the rows of an answer, none of an error
 abbrev pub rows_in : Option (Result ResultSet Error) → List Cells

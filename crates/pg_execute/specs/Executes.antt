@@ -4,6 +4,8 @@ use Rattle.std.specs.Str.{byte}
 use Rattle.pg_spec.specs.Faults.{◌>>=◌, FrameFault}
 use Rattle.pg_spec.specs.Frames.{close_frame, sync_frame}
 use Rattle.pg_spec.specs.RawMessages.{RawMessage}
+use Rattle.pg_types.specs.declared.fault.ValueFault.{ValueFault}
+use Rattle.pg_types.specs.declared.pg_type.PgType.{PgType}
 use Rattle.pg_types.specs.declared.value.Value.{Value}
 use Rattle.pg_types.specs.declared.error.Error.{Error}
 use Rattle.pg_desk.specs.declared.statement.Described.{Described as Statement}
@@ -15,9 +17,9 @@ use Rattle.pg_core.specs.Behind.{behind}
 use Rattle.pg_core.specs.Sequences.{then_do}
 use Rattle.pg_core.specs.Composing.{asks_for, or_encode}
 use Rattle.pg_execute.specs.Counts.{count_read, nothing_counted}
-use Rattle.pg_execute.specs.Parameters.{execute_request}
+use Rattle.pg_execute.specs.Parameters.{Params, execute_request}
 use Rattle.pg_execute.specs.Rows.{first_rows_read, nothing_got, rows_read}
-use Rattle.pg_execute.specs.Values.{column_values}
+use Rattle.pg_execute.specs.Values.{column_values, value_of}
 use Rattle.pg_execute.specs.declared.got.Got.{Got}
 use Rattle.pg_execute.specs.declared.how_many.HowMany.{HowMany}
 use Rattle.pg_execute.specs.declared.how_many.HowMany.TheVariants.{Any}
@@ -29,13 +31,13 @@ use Rattle.pg_execute.specs.declared.result_set.ResultSet.{ResultSet}
 abbrev pub whole_rows : Statement → Got → Result ResultSet Error
 whole_rows s g = Ok (record { statement = s; rows = g.rows; affected = g.affected })
 
--- the values of their one column
-abbrev pub scalars : Statement → Got → Result (List Value) Error
-scalars s g = column_values s.columns g.rows
+-- the values of their one column, read in this way
+abbrev pub scalars : {A : Type 0} → (PgType → Option (List ℕ) → Result A ValueFault) → Statement → Got → Result (List A) Error
+scalars read s g = column_values read s.columns g.rows
 
 -- A statement is executed with these values, and its reply is read so. At an error the request is hung up, and at a value too where it stops
 -- there.
-abbrev pub executes : {A : Type 0} → (stops : Bool) → (List RawMessage → Option (Result A Error)) → Statement → List Value → Dialogue A
+abbrev pub executes : {A : Type 0} → (stops : Bool) → (List RawMessage → Option (Result A Error)) → Statement → Params → Dialogue A
 executes stops reading s vs = asks_for (execute_request s vs) (reads stops reading)
 
 -- the reply of a statement, of which something is made of its rows, of which there may be so many
@@ -47,19 +49,23 @@ abbrev pub first_queried : {A : Type 0} → (take : ℕ) → (Statement → Got 
 first_queried take makes s = first_rows_read take Any (length s.columns) (makes s) nothing_got
 
 -- query, query_opt, query_one: rows
-abbrev pub query : HowMany → Statement → List Value → Dialogue ResultSet
+abbrev pub query : HowMany → Statement → Params → Dialogue ResultSet
 query how s vs = executes false (queried how whole_rows s) s vs
 
 -- query_raw: the first rows, so many of them at most; then the request is hung up
-abbrev pub query_raw : (take : ℕ) → Statement → List Value → Dialogue ResultSet
+abbrev pub query_raw : (take : ℕ) → Statement → Params → Dialogue ResultSet
 query_raw take s vs = executes true (first_queried take whole_rows s) s vs
 
--- query_scalar, query_opt_scalar, query_one_scalar: the values of one column
-abbrev pub query_scalar : HowMany → Statement → List Value → Dialogue (List Value)
-query_scalar how s vs = executes false (queried how scalars s) s vs
+-- query_scalar, query_opt_scalar, query_one_scalar: the values of one column, read in this way
+abbrev pub query_scalar_as : {A : Type 0} → (PgType → Option (List ℕ) → Result A ValueFault) → HowMany → Statement → Params → Dialogue (List A)
+query_scalar_as read how s vs = executes false (queried how (scalars read) s) s vs
+
+-- the same, each as a value of its own type
+abbrev pub query_scalar : HowMany → Statement → Params → Dialogue (List Value)
+query_scalar how s vs = query_scalar_as value_of how s vs
 
 -- execute: how many rows its last command affected
-abbrev pub execute : Statement → List Value → Dialogue ℕ
+abbrev pub execute : Statement → Params → Dialogue ℕ
 execute s vs = executes false (count_read nothing_counted) s vs
 
 -- ---- a text

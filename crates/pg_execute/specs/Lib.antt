@@ -1,7 +1,6 @@
 pub mod Closings
 pub mod CountReadings
 pub mod Counts
-pub mod Eithers
 pub mod Examples
 pub mod Executes
 pub mod Faulting
@@ -20,3 +19,6 @@ pub mod Reads
 pub mod Rests
 pub mod Types
 pub mod Typing
+pub mod Passing
+pub mod TypedQueries
+pub mod TypedExecutes

@@ -1,18 +1,27 @@
 -- The values of a statement's parameters, and the request that executes it with them (PostgreSQL documentation, "Extended Query").
-use Rattle.std.specs.Prelude.{ℕ, List, [], ◌∷◌, ◌++◌, length, ◌==◌, map, Option, Result, Ok, Err, if◌then◌else◌, pos}
+use Rattle.std.specs.Prelude.{ℕ, List, [], ◌∷◌, ◌++◌, length, slice_get, ◌==◌, nat_lt, map, Option, Result, Ok, Err, if◌then◌else◌, pos}
 use Rattle.pg_spec.specs.Faults.{◌>>=◌, FrameFault, Parameters, ToSql, Value as OfValue}
 use Rattle.pg_spec.specs.Frames.{bind_frame, execute_frame, sync_frame}
 use Rattle.pg_types.specs.declared.pg_type.PgType.{PgType}
 use Rattle.pg_types.specs.declared.value.Value.{Value}
-use Rattle.pg_types.specs.AnyValues.{is_accepted, value_gives, wrong_given}
+use Rattle.pg_types.specs.AnyValues.{value_at}
 use Rattle.pg_types.specs.Values.{Given}
 use Rattle.pg_types.specs.declared.error.Error.{Error}
 use Rattle.pg_desk.specs.declared.statement.Described.{Described as Statement}
 use Rattle.pg_core.specs.Composing.{or_encode}
 
--- what a value gives under the type of its parameter, which it may not stand under
-abbrev pub given_under : PgType → Value → Given
-given_under ty v = if is_accepted v ty.oid then value_gives v ty.oid else wrong_given ty.oid
+-- the values of parameters: how many there are, and what the one at a place gives under a type
+pub record Params : Type 0 where
+  pub count : ℕ
+  pub gives_at : ℕ → PgType → Given
+
+-- so many, of which each gives this
+abbrev pub params : ℕ → (ℕ → PgType → Given) → Params
+params count gives_at = record { count = count; gives_at = gives_at }
+
+-- these values
+abbrev pub given_of : List Value → Params
+given_of vs = params (length vs) (λ place ty. value_at (slice_get vs place) ty.oid)
 
 -- the bytes or null, or the error of the parameter at this place
 abbrev pub or_to_sql : (place : ℕ) → Given → Result (Option (List ℕ)) Error
@@ -20,9 +29,12 @@ or_to_sql place (Ok given) = Ok given
 or_to_sql place (Err f) = Err (ToSql place (OfValue f))
 
 -- The values under the types of their parameters, behind those that were found. The first that is refused decides.
-abbrev pub given_behind : (found : List (Option (List ℕ))) → List PgType → List Value → Result (List (Option (List ℕ))) Error
-given_behind found (ty ∷ types) (v ∷ vs) = or_to_sql (length found) (given_under ty v) >>= λ given. given_behind (found ++ given ∷ []) types vs
-given_behind found types vs = Ok found
+abbrev pub given_behind : (found : List (Option (List ℕ))) → List PgType → Params → Result (List (Option (List ℕ))) Error
+given_behind found [] vs = Ok found
+given_behind found (ty ∷ types) vs =
+    if nat_lt (length found) vs.count
+    then (or_to_sql (length found) (vs.gives_at (length found) ty) >>= λ given. given_behind (found ++ given ∷ []) types vs)
+    else Ok found
 
 -- Bind with these values, each in binary form as all columns of the rows are, Execute of all rows, Sync
 abbrev pub execute_frames : (name : List ℕ) → List (Option (List ℕ)) → Result (List ℕ) FrameFault
@@ -32,8 +44,8 @@ execute_frames name given =
     Ok (bind ++ execute ++ sync_frame)
 
 -- The request that executes a statement with these values. Their number is looked at first, then each value, and then the frames.
-abbrev pub execute_request : Statement → List Value → Result (List ℕ) Error
+abbrev pub execute_request : Statement → Params → Result (List ℕ) Error
 execute_request s vs =
-    if length vs == length s.params
+    if vs.count == length s.params
     then (given_behind [] s.params vs >>= λ given. or_encode (execute_frames s.name given))
-    else Err (Parameters (length vs) (length s.params))
+    else Err (Parameters vs.count (length s.params))

@@ -1,4 +1,4 @@
--- The reply to a query, as rows (PostgreSQL documentation, "Extended Query"; what its messages say, `QueryReplies` of pg_lookup).
+-- The reply to a query, as rows (PostgreSQL documentation, "Extended Query"; what its messages say, `QueryReplies` of pg_core).
 use Rattle.std.specs.Prelude.{ℕ, List, [], ◌∷◌, ◌++◌, length, ◌==◌, nat_le, Bool, true, false, ◌&&◌, Option, Some, None, Result, Err, if◌then◌else◌}
 use Rattle.pg_spec.specs.Faults.{RowCount}
 use Rattle.pg_spec.specs.RawMessages.{RawMessage}

@@ -12,7 +12,6 @@ use Rattle.pg_spec.specs.Readings.{Next, GoesOn, Answers}
 use Rattle.pg_spec.specs.SimpleQuery.{affected, server_error, unreadable}
 use Rattle.pg_types.specs.BuiltIns.{built_in_type}
 use Rattle.pg_types.specs.declared.pg_type.PgType.{PgType}
-use Rattle.pg_types.specs.declared.value.Value.{Value}
 use Rattle.pg_types.specs.declared.error.Error.{Error}
 use Rattle.pg_desk.specs.declared.statement.Described.{Described as Statement}
 use Rattle.pg_query.specs.declared.desk_call.Cleanup.TheVariants.{Release}
@@ -26,7 +25,7 @@ use Rattle.pg_core.specs.Composing.{asks_for, or_encode}
 use Rattle.pg_core.specs.Prepares.{columns_of}
 use Rattle.pg_core.specs.QueryReplies.{told_by}
 use Rattle.pg_execute.specs.Executes.{whole_rows}
-use Rattle.pg_execute.specs.Parameters.{given_behind}
+use Rattle.pg_execute.specs.Parameters.{Params, given_behind}
 use Rattle.pg_execute.specs.Rows.{rows_read}
 use Rattle.pg_execute.specs.declared.got.Got.{Got}
 use Rattle.pg_execute.specs.declared.how_many.HowMany.{HowMany}
@@ -48,7 +47,7 @@ typed_frames given =
     Ok (bind ++ describe ++ execute ++ sync_frame)
 
 -- The request. The text is looked at first, then each value, and then the other frames. There are as many values as types.
-abbrev pub typed_request : (text : List ℕ) → List PgType → List Value → Result (List ℕ) Error
+abbrev pub typed_request : (text : List ℕ) → List PgType → Params → Result (List ℕ) Error
 typed_request text types vs =
     or_parse (parse_frame [] text (map (λ ty. ty.oid) types)) >>= λ parse.
     given_behind [] types vs >>= λ given.
@@ -149,7 +148,7 @@ abbrev pub behind_head : (List ℕ → Dialogue (List PgType)) → HowMany → L
 behind_head find how fields = all_known (takes_rest find how fields) (λ types. reads false (typed_rows how fields types)) (map (λ f. f.type_oid) fields) []
 
 -- query_typed, query_typed_opt, query_typed_one
-abbrev pub query_typed : (List ℕ → Dialogue (List PgType)) → HowMany → (text : List ℕ) → List PgType → List Value → Dialogue ResultSet
+abbrev pub query_typed : (List ℕ → Dialogue (List PgType)) → HowMany → (text : List ℕ) → List PgType → Params → Dialogue ResultSet
 query_typed find how text types vs = asks_for (typed_request text types vs) (then_do (reads false head) (behind_head find how))
 
 -- ---- a count
@@ -176,5 +175,5 @@ typed_count_next n raw = elim (message_of raw) [
 ]
 
 -- execute_typed: how many rows its last command affected; nothing but the end of the reply is read
-abbrev pub execute_typed : (text : List ℕ) → List PgType → List Value → Dialogue ℕ
+abbrev pub execute_typed : (text : List ℕ) → List PgType → Params → Dialogue ℕ
 execute_typed text types vs = asks_for (typed_request text types vs) (reads false (told_by typed_count_next 0))

@@ -1,12 +1,12 @@
 //! The columns of rows, and what is made of rows once the types of their columns are known.
 
-ghost use Rattle.std.specs.Prelude.{◌≡◌, false, map, IfOk};
+ghost use Rattle.std.specs.Prelude.{◌≡◌, ◌≤◌, false, map, IfOk};
 ghost use Rattle.pg_query.specs.Reading.{reads};
 ghost use Rattle.pg_execute.specs.Typed as spec;
 ghost use Rattle.pg_execute.specs.Typing.{made};
 
 use crate::{Got, HowMany, Make, ReadsOn, ResultSet, RowsReading, WholeRows};
-use pg_core::{NewColumn, columns_of};
+use pg_core::{Finder, NewColumn, columns_of};
 use pg_desk::Statement;
 use pg_errors::Error;
 use pg_query::Script;
@@ -26,6 +26,19 @@ pub(crate) fn type_oids(alloc: Global, columns: &[NewColumn]) -> Result<VecDeque
         oids.push_back(column.type_oid())?;
     }
     Ok(oids)
+}
+
+/// The search for the types of columns.
+pub(crate) fn search_for<F: Finder>(
+    alloc: Global,
+    columns: &[NewColumn],
+    finder: F,
+) -> Result<F::Search, AllocError>
+    ensures finds { IfOk result (λ search. F.Search.dialogue search ≡ F.finds finder (map (λ f. f.type_oid) columns.now)) }
+    ensures most { IfOk result (λ search. F.Search.steps search ≤ F.most finder) }
+{
+    let oids = type_oids(alloc, columns)?;
+    finder.find(alloc, oids)
 }
 
 /// What the rows are rows of: a statement without a name.

@@ -1,13 +1,12 @@
 //! The values of Bind.
 
-ghost use Rattle.std.specs.Prelude.{◌≡◌, ◌++◌, ◌∷◌, [], ℕ, List, length, Option, Some, None, IfNone, IfSome, IfOk, OnOk};
-ghost use Rattle.pg_types.specs.Values.{WritesOneOf};
-ghost use Rattle.pg_execute.specs.Parameters.{given_behind, given_under, or_to_sql};
+ghost use Rattle.std.specs.Prelude.{◌≡◌, ◌<◌, ◌++◌, ◌∷◌, [], ℕ, List, length, Option, Some, None, IfOk, OnOk};
+ghost use Rattle.pg_execute.specs.Parameters.{given_behind, or_to_sql, params};
 ghost use Rattle.pg_execute.specs.GivenValues.{Adds, AreGiven, IsGiven};
 
 use bytes::BytesMut;
 use pg_errors::{Cause, Error};
-use pg_types::{IsNull, ToSql, Type, Value, ValueFault};
+use pg_types::{IsNull, Params, Type, ValueFault};
 use std::alloc::{AllocError, Global};
 
 /// The binary form of a value.
@@ -54,18 +53,21 @@ impl GivenValues {
         Ok(())
     }
 
-    /// Adds a value under the type of its parameter, or tells why it is refused.
-    fn add(
+    /// Adds the value of the next place under the type of its parameter, or tells why it is refused.
+    fn add<P: Params>(
         &mut self,
         alloc: Global,
         ty: &Type,
-        value: &Value,
+        values: &P,
     ) -> Result<Result<(), Error>, AllocError>
-        ensures { (given : List (Option (List ℕ))) → IsGiven given self.old → IfOk result (λ told. Adds given (or_to_sql (length given) (given_under ty.now value.now)) told self.new) }
+        requires { length self.old.formats.items < P.count values.now }
+        ensures { (given : List (Option (List ℕ))) → IsGiven given self.old
+            → IfOk result (λ told. Adds given (or_to_sql (length self.old.formats.items)
+            (P.gives_at values.now (length self.old.formats.items) ty.now)) told self.new) }
     {
         let place = self.formats.len();
         let mut bytes = BytesMut::new(alloc);
-        match value.to_sql_checked(ty, &mut bytes) {
+        match values.to_sql_checked(place, ty, &mut bytes) {
             Ok(IsNull::Yes) => self.push_null()?,
             Ok(IsNull::No) => self.push(&bytes)?,
             Err(ValueFault::OutOfMemory) => return Err(AllocError),
@@ -75,37 +77,23 @@ impl GivenValues {
     }
 }
 
-/// The first item, and the others.
-fn front<T>(items: &[T]) -> Option<(&T, &[T])>
-    ensures some { IfSome result (λ f. items.now ≡ f.0.now ∷ f.1.now) }
-    ensures none { IfNone result (items.now ≡ []) }
-{
-    items.split_first()
-}
-
 /// The values under the types of their parameters. The first that is refused decides.
-pub fn given_values(
+pub fn given_values<P: Params>(
     alloc: Global,
     types: &[Type],
-    values: &[Value],
+    values: &P,
 ) -> Result<Result<GivenValues, Error>, AllocError>
-    ensures { IfOk result (λ told. AreGiven (given_behind [] types.now values.now) told) }
+    ensures { IfOk result (λ told. AreGiven (given_behind [] types.now (params (P.count values.now) (P.gives_at values.now))) told) }
 {
     let mut given = GivenValues::new(alloc);
-    let mut left_types = types;
-    let mut left_values = values;
-    loop {
-        let Some((ty, other_types)) = front(left_types) else {
+    for ty in types {
+        if given.formats.len() >= values.len() {
             return Ok(Ok(given));
-        };
-        let Some((value, other_values)) = front(left_values) else {
-            return Ok(Ok(given));
-        };
-        match given.add(alloc, ty, value)? {
+        }
+        match given.add(alloc, ty, values)? {
             Ok(()) => {}
             Err(error) => return Ok(Err(error)),
         }
-        left_types = other_types;
-        left_values = other_values;
     }
+    Ok(Ok(given))
 }

@@ -7,11 +7,13 @@ ghost use Rattle.pg_execute.specs.declared.got.Got as got;
 
 use crate::got::Got;
 use crate::result_set::ResultSet;
+use crate::scalar::Scalar;
 use crate::values::column_values;
 use pg_desk::Statement;
 use pg_errors::Error;
-use pg_types::{List, Value};
+use pg_types::List;
 use std::alloc::{AllocError, Global};
+use std::marker::PhantomData;
 
 /// Makes something of the rows that a statement gave.
 pub trait Make: Drop {
@@ -62,23 +64,32 @@ impl Make for WholeRows {
     }
 }
 
-/// The values of their one column.
+/// The values of their one column, as a Rust type.
 #[derive(Clone, Copy, Drop)]
-pub struct Scalars;
+pub struct Scalars<R> {
+    of: PhantomData<R>,
+}
 
-impl Make for Scalars {
+impl<R> Scalars<R> {
+    /// As this type.
+    pub fn new() -> Scalars<R> {
+        Scalars { of: PhantomData }
+    }
+}
+
+impl<R: Scalar> Make for Scalars<R> {
     ghost use Rattle.pg_execute.specs.Executes.{scalars};
 
-    type Output = List<Value>;
+    type Output = List<R>;
 
-    ghost makes = { λ _. scalars };
+    ghost makes = { λ _. scalars R.reads };
 
     fn make(
         &self,
         alloc: Global,
         statement: &Statement,
         got: Got,
-    ) -> Result<Result<List<Value>, Error>, AllocError> {
+    ) -> Result<Result<List<R>, Error>, AllocError> {
         column_values(alloc, statement.columns(), got.rows.as_slice())
     }
 }

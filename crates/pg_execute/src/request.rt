@@ -15,7 +15,7 @@ use bytes::{Bytes, BytesMut};
 use pg_desk::Statement;
 use pg_errors::{Cause, Error};
 use pg_query::{Reading, SingleRequest};
-use pg_types::Value;
+use pg_types::Params;
 use pg_wire::{FrameFault, bind, close, execute, sync};
 use std::alloc::{AllocError, Global};
 
@@ -63,12 +63,12 @@ fn request_with(
 
 /// The request that executes a statement with these values, or why they are refused: by their number, by the first
 /// that can't stand where it does, or by the frames.
-pub fn execute_request(
+pub fn execute_request<P: Params>(
     alloc: Global,
     statement: &Statement,
-    values: &[Value],
+    values: &P,
 ) -> Result<Result<Bytes, Error>, AllocError>
-    ensures { IfOk result (λ request. request ≡ spec.execute_request statement.now values.now) }
+    ensures { IfOk result (λ request. request ≡ spec.execute_request statement.now (spec.params (P.count values.now) (P.gives_at values.now))) }
 {
     let params = statement.params();
     if values.len() != params.len() {

@@ -1,11 +1,13 @@
 //! The request that executes a text with values of given types (PostgreSQL documentation, "Extended Query").
 
 ghost use Rattle.std.specs.Prelude.{◌≡◌, ◌++◌, [], ℕ, List, Option, map, MatchResult, IfOk, Ok, Err};
+ghost use Rattle.pg_types.specs.Texts.{sql_text};
 ghost use Rattle.pg_wire.specs.Faults.{frame_fault};
 ghost use Rattle.pg_wire.specs.Writes.{IsRefusal};
 ghost use Rattle.pg_core.specs.Composing.{or_encode};
 ghost use Rattle.pg_spec.specs.Frames.{parse_frame};
 ghost use Rattle.pg_execute.specs.GivenValues.{IsGiven};
+ghost use Rattle.pg_execute.specs.Parameters.{params};
 ghost use Rattle.pg_execute.specs.Typed as spec;
 ghost use Rattle.pg_execute.specs.Types.{types_in};
 
@@ -13,7 +15,7 @@ use crate::given_values::{BINARY, GivenValues, given_values};
 use crate::types::{Types, built_in_types};
 use bytes::{Bytes, BytesMut};
 use pg_errors::{Cause, Error};
-use pg_types::{Oid, Type, Value};
+use pg_types::{Oid, Params, Sql, Type};
 use pg_wire::{FrameFault, bind, describe, execute, parse, sync};
 use std::alloc::{AllocError, Global};
 
@@ -108,13 +110,13 @@ fn joined(alloc: Global, first: &[u8], second: &[u8]) -> Result<Bytes, AllocErro
 
 /// The request that executes a text with these values of these types, or why it is refused: by the text, by the first
 /// value that can't stand under its type, or by the other frames.
-pub fn typed_request(
+pub fn typed_request<P: Params>(
     alloc: Global,
     text: &str,
     types: &[Type],
-    values: &[Value],
+    values: &P,
 ) -> Result<Result<Bytes, Error>, AllocError>
-    ensures { IfOk result (λ request. request ≡ spec.typed_request text.now types.now values.now) }
+    ensures { IfOk result (λ request. request ≡ spec.typed_request text.now types.now (params (P.count values.now) (P.gives_at values.now))) }
 {
     let front = match parse_part(alloc, text, types)? {
         Ok(front) => front,
@@ -131,13 +133,13 @@ pub fn typed_request(
 }
 
 /// The same, where the types may be told by their oids.
-pub fn request_under(
+pub fn request_under<P: Params>(
     alloc: Global,
     text: &str,
     types: &Types,
-    values: &[Value],
+    values: &P,
 ) -> Result<Result<Bytes, Error>, AllocError>
-    ensures { IfOk result (λ request. request ≡ spec.typed_request text.now (types_in types.now) values.now) }
+    ensures { IfOk result (λ request. request ≡ spec.typed_request text.now (types_in types.now) (params (P.count values.now) (P.gives_at values.now))) }
 {
     match types {
         Types::Given(types) => typed_request(alloc, text, *types, values),
@@ -145,5 +147,32 @@ pub fn request_under(
             let types = built_in_types(alloc, *oids)?;
             typed_request(alloc, text, types.as_slice(), values)
         }
+        Types::Owned(types) => typed_request(alloc, text, types.as_slice(), values),
+    }
+}
+
+/// A request that isn't written yet: its text, the types of its values, and these.
+#[derive(Drop)]
+pub struct Unwritten<'a, P> {
+    pub(crate) text: Sql<'a>,
+    pub(crate) types: Types<'a>,
+    pub(crate) values: P,
+}
+
+impl<'a, P: Params + Drop> Unwritten<'a, P> {
+    /// Writes it, or tells why it is refused. Its error is want of memory.
+    pub(crate) fn write(self, alloc: Global) -> Result<Result<Bytes, Error>, AllocError>
+        ensures { IfOk result (λ request. request ≡ spec.typed_request (sql_text self.entry.text) (types_in self.entry.types) (params (P.count self.entry.values) (P.gives_at self.entry.values))) }
+    {
+        let Unwritten {
+            text,
+            types,
+            values,
+        } = self;
+        let request = request_under(alloc, text.as_str(), &types, &values);
+        drop(text);
+        drop(types);
+        drop(values);
+        request
     }
 }

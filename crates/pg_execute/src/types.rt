@@ -2,10 +2,10 @@
 //! A line of a session text tells them by oids, which a state borrows and makes into types in its first step: it
 //! takes no memory before, and couldn't borrow types that it makes itself.
 
-ghost use Rattle.std.specs.Prelude.{◌≡◌, ◌++◌, ◌∷◌, ℕ, List, OnOk, IfOk};
+ghost use Rattle.std.specs.Prelude.{◌≡◌, ◌++◌, ◌∷◌, ℕ, List as Numbers, OnOk, IfOk};
 ghost use Rattle.pg_execute.specs.Types as spec;
 
-use pg_types::{Oid, Type};
+use pg_types::{List, Oid, Type};
 use std::alloc::{AllocError, Global};
 
 /// The types of values.
@@ -14,11 +14,13 @@ pub enum Types<'a> {
     Given(&'a [Type]),
     /// The built-in types of these oids.
     BuiltIn(&'a [Oid]),
+    /// Where nothing can be borrowed for so long.
+    Owned(List<Type>),
 }
 
 /// Adds the built-in type of an oid.
 fn push_built_in(alloc: Global, oid: Oid, types: &mut Vec<Type>) -> Result<(), AllocError>
-    ensures { (oids : List ℕ) → OnOk result (types.new.items ++ spec.built_in_types oids ≡ types.old.items ++ spec.built_in_types (oid ∷ oids)) }
+    ensures { (oids : Numbers ℕ) → OnOk result (types.new.items ++ spec.built_in_types oids ≡ types.old.items ++ spec.built_in_types (oid ∷ oids)) }
 {
     match Type::from_oid(alloc, oid) {
         Ok(Some(ty)) => {

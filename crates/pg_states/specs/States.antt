@@ -1,4 +1,4 @@
--- Where the states of a prepare and of a clear stand.
+-- Where the state of a clear stands.
 use Rattle.pg_query.specs.Commands.{place_of, IsLive}
 use Rattle.pg_query.specs.Meaning.{Place}
 use Rattle.pg_states.specs.Clearing.{dialogue_of_clearing, waits_of_clearing}

@@ -11,7 +11,7 @@ use std::mem;
 
 /// A statement that is closed.
 #[derive(Drop)]
-pub(crate) enum Closing<'a> {
+pub enum Closing<'a> {
     /// Nothing was done yet.
     Borrowed(&'a Statement),
     Owned(Statement),
