@@ -5,7 +5,6 @@ use Rattle.pg_spec.specs.RawMessages.{RawMessage}
 use Rattle.pg_types.specs.BuiltIns.{built_in_type}
 use Rattle.pg_types.specs.declared.error.Error.{Error}
 use Rattle.pg_types.specs.declared.pg_type.PgType.{PgType}
-use Rattle.pg_types.specs.declared.value.Value.{Value}
 use Rattle.pg_desk.specs.declared.statement.Described.{Described as Statement}
 use Rattle.pg_query.specs.Dialogue.{Dialogue, Answer}
 use Rattle.pg_query.specs.Reading.{reads}
@@ -17,7 +16,7 @@ use Rattle.pg_core.specs.Lookups.{find_all, prepare}
 use Rattle.pg_core.specs.QueryReplies.{told_by}
 use Rattle.pg_core.specs.Sequences.{then_do}
 use Rattle.pg_execute.specs.Executes.{close, close_part, close_request, closed_by, executes, on_text, posts, posts_before, sends}
-use Rattle.pg_execute.specs.Parameters.{execute_request}
+use Rattle.pg_execute.specs.Parameters.{Params, execute_request}
 use Rattle.pg_execute.specs.Typed.{all_known, behind_head, execute_typed, head, known_or, or_else, query_typed, takes_rest, told_or, type_told, typed_count_next, typed_request, typed_rows}
 use Rattle.pg_execute.specs.declared.how_many.HowMany.{HowMany}
 use Rattle.pg_execute.specs.declared.result_set.ResultSet.{ResultSet}
@@ -27,7 +26,7 @@ use Rattle.pg_query_laws.proofs.Asking.{Grants, booked, each-behind, finding-all
 module _ (P : DeskCall → Type 0) where
   -- ---- a statement
 
-  pub executing : {A : Type 0} (stops : Bool) (reading : List RawMessage → Option (Result A Error)) (s : Statement) (vs : List Value) → EachAsked P (executes stops reading s vs)
+  pub executing : {A : Type 0} (stops : Bool) (reading : List RawMessage → Option (Result A Error)) (s : Statement) (vs : Params) → EachAsked P (executes stops reading s vs)
   executing stops reading s vs = booked P (execute_request s vs) (reads stops reading) (read P stops reading)
 
   sending : (request : Result (List ℕ) Error) → EachAsked P (sends request)
@@ -77,8 +76,8 @@ module _ (P : DeskCall → Type 0) where
   heading : (grants : Grants P) (how : HowMany) (fields : List Field) → EachAsked P (behind_head find_all how fields)
   heading grants how fields = all-known grants (takes_rest find_all how fields) (λ types. reads false (typed_rows how fields types)) (taking-rest grants how fields) (λ types. read P false (typed_rows how fields types)) (map (λ f. f.type_oid) fields) []
 
-  pub querying-typed : (grants : Grants P) (how : HowMany) (text : List ℕ) (types : List PgType) (vs : List Value) → EachAsked P (query_typed find_all how text types vs)
+  pub querying-typed : (grants : Grants P) (how : HowMany) (text : List ℕ) (types : List PgType) (vs : Params) → EachAsked P (query_typed find_all how text types vs)
   querying-typed grants how text types vs = booked P (typed_request text types vs) (then_do (reads false head) (behind_head find_all how)) (thens P (reads false head) (behind_head find_all how) (read P false head) (heading grants how))
 
-  pub executing-typed : (text : List ℕ) (types : List PgType) (vs : List Value) → EachAsked P (execute_typed text types vs)
+  pub executing-typed : (text : List ℕ) (types : List PgType) (vs : Params) → EachAsked P (execute_typed text types vs)
   executing-typed text types vs = booked P (typed_request text types vs) (reads false (told_by typed_count_next 0)) (read P false (told_by typed_count_next 0))

@@ -11,7 +11,6 @@ use Rattle.pg_spec.specs.Bytes.{text0}
 use Rattle.pg_spec.specs.Faults.{◌>>=◌, FrameFault, ZeroByte, TooMany, TooLong, Parameters}
 use Rattle.pg_spec.specs.Frames.{close_frame, has_zero, sync_frame, tagged, tagged_frame, unless_fault}
 use Rattle.pg_spec.specs.RawMessages.{RawMessage, message_bytes}
-use Rattle.pg_types.specs.declared.value.Value.{Value}
 use Rattle.pg_types.specs.declared.error.Error.{Error}
 use Rattle.pg_desk.specs.declared.statement.Described.{Described as Statement}
 use Rattle.pg_session.specs.Speeches.{IsWholeRequest}
@@ -19,7 +18,7 @@ use Rattle.pg_core.specs.Composing.{or_encode}
 use Rattle.pg_core.specs.Prepares.{statement_name}
 use Rattle.pg_query_laws.proofs.Requests.{IsOne, frame-in, made-ok, one-tagged, sync-fits, whole-execute, whole-of}
 use Rattle.pg_execute.specs.Executes.{close_part, close_request, written}
-use Rattle.pg_execute.specs.Parameters.{execute_frames, execute_request, given_behind}
+use Rattle.pg_execute.specs.Parameters.{Params, execute_frames, execute_request, given_behind}
 
 -- ---- an execution
 
@@ -27,10 +26,10 @@ with-values : (s : Statement) (given : Result (List (Option (List ℕ))) Error) 
 with-values s (Ok values) part e = whole-execute [] s.name (map (λ v. pos 1) values) values (pos 1) (pos 0) part (made-ok (execute_frames s.name values) part e)
 with-values s (Err failure) part e = absurd cc
 
-pub whole-execution : (s : Statement) (vs : List Value) (part : List ℕ) → execute_request s vs ≡ Ok part → IsWholeRequest part
-whole-execution s vs part e = by (length vs == length s.params) e
+pub whole-execution : (s : Statement) (vs : Params) (part : List ℕ) → execute_request s vs ≡ Ok part → IsWholeRequest part
+whole-execution s vs part e = by (vs.count == length s.params) e
   where
-    by : (b : Bool) → (if b then (given_behind [] s.params vs >>= λ values. or_encode (execute_frames s.name values)) else Err (Parameters (length vs) (length s.params))) ≡ Ok part → IsWholeRequest part
+    by : (b : Bool) → (if b then (given_behind [] s.params vs >>= λ values. or_encode (execute_frames s.name values)) else Err (Parameters (vs.count) (length s.params))) ≡ Ok part → IsWholeRequest part
     by true e = with-values s (given_behind [] s.params vs) part e
     by false e = absurd cc
 

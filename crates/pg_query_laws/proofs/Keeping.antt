@@ -3,7 +3,7 @@ use Rattle.std.proofs.Common.{◌≡◌, ℕ, List, [], Bool, Option, Result, re
 use Rattle.pg_spec.specs.RawMessages.{RawMessage}
 use Rattle.pg_types.specs.declared.error.Error.{Error}
 use Rattle.pg_types.specs.declared.pg_type.PgType.{PgType}
-use Rattle.pg_types.specs.declared.value.Value.{Value}
+use Rattle.pg_execute.specs.Parameters.{Params}
 use Rattle.pg_desk.specs.declared.statement.Described.{Described as Statement}
 use Rattle.pg_query.specs.Dialogue.{Dialogue}
 use Rattle.pg_query.specs.declared.desk_call.DeskCall.TheVariants.{ClearTypes}
@@ -32,7 +32,7 @@ find-all-keeps oids = record { own = finding-all IsOwn own oids; clears_nothing 
 pub prepare-keeps : (text oids : List ℕ) → KeepsTypes (prepare text oids)
 prepare-keeps text oids = record { own = preparing-text IsOwn own text oids; clears_nothing = preparing-text IsNoClear no-clear text oids }
 
-pub execute-keeps : {A : Type 0} (stops : Bool) (reading : List RawMessage → Option (Result A Error)) (s : Statement) (vs : List Value) → KeepsTypes (executes stops reading s vs)
+pub execute-keeps : {A : Type 0} (stops : Bool) (reading : List RawMessage → Option (Result A Error)) (s : Statement) (vs : Params) → KeepsTypes (executes stops reading s vs)
 execute-keeps stops reading s vs = record { own = executing IsOwn stops reading s vs; clears_nothing = executing IsNoClear stops reading s vs }
 
 pub close-keeps : (s : Statement) → KeepsTypes (close s)
@@ -41,10 +41,10 @@ close-keeps s = record { own = closing IsOwn s; clears_nothing = closing IsNoCle
 pub text-keeps : {T : Type 0} (text : List ℕ) (body : Statement → Dialogue T) → ((s : Statement) → KeepsTypes (body s)) → KeepsTypes (on_text (prepare text []) body)
 text-keeps text body h = record { own = on-text IsOwn own text body (λ s. (h s).own); clears_nothing = on-text IsNoClear no-clear text body (λ s. (h s).clears_nothing) }
 
-pub typed-query-keeps : (how : HowMany) (text : List ℕ) (types : List PgType) (vs : List Value) → KeepsTypes (query_typed find_all how text types vs)
+pub typed-query-keeps : (how : HowMany) (text : List ℕ) (types : List PgType) (vs : Params) → KeepsTypes (query_typed find_all how text types vs)
 typed-query-keeps how text types vs = record { own = querying-typed IsOwn own how text types vs; clears_nothing = querying-typed IsNoClear no-clear how text types vs }
 
-pub typed-execute-keeps : (text : List ℕ) (types : List PgType) (vs : List Value) → KeepsTypes (execute_typed text types vs)
+pub typed-execute-keeps : (text : List ℕ) (types : List PgType) (vs : Params) → KeepsTypes (execute_typed text types vs)
 typed-execute-keeps text types vs = record { own = executing-typed IsOwn text types vs; clears_nothing = executing-typed IsNoClear text types vs }
 
 -- a clear asks for that alone

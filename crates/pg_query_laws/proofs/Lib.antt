@@ -7,6 +7,8 @@ mod Leaving
 mod ExecutionReadings
 mod ExecutionRequests
 pub mod ExecutionCommands
+mod PortalRequests
+mod PortalCommands
 mod TypedReadings
 mod TypedRequests
 pub mod TypedCommands

@@ -14,7 +14,7 @@ use Rattle.pg_types.specs.declared.error.Error.{Error}
 use Rattle.pg_types.specs.declared.pg_type.Field.{Field}
 use Rattle.pg_types.specs.declared.pg_type.Kind.{Kind, Enum as EnumKind, Composite as CompositeKind}
 use Rattle.pg_types.specs.declared.pg_type.PgType.{PgType}
-use Rattle.pg_types.specs.declared.value.Value.{Value}
+use Rattle.pg_execute.specs.Parameters.{Params}
 use Rattle.pg_desk.specs.declared.column.Column as desk
 use Rattle.pg_desk.specs.declared.statement.Described.{Described as Statement}
 use Rattle.pg_desk.specs.declared.statement.Lookup.{Lookup}
@@ -417,7 +417,7 @@ booked-any : {T : Type 0} (begun : List ℕ) (part : Result (List ℕ) Error) (d
 booked-any begun (Ok part) d h = h
 booked-any begun (Err e) d h = tt
 
-pub typed-nests : (how : HowMany) (text : List ℕ) (types : List PgType) (vs : List Value) (met : Met Reply) → IsSome (under_way [] (told_in (query_typed find_all how text types vs) met))
+pub typed-nests : (how : HowMany) (text : List ℕ) (types : List PgType) (vs : Params) (met : Met Reply) → IsSome (under_way [] (told_in (query_typed find_all how text types vs) met))
 typed-nests how text types vs met =
     by (under_way [] (told_in (query_typed find_all how text types vs) met)) (nested-so Any [] (query_typed find_all how text types vs)
     (booked-any [] (typed_request text types vs) (then_do (reads false head) (behind_head find_all how)) (leaves-any [] (reads false head) (behind_head find_all how) (read [] false head) (λ o fields. heading how fields o))) met [])

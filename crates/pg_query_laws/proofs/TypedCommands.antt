@@ -4,7 +4,7 @@ use Rattle.std.proofs.lemmas.Bool.{eqb-true}
 use Rattle.pg_spec.specs.Bodies.{Field}
 use Rattle.pg_spec.specs.RawMessages.{RawMessage, is_ready, ends_in}
 use Rattle.pg_types.specs.declared.pg_type.PgType.{PgType}
-use Rattle.pg_types.specs.declared.value.Value.{Value}
+use Rattle.pg_execute.specs.Parameters.{Params}
 use Rattle.pg_types.specs.BuiltIns.{built_in_type}
 use Rattle.pg_types.specs.declared.error.Error.TheVariants.{Closed}
 use Rattle.pg_query.specs.Dialogue.{Dialogue, Answer, HangUp}
@@ -90,9 +90,9 @@ head-on-read : (how : HowMany) (fields : List Field) → IsReadOn (behind_head f
 head-on-read how fields =
     all-known-on (takes_rest find_all how fields) (λ types. reads false (typed_rows how fields types)) (rest-on how fields) (λ types. reads-rows how (length fields) (whole_rows (unnamed fields types)) columns_came) (map (λ f. f.type_oid) fields) []
 
-pub typed-queries-taken : (how : HowMany) (text : List ℕ) (types : List PgType) (vs : List Value) → IsTaken (query_typed find_all how text types vs)
+pub typed-queries-taken : (how : HowMany) (text : List ℕ) (types : List PgType) (vs : Params) → IsTaken (query_typed find_all how text types vs)
 typed-queries-taken how text types vs =
     booked (typed_request text types vs) (then_do (reads false head) (behind_head find_all how)) (whole-typed text types vs) (head-then (behind_head find_all how) (head-on-read how))
 
-pub typed-executes-taken : (text : List ℕ) (types : List PgType) (vs : List Value) → IsTaken (execute_typed text types vs)
+pub typed-executes-taken : (text : List ℕ) (types : List PgType) (vs : Params) → IsTaken (execute_typed text types vs)
 typed-executes-taken text types vs = booked (typed_request text types vs) (reads false (told_by typed_count_next 0)) (whole-typed text types vs) (reads-count 0)

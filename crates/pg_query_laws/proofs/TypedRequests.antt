@@ -9,12 +9,11 @@ use Rattle.pg_spec.specs.Faults.{◌>>=◌, FrameFault}
 use Rattle.pg_spec.specs.Frames.{bind_frame, describe_frame, execute_frame, parse_frame, sync_frame, value_bytes}
 use Rattle.pg_spec.specs.RawMessages.{RawMessage, message_bytes}
 use Rattle.pg_types.specs.declared.pg_type.PgType.{PgType}
-use Rattle.pg_types.specs.declared.value.Value.{Value}
 use Rattle.pg_types.specs.declared.error.Error.{Error}
 use Rattle.pg_session.specs.Speeches.{IsWholeRequest}
 use Rattle.pg_core.specs.Composing.{or_encode}
 use Rattle.pg_query_laws.proofs.Requests.{IsOne, one-tagged, sync-fits, whole-of}
-use Rattle.pg_execute.specs.Parameters.{given_behind}
+use Rattle.pg_execute.specs.Parameters.{Params, given_behind}
 use Rattle.pg_execute.specs.Typed.{or_parse, typed_frames, typed_request}
 
 -- the request that was made
@@ -73,7 +72,7 @@ with-given p one (Ok vs) part e =
     behind-parse p one (bind_frame [] [] (map (λ v. pos 1) vs) vs (pos 1)) (describe_frame (byte "S") []) (execute_frame [] (pos 0)) (bound-one vs) described-one executed-one part e
 with-given p one (Err failure) part e = absurd cc
 
-pub whole-typed : (text : List ℕ) (types : List PgType) (vs : List Value) (part : List ℕ) → typed_request text types vs ≡ Ok part → IsWholeRequest part
+pub whole-typed : (text : List ℕ) (types : List PgType) (vs : Params) (part : List ℕ) → typed_request text types vs ≡ Ok part → IsWholeRequest part
 whole-typed text types vs part e = by (parse_frame [] text oids) refl e
   where
     oids : List ℕ

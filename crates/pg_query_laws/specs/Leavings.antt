@@ -10,6 +10,7 @@ use Rattle.pg_query.specs.declared.desk_call.Reply.TheVariants as reply
 use Rattle.pg_query.specs.Dialogue.{Dialogue, Answer, Ask, Send, Leave, Read, Put, Finish, Close, HangUp, Call, Hear}
 use Rattle.pg_core.specs.Lookups.{prepare}
 use Rattle.pg_execute.specs.Executes.{execute, on_text}
+use Rattle.pg_execute.specs.Parameters.{given_of}
 
 -- what a new desk tells
 abbrev pub told : DeskCall → Reply
@@ -38,4 +39,4 @@ left_behind replies (Hear next) = []
 
 -- the same of the text `q`, executed with the value 7
 abbrev pub q_left_behind : List (List RawMessage) → List Cleanup
-q_left_behind replies = left_behind replies (on_text (prepare (codes "q") []) (λ s. execute s (value.Int (pos 7) ∷ [])))
+q_left_behind replies = left_behind replies (on_text (prepare (codes "q") []) (λ s. execute s (given_of (value.Int (pos 7) ∷ []))))

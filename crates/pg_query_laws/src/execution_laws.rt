@@ -3,7 +3,7 @@
 ghost use Rattle.std.specs.Prelude.{◌≡◌, ◌≢◌, ◌<◌, ◌^◌, List, ℕ, [], ◌∷◌, None, Some, Ok, Err};
 ghost use Rattle.pg_spec.specs.Faults.{Encode, Frame, ZeroByte};
 ghost use Rattle.pg_desk.specs.declared.statement.Described.{Described};
-ghost use Rattle.pg_types.specs.declared.value.Value as value;
+ghost use Rattle.pg_execute.specs.Parameters as parameters;
 ghost use Rattle.pg_query.specs.Scripts.{cleanup_of};
 ghost use Rattle.pg_query.specs.declared.desk_call.Cleanup.TheVariants.{Post, Release};
 ghost use Rattle.pg_core.specs.Examples.{booked, over};
@@ -21,14 +21,14 @@ ghost use Rattle.pg_query_laws.specs.Taken.{IsTaken};
 /// A statement that is executed with values, a text that is prepared, executed and closed, and a statement that is closed, are commands that
 /// a session takes.
 pub fn executions_are_commands()
-    ensures queries { (how : how_many.HowMany) (s : Described) (vs : List value.Value) → IsTaken (query how s vs) }
-    ensures raw_queries { (take : ℕ) (s : Described) (vs : List value.Value) → IsTaken (query_raw take s vs) }
-    ensures scalars { (how : how_many.HowMany) (s : Described) (vs : List value.Value) → IsTaken (query_scalar how s vs) }
-    ensures executes { (s : Described) (vs : List value.Value) → IsTaken (execute s vs) }
-    ensures text_queries { (how : how_many.HowMany) (text : List ℕ) (vs : List value.Value) → IsTaken (on_text (prepare text []) (λ s. query how s vs)) }
-    ensures text_raw_queries { (take : ℕ) (text : List ℕ) (vs : List value.Value) → IsTaken (on_text (prepare text []) (λ s. query_raw take s vs)) }
-    ensures text_scalars { (how : how_many.HowMany) (text : List ℕ) (vs : List value.Value) → IsTaken (on_text (prepare text []) (λ s. query_scalar how s vs)) }
-    ensures text_executes { (text : List ℕ) (vs : List value.Value) → IsTaken (on_text (prepare text []) (λ s. execute s vs)) }
+    ensures queries { (how : how_many.HowMany) (s : Described) (vs : parameters.Params) → IsTaken (query how s vs) }
+    ensures raw_queries { (take : ℕ) (s : Described) (vs : parameters.Params) → IsTaken (query_raw take s vs) }
+    ensures scalars { (how : how_many.HowMany) (s : Described) (vs : parameters.Params) → IsTaken (query_scalar how s vs) }
+    ensures executes { (s : Described) (vs : parameters.Params) → IsTaken (execute s vs) }
+    ensures text_queries { (how : how_many.HowMany) (text : List ℕ) (vs : parameters.Params) → IsTaken (on_text (prepare text []) (λ s. query how s vs)) }
+    ensures text_raw_queries { (take : ℕ) (text : List ℕ) (vs : parameters.Params) → IsTaken (on_text (prepare text []) (λ s. query_raw take s vs)) }
+    ensures text_scalars { (how : how_many.HowMany) (text : List ℕ) (vs : parameters.Params) → IsTaken (on_text (prepare text []) (λ s. query_scalar how s vs)) }
+    ensures text_executes { (text : List ℕ) (vs : parameters.Params) → IsTaken (on_text (prepare text []) (λ s. execute s vs)) }
     ensures closes { (s : Described) → IsTaken (close s) }
 {}
 
@@ -45,13 +45,13 @@ pub fn closes_are_written()
 /// What is left to do where an execution is given up: nothing before its first request; while a reply is read its request is hung up; and
 /// behind that, the statement of a text is closed once it was prepared.
 pub fn executions_are_given_up()
-    ensures text_begins { (how : how_many.HowMany) (text : List ℕ) (vs : List value.Value) → cleanup_of (on_text (prepare text []) (λ s. query how s vs)) ≡ [] }
-    ensures begins { (how : how_many.HowMany) (s : Described) (vs : List value.Value) → cleanup_of (query how s vs) ≡ [] }
-    ensures reads { (how : how_many.HowMany) (s : Described) (vs : List value.Value) (part : List ℕ) → execute_request s vs ≡ Ok part → left_behind [] (query how s vs) ≡ Release ∷ [] }
-    ensures text_reads { (how : how_many.HowMany) (s : Described) (vs : List value.Value) (part : List ℕ) → execute_request s vs ≡ Ok part →
+    ensures text_begins { (how : how_many.HowMany) (text : List ℕ) (vs : parameters.Params) → cleanup_of (on_text (prepare text []) (λ s. query how s vs)) ≡ [] }
+    ensures begins { (how : how_many.HowMany) (s : Described) (vs : parameters.Params) → cleanup_of (query how s vs) ≡ [] }
+    ensures reads { (how : how_many.HowMany) (s : Described) (vs : parameters.Params) (part : List ℕ) → execute_request s vs ≡ Ok part → left_behind [] (query how s vs) ≡ Release ∷ [] }
+    ensures text_reads { (how : how_many.HowMany) (s : Described) (vs : parameters.Params) (part : List ℕ) → execute_request s vs ≡ Ok part →
         left_behind [] (closed_by (close_part s.name) (query how s vs)) ≡ Release ∷ posts (close_part s.name) }
-    ensures raw_reads { (take : ℕ) (s : Described) (vs : List value.Value) (part : List ℕ) → execute_request s vs ≡ Ok part → left_behind [] (query_raw take s vs) ≡ Release ∷ [] }
-    ensures text_raw_reads { (take : ℕ) (s : Described) (vs : List value.Value) (part : List ℕ) → execute_request s vs ≡ Ok part →
+    ensures raw_reads { (take : ℕ) (s : Described) (vs : parameters.Params) (part : List ℕ) → execute_request s vs ≡ Ok part → left_behind [] (query_raw take s vs) ≡ Release ∷ [] }
+    ensures text_raw_reads { (take : ℕ) (s : Described) (vs : parameters.Params) (part : List ℕ) → execute_request s vs ≡ Ok part →
         left_behind [] (closed_by (close_part s.name) (query_raw take s vs)) ≡ Release ∷ posts (close_part s.name) }
     ensures prepares { q_left_behind [] ≡ Release ∷ [] }
     ensures looks_up { q_left_behind (described (90000 ∷ []) [] ∷ []) ≡ Release ∷ [] }

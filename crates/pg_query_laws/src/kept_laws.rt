@@ -4,7 +4,7 @@ ghost use Rattle.std.specs.Prelude.{◌≡◌, ◌⊎◌, All, IsSome, List, [],
 ghost use Rattle.pg_spec.specs.Courses.{Met};
 ghost use Rattle.pg_types.specs.BuiltIns.{built_in_type};
 ghost use Rattle.pg_types.specs.declared.pg_type.PgType as pg_type;
-ghost use Rattle.pg_types.specs.declared.value.Value as value;
+ghost use Rattle.pg_execute.specs.Parameters as parameters;
 ghost use Rattle.pg_desk.specs.declared.statement.Described.{Described};
 ghost use Rattle.pg_query.specs.Dialogue.{Dialogue};
 ghost use Rattle.pg_query.specs.declared.desk_call.DeskCall.TheVariants.{ClearTypes};
@@ -20,17 +20,17 @@ pub fn types_are_kept_by_their_oids()
     ensures finds { (more : ℕ) (busy : List ℕ) (oid : ℕ) → KeepsTypes (find more busy oid) }
     ensures finds_all { (oids : List ℕ) → KeepsTypes (find_all oids) }
     ensures prepares { (text oids : List ℕ) → KeepsTypes (prepare text oids) }
-    ensures queries { (how : how_many.HowMany) (s : Described) (vs : List value.Value) → KeepsTypes (query how s vs) }
-    ensures raw_queries { (take : ℕ) (s : Described) (vs : List value.Value) → KeepsTypes (query_raw take s vs) }
-    ensures scalars { (how : how_many.HowMany) (s : Described) (vs : List value.Value) → KeepsTypes (query_scalar how s vs) }
-    ensures executes { (s : Described) (vs : List value.Value) → KeepsTypes (execute s vs) }
-    ensures text_queries { (how : how_many.HowMany) (text : List ℕ) (vs : List value.Value) → KeepsTypes (on_text (prepare text []) (λ s. query how s vs)) }
-    ensures text_raw_queries { (take : ℕ) (text : List ℕ) (vs : List value.Value) → KeepsTypes (on_text (prepare text []) (λ s. query_raw take s vs)) }
-    ensures text_scalars { (how : how_many.HowMany) (text : List ℕ) (vs : List value.Value) → KeepsTypes (on_text (prepare text []) (λ s. query_scalar how s vs)) }
-    ensures text_executes { (text : List ℕ) (vs : List value.Value) → KeepsTypes (on_text (prepare text []) (λ s. execute s vs)) }
+    ensures queries { (how : how_many.HowMany) (s : Described) (vs : parameters.Params) → KeepsTypes (query how s vs) }
+    ensures raw_queries { (take : ℕ) (s : Described) (vs : parameters.Params) → KeepsTypes (query_raw take s vs) }
+    ensures scalars { (how : how_many.HowMany) (s : Described) (vs : parameters.Params) → KeepsTypes (query_scalar how s vs) }
+    ensures executes { (s : Described) (vs : parameters.Params) → KeepsTypes (execute s vs) }
+    ensures text_queries { (how : how_many.HowMany) (text : List ℕ) (vs : parameters.Params) → KeepsTypes (on_text (prepare text []) (λ s. query how s vs)) }
+    ensures text_raw_queries { (take : ℕ) (text : List ℕ) (vs : parameters.Params) → KeepsTypes (on_text (prepare text []) (λ s. query_raw take s vs)) }
+    ensures text_scalars { (how : how_many.HowMany) (text : List ℕ) (vs : parameters.Params) → KeepsTypes (on_text (prepare text []) (λ s. query_scalar how s vs)) }
+    ensures text_executes { (text : List ℕ) (vs : parameters.Params) → KeepsTypes (on_text (prepare text []) (λ s. execute s vs)) }
     ensures closes { (s : Described) → KeepsTypes (close s) }
-    ensures typed_queries { (how : how_many.HowMany) (text : List ℕ) (types : List pg_type.PgType) (vs : List value.Value) → KeepsTypes (query_typed find_all how text types vs) }
-    ensures typed_executes { (text : List ℕ) (types : List pg_type.PgType) (vs : List value.Value) → KeepsTypes (execute_typed text types vs) }
+    ensures typed_queries { (how : how_many.HowMany) (text : List ℕ) (types : List pg_type.PgType) (vs : parameters.Params) → KeepsTypes (query_typed find_all how text types vs) }
+    ensures typed_executes { (text : List ℕ) (types : List pg_type.PgType) (vs : parameters.Params) → KeepsTypes (execute_typed text types vs) }
     ensures clears { EachAsked (λ q. q ≡ ClearTypes) clear }
 {}
 
@@ -54,6 +54,6 @@ pub fn types_are_kept_by_lookups()
     ensures finds { (more : ℕ) (busy : List ℕ) (oid : ℕ) (met : Met Reply) → KeepsByLookups (find more busy oid) met }
     ensures finds_all { (oids : List ℕ) (met : Met Reply) → KeepsByLookups (find_all oids) met }
     ensures prepares { (text oids : List ℕ) (met : Met Reply) → KeepsByLookups (prepare text oids) met }
-    ensures typed_queries { (how : how_many.HowMany) (text : List ℕ) (types : List pg_type.PgType) (vs : List value.Value) (met : Met Reply) →
+    ensures typed_queries { (how : how_many.HowMany) (text : List ℕ) (types : List pg_type.PgType) (vs : parameters.Params) (met : Met Reply) →
         IsSome (under_way [] (told_in (query_typed find_all how text types vs) met)) }
 {}

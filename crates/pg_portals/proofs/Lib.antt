@@ -1,0 +1,3 @@
+mod Querying
+mod Telling
+mod Beginning
