@@ -1,4 +1,3 @@
-pub mod Made
 pub mod Answers
 pub mod Clearing
 pub mod Levels

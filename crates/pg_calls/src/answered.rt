@@ -2,7 +2,7 @@
 
 ghost use Rattle.std.specs.Prelude.{◌≡◌, Result};
 ghost use Rattle.pg_types.specs.declared.error.Error.{Error};
-ghost use Rattle.pg_calls.specs.Made.{TellsOrLacks, made_place};
+ghost use Rattle.pg_query.specs.Made.{TellsOrLacks, made_place};
 
 use futures::task::Poll;
 use pg_desk::{Desk, Stamp};
@@ -48,7 +48,7 @@ impl<S: Polled, M: Make<Input = S::Output>> Answered<S, M> {
 }
 
 impl<S: Polled, M: Make<Input = S::Output>> Polled for Answered<S, M> {
-    ghost use Rattle.pg_calls.specs.Made.{made_place};
+    ghost use Rattle.pg_query.specs.Made.{made_place};
 
     type Output = M::Output;
 

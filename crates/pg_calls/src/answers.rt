@@ -7,9 +7,11 @@ use crate::answered::{Answered, Make};
 use pg_errors::Error;
 use pg_execute::ResultSet;
 use pg_rows::Row;
-use pg_types::{List, Value};
+use pg_states::{ExecutedTyped, QueriedTyped, QueryScalarState};
+use pg_types::List;
 use std::alloc::Global;
 use std::collections::VecDeque;
+use std::marker::PhantomData;
 
 /// The only one of these. RowCount comes where there is none, or a second one.
 fn one_of<T: Drop>(items: List<T>) -> Result<T, Error>
@@ -99,60 +101,84 @@ impl Make for MaybeRow {
 
 /// The only value.
 #[derive(Clone, Copy, Drop)]
-pub struct OneValue;
+pub struct OneOf<R> {
+    of: PhantomData<R>,
+}
 
-impl Make for OneValue {
+impl<R> OneOf<R> {
+    /// Of these values.
+    pub fn new() -> OneOf<R> {
+        OneOf { of: PhantomData }
+    }
+}
+
+impl<R: Drop> Make for OneOf<R> {
     ghost use Rattle.pg_calls.specs.Answers.{one_of};
 
-    type Input = List<Value>;
+    type Input = List<R>;
 
-    type Output = Value;
+    type Output = R;
 
     ghost makes = { λ _. one_of };
 
-    fn make(&self, alloc: Global, values: List<Value>) -> Result<Value, Error> {
+    fn make(&self, alloc: Global, values: List<R>) -> Result<R, Error> {
         one_of(values)
     }
 }
 
 /// The only value, where there is one.
 #[derive(Clone, Copy, Drop)]
-pub struct MaybeValue;
+pub struct MaybeOf<R> {
+    of: PhantomData<R>,
+}
 
-impl Make for MaybeValue {
+impl<R> MaybeOf<R> {
+    /// Of these values.
+    pub fn new() -> MaybeOf<R> {
+        MaybeOf { of: PhantomData }
+    }
+}
+
+impl<R: Drop> Make for MaybeOf<R> {
     ghost use Rattle.pg_calls.specs.Answers.{at_most_one};
 
-    type Input = List<Value>;
+    type Input = List<R>;
 
-    type Output = Option<Value>;
+    type Output = Option<R>;
 
     ghost makes = { λ _. at_most_one };
 
-    fn make(&self, alloc: Global, values: List<Value>) -> Result<Option<Value>, Error> {
+    fn make(&self, alloc: Global, values: List<R>) -> Result<Option<R>, Error> {
         at_most_one(values)
     }
 }
 
 /// The state of `query`.
-pub type QueryState<'a> = Answered<pg_states::QueryState<'a>, AllRows>;
+pub type QueryState<'a, P> = Answered<pg_states::QueryState<'a, P>, AllRows>;
 
 /// The state of `query_one`.
-pub type QueryOneState<'a> = Answered<pg_states::QueryState<'a>, OneRow>;
+pub type QueryOneState<'a, P> = Answered<pg_states::QueryState<'a, P>, OneRow>;
 
 /// The state of `query_opt`.
-pub type QueryOptState<'a> = Answered<pg_states::QueryState<'a>, MaybeRow>;
+pub type QueryOptState<'a, P> = Answered<pg_states::QueryState<'a, P>, MaybeRow>;
 
 /// The state of `query_one_scalar`.
-pub type QueryOneScalarState<'a> = Answered<pg_states::QueryScalarState<'a>, OneValue>;
+pub type QueryOneScalarState<'a, R, P> = Answered<QueryScalarState<'a, R, P>, OneOf<R>>;
 
 /// The state of `query_opt_scalar`.
-pub type QueryOptScalarState<'a> = Answered<pg_states::QueryScalarState<'a>, MaybeValue>;
+pub type QueryOptScalarState<'a, R, P> = Answered<QueryScalarState<'a, R, P>, MaybeOf<R>>;
 
 /// The state of `query_typed`.
-pub type QueryTypedState<'a> = Answered<pg_states::QueryTypedState<'a>, AllRows>;
+pub type QueryTypedState<'a, P> = Answered<QueriedTyped<'a, P>, AllRows>;
 
 /// The state of `query_typed_one`.
-pub type QueryTypedOneState<'a> = Answered<pg_states::QueryTypedState<'a>, OneRow>;
+pub type QueryTypedOneState<'a, P> = Answered<QueriedTyped<'a, P>, OneRow>;
 
 /// The state of `query_typed_opt`.
-pub type QueryTypedOptState<'a> = Answered<pg_states::QueryTypedState<'a>, MaybeRow>;
+pub type QueryTypedOptState<'a, P> = Answered<QueriedTyped<'a, P>, MaybeRow>;
+
+/// The state of `query_portal`, and of `query_portal_owned`.
+pub type QueryPortalState<'a> = Answered<pg_portals::QueryPortalState<'a>, AllRows>;
+
+/// The state of `execute_typed`.
+pub type ExecuteTypedState<'a, P> = ExecutedTyped<'a, P>;

@@ -1,17 +1,17 @@
 //! A level of a transaction, and what it can be asked.
 
-ghost use Rattle.std.specs.Prelude.{◌≡◌, [], length, None, Some};
+ghost use Rattle.std.specs.Prelude.{◌≡◌, [], length, map, None, Some};
 ghost use Rattle.pg_client.specs.Done.{batch_execute};
 ghost use Rattle.pg_client.specs.DoneStates.{place_of_batch, IsLiveBatch};
-ghost use Rattle.pg_client.specs.Queries.{place_of_query, IsLiveQuery};
-ghost use Rattle.pg_client.specs.Simple.{simple_query};
 ghost use Rattle.pg_execute.specs.Executes.{execute, query};
+ghost use Rattle.pg_execute.specs.Parameters.{params};
 ghost use Rattle.pg_execute.specs.Targets.{on_target};
 ghost use Rattle.pg_execute.specs.Typed.{execute_typed, query_typed};
 ghost use Rattle.pg_states.specs.Texts.{prepare_text};
 ghost use Rattle.pg_core.specs.Lookups.{find_all, prepare};
 ghost use Rattle.pg_streams.specs.States.{FindsIn, statement_in};
 ghost use Rattle.pg_streams.specs.RowStreams.{query_raw};
+ghost use Rattle.pg_streams.specs.SimpleStreams.{simple_query_raw};
 ghost use Rattle.pg_states.specs.Paired.{paired};
 ghost use Rattle.pg_streams.specs.TypedRawStates.{opens_first};
 ghost use Rattle.pg_streams.specs.TypedRaw.{FoundRows, finds_rows, query_typed_raw};
@@ -20,25 +20,25 @@ ghost use Rattle.pg_steps.specs.Doing.{Does};
 ghost use Rattle.pg_steps.specs.Mapped.{giving};
 ghost use Rattle.pg_steps.specs.declared.savepoint.Savepoint.TheVariants.{Named};
 ghost use Rattle.pg_calls.specs.Answers.{maybe_row, one_row, rows_of};
-ghost use Rattle.pg_calls.specs.Made.{made};
+ghost use Rattle.pg_query.specs.Made.{made};
 ghost use Rattle.pg_calls.specs.Levels.{deeper, inside, next_name};
 
 use crate::answers::{
-    QueryOneState, QueryOptState, QueryState, QueryTypedOneState, QueryTypedOptState,
-    QueryTypedState,
+    ExecuteTypedState, QueryOneState, QueryOptState, QueryState, QueryTypedOneState,
+    QueryTypedOptState, QueryTypedState,
 };
 use crate::client::Client;
 use crate::level::{CommitState, NestedState, Opened, RollbackState, SavepointState};
-use pg_client::{BatchExecuteState, SimpleQueryState};
+use pg_client::BatchExecuteState;
 use pg_desk::{Desk, Stamp};
 use pg_errors::Error;
 use pg_execute::{HowMany, Target};
 use pg_open::CancelToken;
 use pg_query::Polled;
-use pg_states::{ExecuteState, ExecuteTypedState, PrepareState};
+use pg_states::{ExecuteState, PrepareState};
 use pg_steps::{Call, One, Savepoint, abandon, command};
-use pg_streams::{Opens, QueryRawState, QueryTypedRawState};
-use pg_types::{Oid, Type, Value};
+use pg_streams::{Opens, QueryRawState, QueryTypedRawState, SimpleQueryState};
+use pg_types::{Params, Type};
 use std::alloc::Global;
 
 /// A level of a transaction: the transaction itself, or a savepoint in it. It must be spent, by `commit`, `rollback` or `abandon`.
@@ -134,8 +134,8 @@ impl<'a> Transaction<'a> {
 
     /// `Client::simple_query`, in the transaction.
     pub fn simple_query<'b>(&self, query: &'b str) -> SimpleQueryState<'b>
-        ensures live { IsLiveQuery result }
-        ensures asks { (place_of_query result).dialogue ≡ simple_query query.now None }
+        ensures live { ⟦<SimpleQueryState<'b> as Polled>⟧.is_live result }
+        ensures asks { (⟦<SimpleQueryState<'b> as Polled>⟧.place result).dialogue ≡ simple_query_raw query.now }
     {
         self.client.simple_query(query)
     }
@@ -157,127 +157,147 @@ impl<'a> Transaction<'a> {
     }
 
     /// `Client::prepare_typed`, in the transaction.
-    pub fn prepare_typed<'b>(&self, query: &'b str, types: &'b [Oid]) -> PrepareState<'b>
+    pub fn prepare_typed<'b>(&self, query: &'b str, types: &'b [Type]) -> PrepareState<'b>
         ensures live { ⟦<PrepareState<'b> as Polled>⟧.is_live result }
-        ensures asks { (⟦<PrepareState<'b> as Polled>⟧.place result).dialogue ≡ prepare query.now types.now }
+        ensures asks { (⟦<PrepareState<'b> as Polled>⟧.place result).dialogue ≡ prepare query.now (map (λ ty. ty.oid) types.now) }
     {
         self.client.prepare_typed(query, types)
     }
 
     /// `Client::query`, in the transaction.
-    pub fn query<'b>(&self, target: Target<'b>, values: &'b [Value]) -> QueryState<'b>
-        ensures live { ⟦<QueryState<'b> as Polled>⟧.is_live result }
-        ensures asks { (⟦<QueryState<'b> as Polled>⟧.place result).dialogue ≡ made rows_of (on_target prepare_text (λ s. query HowMany.Any s values.now) target.entry) }
+    pub fn query<'b, P: Params + Drop>(&self, target: Target<'b>, values: P) -> QueryState<'b, P>
+        ensures live { ⟦<QueryState<'b, P> as Polled>⟧.is_live result }
+        ensures asks { (⟦<QueryState<'b, P> as Polled>⟧.place result).dialogue ≡ made rows_of (on_target prepare_text (λ s. query HowMany.Any s (params (P.count values) (P.gives_at values))) target.entry) }
     {
         self.client.query(target, values)
     }
 
     /// `Client::query_raw`, in the transaction.
-    pub fn query_raw<'b>(&self, target: Target<'b>, values: &'b [Value]) -> QueryRawState<'b>
-        ensures live { ⟦<QueryRawState<'b> as Opens>⟧.is_live result }
-        ensures asks { (⟦<QueryRawState<'b> as Opens>⟧.place result).dialogue ≡ on_target prepare_text (λ s. query_raw s values.now) target.entry }
-        ensures knows { ⟦<QueryRawState<'b> as Opens>⟧.knows result ≡ statement_in target.entry }
-        ensures finds { FindsIn target.entry values.now (⟦<QueryRawState<'b> as Opens>⟧.finding result) (⟦<QueryRawState<'b> as Opens>⟧.asks result) (⟦<QueryRawState<'b> as Opens>⟧.first result) }
+    pub fn query_raw<'b, P: Params + Drop>(
+        &self,
+        target: Target<'b>,
+        values: P,
+    ) -> QueryRawState<'b, P>
+        ensures live { ⟦<QueryRawState<'b, P> as Opens>⟧.is_live result }
+        ensures asks { (⟦<QueryRawState<'b, P> as Opens>⟧.place result).dialogue ≡ on_target prepare_text (λ s. query_raw s (params (P.count values) (P.gives_at values))) target.entry }
+        ensures knows { ⟦<QueryRawState<'b, P> as Opens>⟧.knows result ≡ statement_in target.entry }
+        ensures finds { FindsIn target.entry (params (P.count values) (P.gives_at values)) (⟦<QueryRawState<'b, P> as Opens>⟧.finding result) (⟦<QueryRawState<'b, P> as Opens>⟧.asks result) (⟦<QueryRawState<'b, P> as Opens>⟧.first result) }
     {
         self.client.query_raw(target, values)
     }
 
     /// `Client::query_one`, in the transaction.
-    pub fn query_one<'b>(&self, target: Target<'b>, values: &'b [Value]) -> QueryOneState<'b>
-        ensures live { ⟦<QueryOneState<'b> as Polled>⟧.is_live result }
-        ensures asks { (⟦<QueryOneState<'b> as Polled>⟧.place result).dialogue ≡ made one_row (on_target prepare_text (λ s. query HowMany.One s values.now) target.entry) }
+    pub fn query_one<'b, P: Params + Drop>(
+        &self,
+        target: Target<'b>,
+        values: P,
+    ) -> QueryOneState<'b, P>
+        ensures live { ⟦<QueryOneState<'b, P> as Polled>⟧.is_live result }
+        ensures asks { (⟦<QueryOneState<'b, P> as Polled>⟧.place result).dialogue ≡ made one_row (on_target prepare_text (λ s. query HowMany.One s (params (P.count values) (P.gives_at values))) target.entry) }
     {
         self.client.query_one(target, values)
     }
 
     /// `Client::query_opt`, in the transaction.
-    pub fn query_opt<'b>(&self, target: Target<'b>, values: &'b [Value]) -> QueryOptState<'b>
-        ensures live { ⟦<QueryOptState<'b> as Polled>⟧.is_live result }
-        ensures asks { (⟦<QueryOptState<'b> as Polled>⟧.place result).dialogue ≡ made maybe_row (on_target prepare_text (λ s. query HowMany.AtMostOne s values.now) target.entry) }
+    pub fn query_opt<'b, P: Params + Drop>(
+        &self,
+        target: Target<'b>,
+        values: P,
+    ) -> QueryOptState<'b, P>
+        ensures live { ⟦<QueryOptState<'b, P> as Polled>⟧.is_live result }
+        ensures asks { (⟦<QueryOptState<'b, P> as Polled>⟧.place result).dialogue ≡ made maybe_row (on_target prepare_text (λ s. query HowMany.AtMostOne s (params (P.count values) (P.gives_at values))) target.entry) }
     {
         self.client.query_opt(target, values)
     }
 
     /// `Client::execute`, in the transaction.
-    pub fn execute<'b>(&self, target: Target<'b>, values: &'b [Value]) -> ExecuteState<'b>
-        ensures live { ⟦<ExecuteState<'b> as Polled>⟧.is_live result }
-        ensures asks { (⟦<ExecuteState<'b> as Polled>⟧.place result).dialogue ≡ on_target prepare_text (λ s. execute s values.now) target.entry }
+    pub fn execute<'b, P: Params + Drop>(
+        &self,
+        target: Target<'b>,
+        values: P,
+    ) -> ExecuteState<'b, P>
+        ensures live { ⟦<ExecuteState<'b, P> as Polled>⟧.is_live result }
+        ensures asks { (⟦<ExecuteState<'b, P> as Polled>⟧.place result).dialogue ≡ on_target prepare_text (λ s. execute s (params (P.count values) (P.gives_at values))) target.entry }
     {
         self.client.execute(target, values)
     }
 
     /// `Client::execute_raw`, in the transaction.
-    pub fn execute_raw<'b>(&self, target: Target<'b>, values: &'b [Value]) -> ExecuteState<'b>
-        ensures live { ⟦<ExecuteState<'b> as Polled>⟧.is_live result }
-        ensures asks { (⟦<ExecuteState<'b> as Polled>⟧.place result).dialogue ≡ on_target prepare_text (λ s. execute s values.now) target.entry }
+    pub fn execute_raw<'b, P: Params + Drop>(
+        &self,
+        target: Target<'b>,
+        values: P,
+    ) -> ExecuteState<'b, P>
+        ensures live { ⟦<ExecuteState<'b, P> as Polled>⟧.is_live result }
+        ensures asks { (⟦<ExecuteState<'b, P> as Polled>⟧.place result).dialogue ≡ on_target prepare_text (λ s. execute s (params (P.count values) (P.gives_at values))) target.entry }
     {
         self.client.execute_raw(target, values)
     }
 
     /// `Client::query_typed`, in the transaction.
-    pub fn query_typed<'b>(
+    pub fn query_typed<'b, P: Params + Drop>(
         &self,
         query: &'b str,
-        values: &'b [Value],
+        values: P,
         types: &'b [Type],
-    ) -> QueryTypedState<'b>
-        ensures live { ⟦<QueryTypedState<'b> as Polled>⟧.is_live result }
-        ensures asks { (⟦<QueryTypedState<'b> as Polled>⟧.place result).dialogue ≡ made rows_of (paired (length types.now) values.now (query_typed find_all HowMany.Any query.now types.now values.now)) }
+    ) -> QueryTypedState<'b, P>
+        ensures live { ⟦<QueryTypedState<'b, P> as Polled>⟧.is_live result }
+        ensures asks { (⟦<QueryTypedState<'b, P> as Polled>⟧.place result).dialogue ≡ made rows_of (paired (length types.now) (params (P.count values) (P.gives_at values)) (query_typed find_all HowMany.Any query.now types.now (params (P.count values) (P.gives_at values)))) }
     {
         self.client.query_typed(query, values, types)
     }
 
     /// `Client::query_typed_raw`, in the transaction.
-    pub fn query_typed_raw<'b>(
+    pub fn query_typed_raw<'b, P: Params + Drop>(
         &self,
         query: &'b str,
-        values: &'b [Value],
+        values: P,
         types: &'b [Type],
-    ) -> QueryTypedRawState<'b>
-        ensures live { ⟦<QueryTypedRawState<'b> as Opens>⟧.is_live result }
-        ensures asks { (⟦<QueryTypedRawState<'b> as Opens>⟧.place result).dialogue ≡ paired (length types.now) values.now (query_typed_raw find_all query.now types.now values.now) }
-        ensures finds { (⟦<QueryTypedRawState<'b> as Opens>⟧.finding result).dialogue ≡ paired (length types.now) values.now (finds_rows find_all query.now types.now values.now) }
-        ensures stands { ⟦<QueryTypedRawState<'b> as Opens>⟧.asks result ≡ (λ _. (⟦<QueryTypedRawState<'b> as Opens>⟧.place result).dialogue) }
-        ensures first { ⟦<QueryTypedRawState<'b> as Opens>⟧.first result ≡ (λ (k : FoundRows). opens_first k.taken) }
+    ) -> QueryTypedRawState<'b, P>
+        ensures live { ⟦<QueryTypedRawState<'b, P> as Opens>⟧.is_live result }
+        ensures asks { (⟦<QueryTypedRawState<'b, P> as Opens>⟧.place result).dialogue ≡ paired (length types.now) (params (P.count values) (P.gives_at values)) (query_typed_raw find_all query.now types.now (params (P.count values) (P.gives_at values))) }
+        ensures finds { (⟦<QueryTypedRawState<'b, P> as Opens>⟧.finding result).dialogue ≡ paired (length types.now) (params (P.count values) (P.gives_at values)) (finds_rows find_all query.now types.now (params (P.count values) (P.gives_at values))) }
+        ensures stands { ⟦<QueryTypedRawState<'b, P> as Opens>⟧.asks result ≡ (λ _. (⟦<QueryTypedRawState<'b, P> as Opens>⟧.place result).dialogue) }
+        ensures first { ⟦<QueryTypedRawState<'b, P> as Opens>⟧.first result ≡ (λ (k : FoundRows). opens_first k.taken) }
     {
         self.client.query_typed_raw(query, values, types)
     }
 
     /// `Client::query_typed_one`, in the transaction.
-    pub fn query_typed_one<'b>(
+    pub fn query_typed_one<'b, P: Params + Drop>(
         &self,
         query: &'b str,
-        values: &'b [Value],
+        values: P,
         types: &'b [Type],
-    ) -> QueryTypedOneState<'b>
-        ensures live { ⟦<QueryTypedOneState<'b> as Polled>⟧.is_live result }
-        ensures asks { (⟦<QueryTypedOneState<'b> as Polled>⟧.place result).dialogue ≡ made one_row (paired (length types.now) values.now (query_typed find_all HowMany.One query.now types.now values.now)) }
+    ) -> QueryTypedOneState<'b, P>
+        ensures live { ⟦<QueryTypedOneState<'b, P> as Polled>⟧.is_live result }
+        ensures asks { (⟦<QueryTypedOneState<'b, P> as Polled>⟧.place result).dialogue ≡ made one_row (paired (length types.now) (params (P.count values) (P.gives_at values)) (query_typed find_all HowMany.One query.now types.now (params (P.count values) (P.gives_at values)))) }
     {
         self.client.query_typed_one(query, values, types)
     }
 
     /// `Client::query_typed_opt`, in the transaction.
-    pub fn query_typed_opt<'b>(
+    pub fn query_typed_opt<'b, P: Params + Drop>(
         &self,
         query: &'b str,
-        values: &'b [Value],
+        values: P,
         types: &'b [Type],
-    ) -> QueryTypedOptState<'b>
-        ensures live { ⟦<QueryTypedOptState<'b> as Polled>⟧.is_live result }
-        ensures asks { (⟦<QueryTypedOptState<'b> as Polled>⟧.place result).dialogue ≡ made maybe_row (paired (length types.now) values.now (query_typed find_all HowMany.AtMostOne query.now types.now values.now)) }
+    ) -> QueryTypedOptState<'b, P>
+        ensures live { ⟦<QueryTypedOptState<'b, P> as Polled>⟧.is_live result }
+        ensures asks { (⟦<QueryTypedOptState<'b, P> as Polled>⟧.place result).dialogue ≡ made maybe_row (paired (length types.now) (params (P.count values) (P.gives_at values)) (query_typed find_all HowMany.AtMostOne query.now types.now (params (P.count values) (P.gives_at values)))) }
     {
         self.client.query_typed_opt(query, values, types)
     }
 
     /// `Client::execute_typed`, in the transaction.
-    pub fn execute_typed<'b>(
+    pub fn execute_typed<'b, P: Params + Drop>(
         &self,
         query: &'b str,
-        values: &'b [Value],
+        values: P,
         types: &'b [Type],
-    ) -> ExecuteTypedState<'b>
-        ensures live { ⟦<ExecuteTypedState<'b> as Polled>⟧.is_live result }
-        ensures asks { (⟦<ExecuteTypedState<'b> as Polled>⟧.place result).dialogue ≡ paired (length types.now) values.now (execute_typed query.now types.now values.now) }
+    ) -> ExecuteTypedState<'b, P>
+        ensures live { ⟦<ExecuteTypedState<'b, P> as Polled>⟧.is_live result }
+        ensures asks { (⟦<ExecuteTypedState<'b, P> as Polled>⟧.place result).dialogue ≡ paired (length types.now) (params (P.count values) (P.gives_at values)) (execute_typed query.now types.now (params (P.count values) (P.gives_at values))) }
     {
         self.client.execute_typed(query, values, types)
     }

@@ -11,15 +11,16 @@ use Rattle.pg_streams.specs.Collecting.{Gives, NoItemFirst, is_last, family_behi
 use Rattle.pg_streams.specs.Families.{AnswersFor, Family, GoesFor}
 use Rattle.pg_streams.specs.Handing.{alone}
 use Rattle.pg_streams.specs.Hearing.{Brings, First, first_told, told_or}
-use Rattle.pg_streams.specs.RowStates.{IsLiveAt, IsLiveState, opening, opening_told, rows_opened, rows_over, rows_place, stage_statement, state_statement, unread, unread_if}
+use Rattle.pg_streams.specs.RowStates.{IsLiveAt, IsLiveSo, IsLiveState, opening, opening_told, rows_opened, rows_over, rows_place, stage_statement, state_statement, statement_so, unread, unread_if}
 use Rattle.pg_streams.specs.RowStreams.{RowsGiven}
 use Rattle.pg_streams.specs.RowTelling.{bound_heard, opening_heard}
 use Rattle.pg_streams.specs.declared.giving.Told.{Told}
 use Rattle.pg_streams.specs.declared.giving.Told.TheVariants.{Item, Ends, Fails}
 use Rattle.pg_streams.specs.declared.items.Items.{Items}
+use Rattle.pg_streams.specs.declared.query_raw.StatementAsks.{StatementAsks}
 use Rattle.pg_streams.specs.declared.query_raw.StatementRawState.{StatementRawState}
 use Rattle.pg_streams.specs.declared.query_raw.Stage.{Stage}
-use Rattle.pg_streams.specs.declared.query_raw.Stage.TheVariants.{New, Opens, Done}
+use Rattle.pg_streams.specs.declared.query_raw.Stage.TheVariants.{Opens, Done}
 use Rattle.pg_streams.specs.declared.row_giving.RowGiving.{RowGiving}
 use Rattle.pg_streams.specs.declared.row_giving.RowOpening.{RowOpening}
 use Rattle.pg_streams.specs.declared.row_stream.RowStream.{RowStream}
@@ -111,10 +112,13 @@ module _ {D : Type 0} (becomes : D → List Event → D → Type 0) (stamp : Sta
 -- ---- a state
 
 -- until it answered it knows its statement
-pub known-live : (stage : Stage) → IsLiveAt stage → stage_statement stage ≡ None → ⊥
-known-live (New s values) live is = cc
+known-live : (stage : Stage) → IsLiveAt stage → stage_statement stage ≡ None → ⊥
 known-live (Opens items) live is = cc
 known-live Done live is = live
 
-pub known-state : (s : StatementRawState) → IsLiveState s → state_statement s ≡ None → ⊥
-known-state s live is = known-live s.stage live is
+known-so : {P : Type 0} (asks : Option (StatementAsks P)) (stage : Stage) → IsLiveSo asks stage → statement_so asks stage ≡ None → ⊥
+known-so (Some a) stage live is = cc
+known-so None stage live is = known-live stage live is
+
+pub known-state : {P : Type 0} (s : StatementRawState P) → IsLiveState s → state_statement s ≡ None → ⊥
+known-state s live is = known-so s.asks s.reply.stage live is

@@ -13,6 +13,7 @@ use Rattle.pg_types.specs.declared.error.Error.{Error}
 use Rattle.pg_types.specs.declared.error.Error.TheVariants.{OutOfMemory}
 use Rattle.pg_query.specs.Dialogue.{Dialogue, Answer, Ask, Call, HangUp, cleaning, feed, feed_one, Walks}
 use Rattle.pg_query.specs.Faults.{of_fault}
+use Rattle.pg_execute.specs.Parameters.{Params}
 use Rattle.pg_query.specs.Meaning.{ForMessage, ForRoom, GivesUp, Goes, GoesToAnswer, MatchPoll, Pauses, Place, WaitsAt}
 use Rattle.pg_query.specs.Reading.{reads}
 use Rattle.pg_query.specs.Scripts.{IsPut, IsRead, cleanup_of}
@@ -36,12 +37,13 @@ use Rattle.pg_streams.proofs.Going.{Joins, goes-joined, goes-nowhere, pauses-joi
 use Rattle.pg_streams.specs.Heads.{heads, with_columns}
 use Rattle.pg_streams.specs.Known.{KnowsAll, stands_behind}
 use Rattle.pg_streams.specs.Rests.{came, rests, takes_so, whole_first}
-use Rattle.pg_streams.specs.TypedRawStates.{Finishes, FindsOn, FindsOut, GivesOn, ForMore, ForTypes, Hands, HandsLive, HandsTaken, IsLiveAt, Polls, ReadsOn, TakesOn, Waits, WaitsToo, behind_columns, behind_rest, columns_first, found_first, had_of, known_of, known_on, opens_first, rest_told, rests_first, rows_of, stage_first, stage_place}
+use Rattle.pg_streams.specs.TypedRawStates.{Finishes, FindsOn, FindsOut, GivesOn, ForMore, ForTypes, Hands, HandsLive, HandsTaken, IsLiveAt, IsLiveSo, Polls, ReadsOn, TakesOn, Waits, WaitsToo, behind_columns, behind_rest, columns_first, first_so, found_first, had_of, known_of, known_on, opens_first, place_so, rest_told, rests_first, rows_of, stage_first, stage_place}
 use Rattle.pg_streams.specs.TypedRaw.{Asked, FoundRows, found_rows, oids_of}
 use Rattle.pg_streams.specs.declared.heads.Heads.{Heads}
 use Rattle.pg_streams.specs.declared.rests.Rest.{Rest}
 use Rattle.pg_streams.specs.declared.state.Stage.{Stage}
-use Rattle.pg_streams.specs.declared.state.Stage.TheVariants.{New, Reads, Takes, Finds, Done}
+use Rattle.pg_streams.specs.declared.state.TypedAsks.{TypedAsks}
+use Rattle.pg_streams.specs.declared.state.Stage.TheVariants.{Reads, Takes, Finds, Done}
 use Rattle.pg_streams.proofs.Ending.{ended, ended-alone, ended-more, rows-steady, rows-told}
 use Rattle.pg_streams.proofs.Fresh.{IsFresh, Renumbered, finds-fresh, fresh-then, renumber}
 use Rattle.pg_streams.proofs.Takes.{goes-mapped, one-plan, pauses-mapped, plan-lacks}
@@ -128,7 +130,6 @@ not-taken true h = absurd (h refl)
 
 -- of a reply whose rest isn't taken nothing came
 pub nothing-came : (stage : Stage) → IsLiveAt stage → stage_first stage false ≡ opens_first false
-nothing-came (New text types values) live = refl
 nothing-came (Reads s) live = ap (λ (l : List RawMessage). let f : List RawMessage → First (Unit {0}) (Unit {0}) = λ more. opens_first false (l ++ more) in f) live
 nothing-came (Takes columns s) live = refl
 nothing-came (Finds columns batches s) live = refl
@@ -504,15 +505,31 @@ gives-up {becomes = becomes} {stamp} {a} {b} p is r h = subst (λ (c : List Clea
 
 -- ---- a stage that is polled
 
-pub polls-stage : {D : Type 0} (becomes : D → List Event → D → Type 0) → ((a : D) → becomes a [] a) → Joins becomes → (stamp : Stamp) (a b : D) (old stage : Stage) → old ≡ stage → IsLiveAt stage → (new : Stage) (r : Poll (Result RowStream Error)) → Polls becomes stamp a (λ rows. stage_place rows stage) (stage_first stage) b new r →
-    MatchPoll r (λ x. HandsOnLater becomes rows-stand IsBegun known_of is-whole stamp a (stage_place false old) (stage_place true old) (asked-by (stage_place true old) (stage_first old)) b x)
-    (PausesLater becomes stamp a (stage_place false old) (stage_place true old) (asked-by (stage_place true old) (stage_first old)) is-whole b (stage_place false new) (stage_place true new) (asked-by (stage_place true new) (stage_first new)) None × IsLiveAt new)
-polls-stage becomes stays joins stamp a b old stage is live new r k =
-    subst (λ (s : Stage). MatchPoll r (λ x. HandsOnLater becomes rows-stand IsBegun known_of is-whole stamp a (stage_place false s) (stage_place true s) (asked-by (stage_place true s) (stage_first s)) b x)
-    (PausesLater becomes stamp a (stage_place false s) (stage_place true s) (asked-by (stage_place true s) (stage_first s)) is-whole b (stage_place false new) (stage_place true new) (asked-by (stage_place true new) (stage_first new)) None × IsLiveAt new)) (sym is)
-    (later becomes stays joins stamp a b (λ rows. stage_place rows stage) (stage_first stage) (nothing-came stage live) new r k)
+pub polls-stage : {D : Type 0} (becomes : D → List Event → D → Type 0) (stamp : Stamp) (a b : D) (old stage : Stage) → old ≡ stage → (new : Stage) (r : Poll (Result RowStream Error)) → Polls becomes stamp a (λ rows. stage_place rows stage) (stage_first stage) b new r →
+    Polls becomes stamp a (λ rows. stage_place rows old) (stage_first old) b new r
+polls-stage becomes stamp a b old stage is new r k = subst (λ (s : Stage). Polls becomes stamp a (λ rows. stage_place rows s) (stage_first s) b new r) (sym is) k
 
 -- where nothing that came is left
 pub reads-polls : {D : Type 0} (becomes : D → List Event → D → Type 0) (stamp : Stamp) (a b : D) (p : (rows : Bool) → Place (Asked rows)) (s : Heads) → s.batch ≡ [] → (new : Stage) (r : Poll (Result RowStream Error)) → Polls becomes stamp a p opens_first b new r →
     Polls becomes stamp a p (λ rest more. opens_first rest (s.batch ++ more)) b new r
 reads-polls becomes stamp a b p s empty new r k = subst (λ (l : List RawMessage). Polls becomes stamp a p (λ rest more. opens_first rest (l ++ more)) b new r) (sym empty) k
+
+-- ---- a state that is polled
+
+module _ {P : Type 0} (of : P → Params) {D : Type 0} (becomes : D → List Event → D → Type 0) (stays : (a : D) → becomes a [] a) (joins : Joins becomes) (stamp : Stamp) (a b : D) (old : Option (TypedAsks P)) (stage : Stage) (asks : Option (TypedAsks P)) (new : Stage) (gone : asks ≡ None)
+    (r : Poll (Result RowStream Error)) where
+  -- what its poll comes to
+  abbrev comes-so : Option (TypedAsks P) → Option (TypedAsks P) → Type 0
+  comes-so x y =
+      MatchPoll r (λ k. HandsOnLater becomes rows-stand IsBegun known_of is-whole stamp a (place_so of false x stage) (place_so of true x stage) (asked-by (place_so of true x stage) (first_so x stage)) b k)
+      (PausesLater becomes stamp a (place_so of false x stage) (place_so of true x stage) (asked-by (place_so of true x stage) (first_so x stage)) is-whole b (place_so of false y new) (place_so of true y new) (asked-by (place_so of true y new) (first_so y new)) None × IsLiveSo y new)
+
+  pub polls-asked : (t : TypedAsks P) → old ≡ Some t → Polls becomes stamp a (λ rows. place_so of rows (Some t) stage) opens_first b new r → comes-so old asks
+  polls-asked t is k =
+      subst (λ (x : Option (TypedAsks P)). comes-so x asks) (sym is)
+      (subst (λ (y : Option (TypedAsks P)). comes-so (Some t) y) (sym gone) (later becomes stays joins stamp a b (λ rows. place_so of rows (Some t) stage) opens_first refl new r k))
+
+  pub polls-goes : old ≡ None → IsLiveAt stage → Polls becomes stamp a (λ rows. stage_place rows stage) (stage_first stage) b new r → comes-so old asks
+  polls-goes is live k =
+      subst (λ (x : Option (TypedAsks P)). comes-so x asks) (sym is)
+      (subst (λ (y : Option (TypedAsks P)). comes-so None y) (sym gone) (later becomes stays joins stamp a b (λ rows. stage_place rows stage) (stage_first stage) (nothing-came stage live) new r k))

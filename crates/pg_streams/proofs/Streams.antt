@@ -8,7 +8,7 @@ use Rattle.pg_desk.specs.declared.event.DeskFault.{DeskFault}
 use Rattle.pg_desk.specs.declared.event.Event.{Event}
 use Rattle.pg_desk.specs.declared.event.Event.TheVariants as call
 use Rattle.pg_types.specs.declared.pg_type.PgType.{PgType}
-use Rattle.pg_types.specs.declared.value.Value.{Value}
+use Rattle.pg_execute.specs.Parameters.{Params}
 use Rattle.pg_types.specs.declared.error.Error.{Error}
 use Rattle.pg_query.specs.Dialogue.{Dialogue, Answer, Walks}
 use Rattle.pg_query.specs.Faults.{of_fault}
@@ -44,13 +44,13 @@ rows-same fields types e = ap (λ (n : ℕ). rows_read Any n (rows_given (unname
 
 -- ---- the request
 
-asks-paired : {T : Type 0} (text : List ℕ) (types : List PgType) (vs : List Value) (d : Dialogue T) → paired (length types) vs (asks_for (typed_request text types vs) d) ≡ asks_for (paired_request text types vs) d
-asks-paired text types vs d = by (length vs == length types)
+asks-paired : {T : Type 0} (text : List ℕ) (count : ℕ) (types : List PgType) (vs : Params) (d : Dialogue T) → paired count vs (asks_for (typed_request text types vs) d) ≡ asks_for (paired_request text count types vs) d
+asks-paired text count types vs d = by (vs.count == count)
   where
     refused : Result (List ℕ) Error
-    refused = Err (Parameters (length vs) (length types))
+    refused = Err (Parameters vs.count count)
 
-    by : (b : Bool) → (if b then asks_for (typed_request text types vs) d else Answer (Err (Parameters (length vs) (length types)))) ≡ asks_for (if b then typed_request text types vs else refused) d
+    by : (b : Bool) → (if b then asks_for (typed_request text types vs) d else Answer (Err (Parameters vs.count count))) ≡ asks_for (if b then typed_request text types vs else refused) d
     by true = refl
     by false = refl
 
@@ -58,12 +58,12 @@ asks-paired text types vs d = by (length vs == length types)
 abbrev replied : (rows : Bool) → Dialogue (Asked rows)
 replied rows = then_do (reads false head) (behind_columns rows)
 
-pub asks-so : (rows : Bool) (text : List ℕ) (types : List PgType) (vs : List Value) → asks_typed rows text types vs ≡ asks_for (paired_request text types vs) (replied rows)
-asks-so rows text types vs = asks-paired text types vs (replied rows)
+pub asks-so : (rows : Bool) (text : List ℕ) (count : ℕ) (types : List PgType) (vs : Params) → asks_typed rows text count types vs ≡ asks_for (paired_request text count types vs) (replied rows)
+asks-so rows text count types vs = asks-paired text count types vs (replied rows)
 
 -- nothing is left to do before it
-pub asks-clean : (text : List ℕ) (types : List PgType) (vs : List Value) → cleanup_of (asks_typed true text types vs) ≡ []
-asks-clean text types vs = ap (λ (d : Dialogue RowsGiven). cleanup_of d) (asks-so true text types vs) ∙ clean (paired_request text types vs)
+pub asks-clean : (text : List ℕ) (count : ℕ) (types : List PgType) (vs : Params) → cleanup_of (asks_typed true text count types vs) ≡ []
+asks-clean text count types vs = ap (λ (d : Dialogue RowsGiven). cleanup_of d) (asks-so true text count types vs) ∙ clean (paired_request text count types vs)
   where
     clean : (request : Result (List ℕ) Error) → cleanup_of (asks_for request (replied true)) ≡ []
     clean (Ok part) = refl
@@ -82,28 +82,37 @@ is-so request (Ok part) h = sym h
 is-so request (Err e) h = inl (sym h)
 
 -- there aren't as many values as types
-pub other-number : (text : List ℕ) (types : List PgType) (vs : List Value) → (length vs ≡ length types → ⊥) → IsRequest (paired_request text types vs) (Err (Parameters (length vs) (length types)))
-other-number text types vs h =
-    let apart : (length vs == length types) ≡ false = other-than (length vs) (length types) h in
-    inl (ap (λ (b : Bool). if b then typed_request text types vs else (let r : Result (List ℕ) Error = Err (Parameters (length vs) (length types)) in r)) apart)
+other-number : (text : List ℕ) (count : ℕ) (types : List PgType) (vs : Params) → (vs.count ≡ count → ⊥) → IsRequest (paired_request text count types vs) (Err (Parameters vs.count count))
+other-number text count types vs h =
+    let apart : (vs.count == count) ≡ false = other-than vs.count count h in
+    inl (ap (λ (b : Bool). if b then typed_request text types vs else (let r : Result (List ℕ) Error = Err (Parameters vs.count count) in r)) apart)
 
 -- there are
-pub same-number : (text : List ℕ) (types : List PgType) (vs : List Value) → length vs ≡ length types → (r : Result (List ℕ) Error) → r ≡ typed_request text types vs → IsRequest (paired_request text types vs) r
-same-number text types vs h r is =
-    let same : (length vs == length types) ≡ true = ap (λ (n : ℕ). n == length types) h ∙ equals-itself (length types) in
-    is-so (paired_request text types vs) r (is ∙ sym (ap (λ (b : Bool). if b then typed_request text types vs else (let r : Result (List ℕ) Error = Err (Parameters (length vs) (length types)) in r)) same))
+same-number : (text : List ℕ) (count : ℕ) (types : List PgType) (vs : Params) → vs.count ≡ count → (r : Result (List ℕ) Error) → r ≡ typed_request text types vs → IsRequest (paired_request text count types vs) r
+same-number text count types vs h r is =
+    let same : (vs.count == count) ≡ true = ap (λ (n : ℕ). n == count) h ∙ equals-itself count in
+    is-so (paired_request text count types vs) r (is ∙ sym (ap (λ (b : Bool). if b then typed_request text types vs else (let r : Result (List ℕ) Error = Err (Parameters vs.count count) in r)) same))
 
-module _ {D : Type 0} (becomes : D → List Event → D → Type 0) (stamp : Stamp) (a : D) (text : List ℕ) (types : List PgType) (vs : List Value) where
+-- the same of numbers that were counted
+pub other-given : (text : List ℕ) (count : ℕ) (types : List PgType) (vs : Params) (given many : ℕ) → given ≡ vs.count → many ≡ count → (given ≡ many → ⊥) → IsRequest (paired_request text count types vs) (Err (Parameters given many))
+other-given text count types vs given many is same h =
+    subst (λ (n : ℕ). IsRequest (paired_request text count types vs) (Err (Parameters n many))) (sym is)
+    (subst (λ (m : ℕ). IsRequest (paired_request text count types vs) (Err (Parameters vs.count m))) (sym same) (other-number text count types vs (λ e. h (is ∙ e ∙ sym same))))
+
+pub same-given : (text : List ℕ) (count : ℕ) (types : List PgType) (vs : Params) (given many : ℕ) → given ≡ vs.count → many ≡ count → given ≡ many → (r : Result (List ℕ) Error) → r ≡ typed_request text types vs → IsRequest (paired_request text count types vs) r
+same-given text count types vs given many is same h r e = same-number text count types vs (sym is ∙ h ∙ same) r e
+
+module _ {D : Type 0} (becomes : D → List Event → D → Type 0) (stamp : Stamp) (a : D) (text : List ℕ) (count : ℕ) (types : List PgType) (vs : Params) where
   -- where it is asked
   abbrev pub at-begin : (rows : Bool) → Place (Asked rows)
-  at-begin rows = record { dialogue = asks_typed rows text types vs; reads = 0 }
+  at-begin rows = record { dialogue = asks_typed rows text count types vs; reads = 0 }
 
   -- it is the request
-  asked : (rows : Bool) (r : Result (List ℕ) Error) → paired_request text types vs ≡ r → asks_typed rows text types vs ≡ asks_for r (replied rows)
-  asked rows r is = asks-so rows text types vs ∙ ap (λ (r : Result (List ℕ) Error). asks_for r (replied rows)) is
+  asked : (rows : Bool) (r : Result (List ℕ) Error) → paired_request text count types vs ≡ r → asks_typed rows text count types vs ≡ asks_for r (replied rows)
+  asked rows r is = asks-so rows text count types vs ∙ ap (λ (r : Result (List ℕ) Error). asks_for r (replied rows)) is
 
   -- it is booked
-  pub booked : (b : D) (part : List ℕ) (id : ℕ) (s : Heads) → IsRequest (paired_request text types vs) (Ok part) → becomes a (call.Book stamp part false (Ok id) ∷ []) b → s ≡ record { id = id; batch = [] } → Books becomes stamp a at-begin b (Ok s)
+  pub booked : (b : D) (part : List ℕ) (id : ℕ) (s : Heads) → IsRequest (paired_request text count types vs) (Ok part) → becomes a (call.Book stamp part false (Ok id) ∷ []) b → s ≡ record { id = id; batch = [] } → Books becomes stamp a at-begin b (Ok s)
   booked b part id s is ev same =
       subst (λ (x : Heads). Books becomes stamp a at-begin b (Ok x)) (sym same) (
         λ rows rest. record {
@@ -116,7 +125,7 @@ module _ {D : Type 0} (becomes : D → List Event → D → Type 0) (stamp : Sta
       )
 
   -- the desk refused it
-  pub not-booked : (b : D) (part : List ℕ) (fault : DeskFault) (e : Error) → IsRequest (paired_request text types vs) (Ok part) → becomes a (call.Book stamp part false (Err fault) ∷ []) b → e ≡ of_fault fault → (rows : Bool) → GoesToAnswer becomes stamp a (at-begin rows) b (Err e)
+  pub not-booked : (b : D) (part : List ℕ) (fault : DeskFault) (e : Error) → IsRequest (paired_request text count types vs) (Ok part) → becomes a (call.Book stamp part false (Err fault) ∷ []) b → e ≡ of_fault fault → (rows : Bool) → GoesToAnswer becomes stamp a (at-begin rows) b (Err e)
   not-booked b part fault e is ev same rows =
       record {
         last = record { dialogue = Answer (Err (of_fault fault)); reads = 0 };
@@ -129,7 +138,7 @@ module _ {D : Type 0} (becomes : D → List Event → D → Type 0) (stamp : Sta
       }
 
   -- it can't be sent
-  pub not-written : ((a : D) → becomes a [] a) → (e : Error) → IsRequest (paired_request text types vs) (Err e) → (rows : Bool) → GoesToAnswer becomes stamp a (at-begin rows) a (Err e)
+  pub not-written : ((a : D) → becomes a [] a) → (e : Error) → IsRequest (paired_request text count types vs) (Err e) → (rows : Bool) → GoesToAnswer becomes stamp a (at-begin rows) a (Err e)
   not-written stays e (inl is) rows = record {
     last = at-begin rows;
     goes = record { events = []; became = stays a; walked = (refl, refl) };

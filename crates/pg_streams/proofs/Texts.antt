@@ -1,7 +1,7 @@
 -- A statement that is queried and closed begins with a request, or is refused.
 use Rattle.std.proofs.Common.{◌≡◌, ℕ, false, List, [], Option, Some, None, Result, Ok, Err, refl}
 use Rattle.pg_spec.specs.RawMessages.{RawMessage}
-use Rattle.pg_types.specs.declared.value.Value.{Value}
+use Rattle.pg_execute.specs.Parameters.{Params}
 use Rattle.pg_types.specs.declared.error.Error.{Error}
 use Rattle.pg_desk.specs.declared.statement.Described.{Described}
 use Rattle.pg_query.specs.Dialogue.{Dialogue, feed_one}
@@ -24,9 +24,9 @@ fresh-closed (Some part) (Err e) d = refl
 fresh-closed None (Err e) d = refl
 
 -- messages that came before count for nothing
-pub queried-deaf : (vs : List Value) (s : Described) (m : RawMessage) → feed_one m (queried_and_closed vs s) ≡ queried_and_closed vs s
+pub queried-deaf : (vs : Params) (s : Described) (m : RawMessage) → feed_one m (queried_and_closed vs s) ≡ queried_and_closed vs s
 queried-deaf vs s m = deaf-closed (close_part s.name) (execute_request s vs) (reads false (rows_from s false None)) m
 
 -- nothing is left to do before it
-pub queried-fresh : (vs : List Value) (s : Described) → cleanup_of (queried_and_closed vs s) ≡ []
+pub queried-fresh : (vs : Params) (s : Described) → cleanup_of (queried_and_closed vs s) ≡ []
 queried-fresh vs s = fresh-closed (close_part s.name) (execute_request s vs) (reads false (rows_from s false None))

@@ -12,6 +12,7 @@ pub mod SimpleStreams
 pub mod PartTelling
 pub mod PartLaws
 pub mod SimpleStates
+pub mod PartsReadings
 pub mod States
 pub mod TypedRaw
 pub mod Taking
@@ -19,3 +20,4 @@ pub mod Heads
 pub mod Known
 pub mod Rests
 pub mod TypedRawStates
+pub mod PortalStreams

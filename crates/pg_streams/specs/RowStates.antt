@@ -11,7 +11,7 @@ use Rattle.pg_query.specs.Meaning.{Place}
 use Rattle.pg_execute.specs.Executes.{closed_by}
 use Rattle.pg_desk.specs.declared.column.Column.{Column}
 use Rattle.pg_rows.specs.Rows.{RowOf}
-use Rattle.pg_types.specs.declared.value.Value.{Value}
+use Rattle.pg_execute.specs.Parameters.{Params}
 use Rattle.pg_streams.specs.Brought.{brought_if, joined}
 use Rattle.pg_streams.specs.Collecting.{EndFirst, NoItemFirst, family_behind, family_of, given_up, place_of, untold}
 use Rattle.pg_streams.specs.Families.{AnswersFor, Family, GoesFor, PausesFor}
@@ -24,9 +24,10 @@ use Rattle.pg_streams.specs.declared.giving.Told.TheVariants.{Item, Ends, Fails}
 use Rattle.pg_streams.specs.declared.items.Items.{Items}
 use Rattle.pg_streams.specs.declared.query_raw.Handed.{Handed}
 use Rattle.pg_streams.specs.declared.query_raw.Handed.TheVariants.{Borrowed, Owned}
+use Rattle.pg_streams.specs.declared.query_raw.StatementAsks.{StatementAsks}
 use Rattle.pg_streams.specs.declared.query_raw.StatementRawState.{StatementRawState}
 use Rattle.pg_streams.specs.declared.query_raw.Stage.{Stage}
-use Rattle.pg_streams.specs.declared.query_raw.Stage.TheVariants.{New, Opens, Done}
+use Rattle.pg_streams.specs.declared.query_raw.Stage.TheVariants.{Opens, Done}
 use Rattle.pg_streams.specs.declared.row_giving.RowGiving.{RowGiving}
 use Rattle.pg_streams.specs.declared.row_giving.RowOpening.{RowOpening}
 use Rattle.pg_streams.specs.declared.row_stream.RowStream.{RowStream}
@@ -132,7 +133,7 @@ abbrev pub asked_first : Statement → List RawMessage → First (Unit {0}) (Uni
 asked_first s more = told_only (first_told opening_heard (record { statement = s; bound = false }) more)
 
 -- where one stands who executes it with these values, and closes it by this request, if there is one; a request of this number was read before
-abbrev pub asked : (close : Option (List ℕ)) → Statement → List Value → (reads : ℕ) → Family (Unit {0}) RowsGiven (Unit {0}) (Unit {0})
+abbrev pub asked : (close : Option (List ℕ)) → Statement → Params → (reads : ℕ) → Family (Unit {0}) RowsGiven (Unit {0}) (Unit {0})
 asked close s vs n = alone (record { dialogue = closed_by close (query_raw s vs); reads = n }) (asked_first s)
 
 -- ---- its state
@@ -144,19 +145,16 @@ handed (Owned s) = s
 
 -- where one stands at a stage
 abbrev pub stage_place : Stage → Place RowsGiven
-stage_place (New s values) = record { dialogue = query_raw (handed s) values.now; reads = 0 }
 stage_place (Opens items) = place_of opening_told items
 stage_place Done = record { dialogue = Answer (Err Closed); reads = 0 }
 
 -- what is told first at a stage
 abbrev pub stage_first : Stage → List RawMessage → First (Unit {0}) (Unit {0})
-stage_first (New s values) = asked_first (handed s)
 stage_first (Opens items) = opening_first items
 stage_first Done = λ more. record { told = None; giving = tt; left = more }
 
 -- the statement of a stage, until it answered
 abbrev pub stage_statement : Stage → Option Statement
-stage_statement (New s values) = Some (handed s)
 stage_statement (Opens items) = Some items.giving.statement
 stage_statement Done = None
 
@@ -168,22 +166,41 @@ pub record IsOpening (items : Items RowOpening) : Type 0 where
 
 -- it hasn't answered at a stage
 abbrev pub IsLiveAt : Stage → Type 0
-IsLiveAt (New s values) = Unit {0}
 IsLiveAt (Opens items) = IsOpening items
 IsLiveAt Done = ⊥
 
--- where a state stands
-abbrev pub state_place : StatementRawState → Place RowsGiven
-state_place s = stage_place s.stage
+-- where one stands: he asks with these values, or reads the reply
+abbrev pub place_so : {P : Type 0} → (P → Params) → Option (StatementAsks P) → Stage → Place RowsGiven
+place_so of (Some a) stage = record { dialogue = query_raw (handed a.statement) (of a.values); reads = 0 }
+place_so of None stage = stage_place stage
 
 -- what is told first
-abbrev pub state_first : StatementRawState → List RawMessage → First (Unit {0}) (Unit {0})
-state_first s = stage_first s.stage
+abbrev pub first_so : {P : Type 0} → Option (StatementAsks P) → Stage → List RawMessage → First (Unit {0}) (Unit {0})
+first_so (Some a) stage = asked_first (handed a.statement)
+first_so None stage = stage_first stage
 
--- its statement, until it answered
-abbrev pub state_statement : StatementRawState → Option Statement
-state_statement s = stage_statement s.stage
+-- the statement, until it answered
+abbrev pub statement_so : {P : Type 0} → Option (StatementAsks P) → Stage → Option Statement
+statement_so (Some a) stage = Some (handed a.statement)
+statement_so None stage = stage_statement stage
 
 -- it hasn't answered
-abbrev pub IsLiveState : StatementRawState → Type 0
-IsLiveState s = IsLiveAt s.stage
+abbrev pub IsLiveSo : {P : Type 0} → Option (StatementAsks P) → Stage → Type 0
+IsLiveSo (Some a) stage = Unit {0}
+IsLiveSo None stage = IsLiveAt stage
+
+-- where a state stands
+abbrev pub state_place : {P : Type 0} → (P → Params) → StatementRawState P → Place RowsGiven
+state_place of s = place_so of s.asks s.reply.stage
+
+-- what is told first
+abbrev pub state_first : {P : Type 0} → StatementRawState P → List RawMessage → First (Unit {0}) (Unit {0})
+state_first s = first_so s.asks s.reply.stage
+
+-- its statement, until it answered
+abbrev pub state_statement : {P : Type 0} → StatementRawState P → Option Statement
+state_statement s = statement_so s.asks s.reply.stage
+
+-- it hasn't answered
+abbrev pub IsLiveState : {P : Type 0} → StatementRawState P → Type 0
+IsLiveState s = IsLiveSo s.asks s.reply.stage

@@ -1,7 +1,7 @@
 -- Rows that are given one by one: the same reply as that of a query (`Rows` of pg_execute; PostgreSQL documentation, "Extended Query").
 use Rattle.std.specs.Prelude.{ℕ, List, [], ◌∷◌, length, map, Bool, false, Option, Result, Ok}
 use Rattle.pg_spec.specs.RawMessages.{RawMessage}
-use Rattle.pg_types.specs.declared.value.Value.{Value}
+use Rattle.pg_execute.specs.Parameters.{Params}
 use Rattle.pg_types.specs.declared.error.Error.{Error}
 use Rattle.pg_desk.specs.declared.column.Column.{Column}
 use Rattle.pg_desk.specs.declared.statement.Described.{Described as Statement}
@@ -30,5 +30,5 @@ abbrev pub rows_from : Statement → (bound : Bool) → (affected : Option ℕ) 
 rows_from s bound affected = rows_read Any (length s.columns) (rows_given s) (record { bound = bound; rows = []; affected = affected })
 
 -- query_raw: what one asks and answers who collects the rows
-abbrev pub query_raw : Statement → List Value → Dialogue RowsGiven
+abbrev pub query_raw : Statement → Params → Dialogue RowsGiven
 query_raw s vs = executes false (queried Any rows_given s) s vs

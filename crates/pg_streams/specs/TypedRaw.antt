@@ -4,7 +4,7 @@ use Rattle.std.specs.Prelude.{ℕ, List, [], ◌∷◌, length, map, Bool, true,
 use Rattle.pg_spec.specs.Bodies.{Field}
 use Rattle.pg_spec.specs.RawMessages.{RawMessage}
 use Rattle.pg_types.specs.declared.pg_type.PgType.{PgType}
-use Rattle.pg_types.specs.declared.value.Value.{Value}
+use Rattle.pg_execute.specs.Parameters.{Params}
 use Rattle.pg_types.specs.declared.error.Error.{Error}
 use Rattle.pg_desk.specs.declared.statement.Described.{Described as Statement}
 use Rattle.pg_query.specs.declared.desk_call.Cleanup.TheVariants.{Release}
@@ -40,11 +40,11 @@ abbrev pub behind_head_made : {A : Type 0} → (Statement → Got → Result A E
 behind_head_made makes find how fields = behind_head_by find (λ types. reads false (typed_made makes how fields types)) (λ taken types. Answer (told_or (typed_made makes how fields types taken))) fields
 
 -- a typed query, of whose rows this is made
-abbrev pub query_typed_made : {A : Type 0} → (Statement → Got → Result A Error) → (List ℕ → Dialogue (List PgType)) → HowMany → (text : List ℕ) → List PgType → List Value → Dialogue A
+abbrev pub query_typed_made : {A : Type 0} → (Statement → Got → Result A Error) → (List ℕ → Dialogue (List PgType)) → HowMany → (text : List ℕ) → List PgType → Params → Dialogue A
 query_typed_made makes find how text types vs = asks_for (typed_request text types vs) (then_do (reads false head) (behind_head_made makes find how))
 
 -- query_typed_raw: what one asks and answers who collects the rows
-abbrev pub query_typed_raw : (List ℕ → Dialogue (List PgType)) → (text : List ℕ) → List PgType → List Value → Dialogue RowsGiven
+abbrev pub query_typed_raw : (List ℕ → Dialogue (List PgType)) → (text : List ℕ) → List PgType → Params → Dialogue RowsGiven
 query_typed_raw find text types vs = query_typed_made rows_given find Any text types vs
 
 -- ---- what is found out of the reply
@@ -63,7 +63,7 @@ abbrev pub finds_behind_head : (List ℕ → Dialogue (List PgType)) → List Fi
 finds_behind_head find fields = behind_head_by find (λ types. Answer (Ok (found_rows false fields types))) (λ taken types. Answer (Ok (found_rows true fields types))) fields
 
 -- so he asks, and is answered that
-abbrev pub finds_rows : (List ℕ → Dialogue (List PgType)) → (text : List ℕ) → List PgType → List Value → Dialogue FoundRows
+abbrev pub finds_rows : (List ℕ → Dialogue (List PgType)) → (text : List ℕ) → List PgType → Params → Dialogue FoundRows
 finds_rows find text types vs = asks_for (typed_request text types vs) (then_do (reads false head) (finds_behind_head find))
 
 -- what one has who collects the rows, and who only finds out what they are

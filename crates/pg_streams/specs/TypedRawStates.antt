@@ -7,7 +7,7 @@ use Rattle.pg_spec.specs.RawMessages.{RawMessage}
 use Rattle.pg_spec.specs.declared.stamps.Stamp.{Stamp}
 use Rattle.pg_desk.specs.declared.event.Event.{Event}
 use Rattle.pg_types.specs.declared.pg_type.PgType.{PgType}
-use Rattle.pg_types.specs.declared.value.Value.{Value}
+use Rattle.pg_execute.specs.Parameters.{Params}
 use Rattle.pg_types.specs.declared.error.Error.{Error}
 use Rattle.pg_types.specs.declared.error.Error.TheVariants.{Closed, OutOfMemory}
 use Rattle.pg_query.specs.Dialogue.{Dialogue, Answer, feed}
@@ -17,6 +17,10 @@ use Rattle.pg_core.specs.Sequences.{then_do}
 use Rattle.pg_core.specs.Lookups.{find_all}
 use Rattle.pg_core.specs.Composing.{asks_for}
 use Rattle.pg_execute.specs.Typed.{all_known, has_ended, head, told_or, typed_request, unnamed}
+use Rattle.pg_types.specs.Texts.{sql_text}
+use Rattle.pg_execute.specs.Types.{types_in}
+use Rattle.pg_execute.specs.declared.types.Types.{Types}
+use Rattle.pg_execute.specs.declared.types.Types.TheVariants.{Given, BuiltIn, Owned}
 use Rattle.pg_execute.specs.declared.how_many.HowMany.TheVariants.{Any}
 use Rattle.pg_streams.specs.Brought.{collected, joined}
 use Rattle.pg_streams.specs.Families.{GoesFor, PausesFor}
@@ -35,7 +39,8 @@ use Rattle.pg_streams.specs.declared.finding.FindState.{FindState}
 use Rattle.pg_streams.specs.declared.heads.Heads.{Heads}
 use Rattle.pg_streams.specs.declared.rests.Rest.{Rest}
 use Rattle.pg_streams.specs.declared.state.Stage.{Stage}
-use Rattle.pg_streams.specs.declared.state.Stage.TheVariants.{New, Reads, Takes, Finds, Done}
+use Rattle.pg_streams.specs.declared.state.Stage.TheVariants.{Reads, Takes, Finds, Done}
+use Rattle.pg_streams.specs.declared.state.TypedAsks.{TypedAsks}
 
 -- ---- what is told first
 
@@ -103,12 +108,12 @@ found_place rows fields ms p = record { dialogue = then_do p.dialogue (had_of ro
 -- ---- a stage
 
 -- what is asked with these values for a text: of one who reads the rows it is `query_typed_raw`, and of one who only finds out what they are `finds_rows`
-abbrev pub asks_typed : (rows : Bool) → (text : List ℕ) → List PgType → List Value → Dialogue (Asked rows)
-asks_typed rows text types vs = paired (length types) vs (asks_for (typed_request text types vs) (then_do (reads false head) (behind_columns rows)))
+abbrev pub asks_typed : (rows : Bool) → (text : List ℕ) → (count : ℕ) → List PgType → Params → Dialogue (Asked rows)
+asks_typed rows text count types vs = paired count vs (asks_for (typed_request text types vs) (then_do (reads false head) (behind_columns rows)))
 
 -- the request, or why it is refused: the numbers of values and types come first
-abbrev pub paired_request : (text : List ℕ) → List PgType → List Value → Result (List ℕ) Error
-paired_request text types vs = if length vs == length types then typed_request text types vs else Err (Parameters (length vs) (length types))
+abbrev pub paired_request : (text : List ℕ) → (count : ℕ) → List PgType → Params → Result (List ℕ) Error
+paired_request text count types vs = if vs.count == count then typed_request text types vs else Err (Parameters vs.count count)
 
 -- it was written, or it is refused; want of memory may come anywhere
 abbrev pub IsRequest : Result (List ℕ) Error → Result (List ℕ) Error → Type 0
@@ -117,7 +122,6 @@ IsRequest request (Err e) = (request ≡ Err e) ⊎ (e ≡ OutOfMemory)
 
 -- where one stands at a stage
 abbrev pub stage_place : (rows : Bool) → Stage → Place (Asked rows)
-stage_place rows (New text types values) = record { dialogue = asks_typed rows text.now types.now values.now; reads = 0 }
 stage_place rows (Reads s) = (heads rows s).place (behind_columns rows)
 stage_place rows (Takes columns s) = (rests rows s).place (behind_rest rows columns)
 stage_place rows (Finds columns batches s) = found_place rows columns (joined batches.items) (place_of_finding s)
@@ -134,7 +138,6 @@ rest_told first false = opens_first false
 
 -- what is told first at a stage, by whether the rest is taken before
 abbrev pub stage_first : Stage → (rest : Bool) → List RawMessage → First (Unit {0}) (Unit {0})
-stage_first (New text types values) = opens_first
 stage_first (Reads s) = λ rest more. opens_first rest (s.batch ++ more)
 stage_first (Takes columns s) = rest_told (rests_first (came s))
 stage_first (Finds columns batches s) = rest_told (found_first (joined batches.items))
@@ -147,11 +150,33 @@ pub record IsTaking (s : Rest) : Type 0 where
 
 -- it hasn't answered at a stage
 abbrev pub IsLiveAt : Stage → Type 0
-IsLiveAt (New text types values) = Unit {0}
 IsLiveAt (Reads s) = s.batch ≡ []
 IsLiveAt (Takes columns s) = IsTaking s
 IsLiveAt (Finds columns batches s) = IsFinding s
 IsLiveAt Done = ⊥
+
+-- ---- a state
+
+-- how many types were given
+abbrev pub types_count : Types → ℕ
+types_count (Given types) = length types.now
+types_count (BuiltIn oids) = length oids.now
+types_count (Owned types) = length types
+
+-- where one stands: he asks with these values, or reads the reply
+abbrev pub place_so : {P : Type 0} → (P → Params) → (rows : Bool) → Option (TypedAsks P) → Stage → Place (Asked rows)
+place_so of rows (Some a) stage = record { dialogue = asks_typed rows (sql_text a.text) (types_count a.types) (types_in a.types) (of a.values); reads = 0 }
+place_so of rows None stage = stage_place rows stage
+
+-- what is told first, by whether the rest is taken before
+abbrev pub first_so : {P : Type 0} → Option (TypedAsks P) → Stage → (rest : Bool) → List RawMessage → First (Unit {0}) (Unit {0})
+first_so (Some a) stage = opens_first
+first_so None stage = stage_first stage
+
+-- it hasn't answered
+abbrev pub IsLiveSo : {P : Type 0} → Option (TypedAsks P) → Stage → Type 0
+IsLiveSo (Some a) stage = Unit {0}
+IsLiveSo None stage = IsLiveAt stage
 
 -- ---- what its calls say
 

@@ -120,7 +120,31 @@ impl SimpleGiving {
         }
     }
 
-    /// What a message shows.
+    /// What a message shows. A row shares the bytes of the message.
+    pub(crate) fn see_lent(
+        &mut self,
+        alloc: Global,
+        message: &Message,
+    ) -> Result<Told<SimpleQueryMessage>, AllocError>
+        ensures { IfOk result (λ told. Shows (simple_said self.old.columns (message_view message.now)) self.old (Some told) self.new) }
+    {
+        match message {
+            Message::CommandComplete(body) => Ok(self.complete(body)),
+            Message::EmptyQueryResponse => {
+                Ok(Told::Item(SimpleQueryMessage::CommandComplete(0)))
+            }
+            Message::RowDescription(body) => self.describe(alloc, body),
+            Message::DataRow(body) => match body.share() {
+                Ok(body) => self.row(body),
+                Err(_) => Err(AllocError),
+            },
+            Message::ReadyForQuery(_) => Ok(Told::Ends),
+            Message::ErrorResponse(body) => Ok(Told::Fails(server_error(alloc, body)?)),
+            _ => Ok(Told::Fails(Error::UnexpectedMessage)),
+        }
+    }
+
+    /// The same of a message that is handed over, whose row takes its bytes.
     fn see(
         &mut self,
         alloc: Global,
@@ -129,18 +153,11 @@ impl SimpleGiving {
         ensures { IfOk result (λ told. Shows (simple_said self.old.columns (message_view message)) self.old (Some told) self.new) }
     {
         match &message {
-            Message::CommandComplete(body) => Ok(self.complete(body)),
-            Message::EmptyQueryResponse => {
-                Ok(Told::Item(SimpleQueryMessage::CommandComplete(0)))
-            }
-            Message::RowDescription(body) => self.describe(alloc, body),
             Message::DataRow(_) => match message.row_body() {
                 Some(body) => self.row(body),
                 None => unreachable!(),
             },
-            Message::ReadyForQuery(_) => Ok(Told::Ends),
-            Message::ErrorResponse(body) => Ok(Told::Fails(server_error(alloc, body)?)),
-            _ => Ok(Told::Fails(Error::UnexpectedMessage)),
+            other => self.see_lent(alloc, other),
         }
     }
 }

@@ -1,6 +1,7 @@
 //! A simple query whose reply is given part by part.
 
 ghost use Rattle.std.specs.Prelude.{◌≡◌, None};
+ghost use Rattle.pg_types.specs.Texts.{sql_text};
 ghost use Rattle.pg_streams.specs.SimpleStreams.{IsFrameOf, simple_query_raw};
 
 use crate::opens::Opens;
@@ -10,11 +11,12 @@ use futures::task::Poll;
 use pg_desk::{Desk, Stamp};
 use pg_errors::{Cause, Error};
 use pg_query::error_of;
+use pg_types::Sql;
 use pg_wire::{FrameFault, query};
 use std::alloc::Global;
 
 /// The frame of a text, or the error of one that can't be sent.
-fn query_frame(alloc: Global, text: &str) -> Result<Bytes, Error>
+pub(crate) fn query_frame(alloc: Global, text: &str) -> Result<Bytes, Error>
     ensures { IsFrameOf text.now result }
 {
     let mut out = BytesMut::new(alloc);
@@ -32,16 +34,16 @@ fn query_frame(alloc: Global, text: &str) -> Result<Bytes, Error>
 #[derive(Drop)]
 pub struct SimpleQueryRawState<'a> {
     /// None once it was polled.
-    text: Option<&'a str>,
+    text: Option<Sql<'a>>,
 }
 
 impl<'a> SimpleQueryRawState<'a> {
     /// Makes the state of a simple query of this text. It takes no memory, and books nothing before its first poll. Encode is
     /// the answer exactly where the text holds a zero byte or is too long for its frame; nothing is booked then. Closed comes
     /// where the desk takes no requests any more.
-    pub fn new(text: &'a str) -> SimpleQueryRawState<'a>
+    pub fn new(text: Sql<'a>) -> SimpleQueryRawState<'a>
         ensures live { ⟦<SimpleQueryRawState<'a> as Opens>⟧.is_live result }
-        ensures asks { (⟦<SimpleQueryRawState<'a> as Opens>⟧.place result).dialogue ≡ simple_query_raw text.now }
+        ensures asks { (⟦<SimpleQueryRawState<'a> as Opens>⟧.place result).dialogue ≡ simple_query_raw (sql_text text.entry) }
         ensures first { ⟦<SimpleQueryRawState<'a> as Opens>⟧.first result ≡ (λ _ more. record { told = None; giving = tt; left = more }) }
     {
         SimpleQueryRawState { text: Some(text) }
@@ -51,6 +53,7 @@ impl<'a> SimpleQueryRawState<'a> {
 impl<'a> Opens for SimpleQueryRawState<'a> {
     ghost use Rattle.std.specs.Prelude as prelude;
     ghost use Rattle.std.specs.Prelude.{◌≡◌, None, Some, false, option_map};
+    ghost use Rattle.pg_types.specs.Texts.{sql_text};
     ghost use Rattle.pg_streams.specs.declared.simple_query_message.SimpleQueryMessage as part;
     ghost use Rattle.pg_streams.specs.Handing.{never_whole, nothing_to_find};
     ghost use Rattle.pg_streams.specs.SimpleStates.{IsNew, asks_text, parts_opened, parts_over, parts_place};
@@ -59,7 +62,7 @@ impl<'a> Opens for SimpleQueryRawState<'a> {
 
     ghost Whole = { prelude.List part.SimpleQueryMessage };
 
-    ghost place = { λ s. record { dialogue = asks_text (option_map (λ t. t.now) s.text); reads = 0 } };
+    ghost place = { λ s. record { dialogue = asks_text (option_map sql_text s.text); reads = 0 } };
 
     ghost Known = { Unit {0} };
 
@@ -67,7 +70,7 @@ impl<'a> Opens for SimpleQueryRawState<'a> {
 
     ghost known = { λ _. tt };
 
-    ghost asks = { λ s _. asks_text (option_map (λ t. t.now) s.text) };
+    ghost asks = { λ s _. asks_text (option_map sql_text s.text) };
 
     ghost finding = { λ _. nothing_to_find };
 
@@ -92,7 +95,9 @@ impl<'a> Opens for SimpleQueryRawState<'a> {
         let Some(text) = self.text.take() else {
             return Poll::Ready(Err(Error::Closed));
         };
-        let frame = match query_frame(alloc, text) {
+        let frame = query_frame(alloc, text.as_str());
+        drop(text);
+        let frame = match frame {
             Ok(frame) => frame,
             Err(error) => return Poll::Ready(Err(error)),
         };

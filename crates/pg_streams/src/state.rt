@@ -1,15 +1,20 @@
 //! A text is queried with values of given types, and its rows are given one by one.
 
-ghost use Rattle.std.specs.Prelude.{◌≡◌, [], length, true, MatchResult};
+ghost use Rattle.std.specs.Prelude.{◌≡◌, ℕ, List, [], true, IfOk, MatchResult};
 ghost use Rattle.pg_core.specs.Lookups.{find_all};
-ghost use Rattle.pg_query.specs.Meaning.{MatchPoll};
+ghost use Rattle.pg_query.specs.Meaning.{GivesUp, MatchPoll};
+ghost use Rattle.pg_types.specs.declared.pg_type.PgType.{PgType};
+ghost use Rattle.pg_types.specs.Texts.{sql_text};
+ghost use Rattle.pg_execute.specs.Parameters as parameters;
+ghost use Rattle.pg_execute.specs.Parameters.{params};
+ghost use Rattle.pg_execute.specs.Types.{types_in};
 ghost use Rattle.pg_execute.specs.Typed.{has_ended};
 ghost use Rattle.pg_streams.specs.Brought.{joined};
 ghost use Rattle.pg_streams.specs.Heads as spec;
 ghost use Rattle.pg_streams.specs.Known.{stands_behind};
 ghost use Rattle.pg_streams.specs.Rests.{IsRest, came, takes_so};
 ghost use Rattle.pg_streams.specs.Rests as resting;
-ghost use Rattle.pg_streams.specs.TypedRawStates.{Books, Finishes, FindsOn, GivesOn, IsFinding, IsRequest, Polls, ReadsOn, TakesOn, asks_typed, behind_columns, behind_rest, columns_first, found_place, opens_first, paired_request, place_of_finding, rests_first};
+ghost use Rattle.pg_streams.specs.TypedRawStates.{Books, Finishes, FindsOn, GivesOn, IsFinding, IsLiveAt, IsRequest, Polls, ReadsOn, TakesOn, asks_typed, behind_columns, behind_rest, columns_first, found_place, opens_first, paired_request, place_of_finding, rests_first, stage_first, stage_place, types_count};
 ghost use Rattle.pg_streams.specs.TypedRaw.{FoundRows, finds_rows, oids_of, query_typed_raw};
 ghost use Rattle.pg_states.specs.Paired.{paired};
 
@@ -25,59 +30,85 @@ use futures::task::Poll;
 use pg_core::NewColumn;
 use pg_desk::{Desk, Stamp};
 use pg_errors::Error;
-use pg_execute::typed_request;
+use pg_execute::{Types, request_under};
 use pg_query::{Polled, error_of};
-use pg_types::{List, Type, Value};
+use pg_types::{List, Params, Sql, Type};
 use pg_wire::BackendMessages;
 use std::alloc::Global;
 use std::collections::VecDeque;
 use std::mem;
 
-/// How far such a query has come.
+/// What is asked in the first poll.
 #[derive(Drop)]
-pub(crate) enum Stage<'a> {
-    /// Nothing was done yet.
-    New(&'a str, &'a [Type], &'a [Value]),
+pub(crate) struct TypedAsks<'a, P> {
+    text: Sql<'a>,
+    types: Types<'a>,
+    values: P,
+}
+
+/// How far the reply has come.
+#[derive(Drop)]
+pub(crate) enum Stage {
     /// The request was booked, and its columns haven't come.
     Reads(Heads),
     /// A type has to be looked up, and the rest of the reply hasn't come.
     Takes(List<NewColumn>, Rest),
     /// The rest was taken, and the types are found.
     Finds(List<NewColumn>, VecDeque<BackendMessages>, FindState),
-    /// It answered.
+    /// Nothing was asked, or it answered.
     Done,
 }
 
-/// The request, or why it is refused.
-fn request_of(alloc: Global, text: &str, types: &[Type], values: &[Value]) -> Result<Bytes, Error>
-    ensures { IsRequest (paired_request text.now types.now values.now) result }
+/// How many types were given.
+fn count_of(types: &Types) -> usize
+    ensures { result ≡ types_count types.now }
 {
-    if values.len() != types.len() {
-        return Err(Error::Parameters(values.len(), types.len()));
+    match types {
+        Types::Given(types) => types.len(),
+        Types::BuiltIn(oids) => oids.len(),
+        Types::Owned(types) => types.as_slice().len(),
     }
-    typed_request(alloc, text, types, values)?
 }
 
-/// Books the request of a text with these values.
+/// The request, or why it is refused.
+fn request_of<P: Params>(
+    alloc: Global,
+    text: &str,
+    types: &Types,
+    values: &P,
+) -> Result<Bytes, Error>
+    ensures { IsRequest (paired_request text.now (types_count types.now) (types_in types.now) (params (P.count values.now) (P.gives_at values.now))) result }
+{
+    let given = values.len();
+    let count = count_of(types);
+    if given != count {
+        return Err(Error::Parameters(given, count));
+    }
+    request_under(alloc, text, types, values)?
+}
+
+/// Books a request.
 fn ask<D: Desk>(
     alloc: Global,
     desk: &mut D,
     stamp: Stamp,
-    text: &str,
-    types: &[Type],
-    values: &[Value],
+    request: Result<Bytes, Error>,
 ) -> Result<Heads, Error>
-    ensures { Books D.becomes stamp desk.old (λ rows. record { dialogue = asks_typed rows text.now types.now values.now; reads = 0 }) desk.new result }
+    ensures books { (text : List ℕ) (count : ℕ) (types : List PgType) (vs : parameters.Params) → IsRequest (paired_request text count types vs) request →
+        Books D.becomes stamp desk.old (λ rows. record { dialogue = asks_typed rows text count types vs; reads = 0 }) desk.new result }
+    ensures empty { IfOk result (λ heads. heads.batch ≡ []) }
 {
-    let request = request_of(alloc, text, types, values)?;
-    match desk.book(alloc, stamp, request, false) {
-        Ok(id) => {
-            Ok(Heads {
-                id,
-                batch: BackendMessages::empty(),
-            })
-        }
-        Err(fault) => Err(error_of(fault)),
+    match request {
+        Ok(request) => match desk.book(alloc, stamp, request, false) {
+            Ok(id) => {
+                Ok(Heads {
+                    id,
+                    batch: BackendMessages::empty(),
+                })
+            }
+            Err(fault) => Err(error_of(fault)),
+        },
+        Err(error) => Err(error),
     }
 }
 
@@ -123,30 +154,47 @@ fn find_types(alloc: Global, columns: &[NewColumn]) -> Result<FindState, Error>
     }
 }
 
-/// The state that queries a text with values of given types, in one request, and whose stream of rows is the answer, once its columns
-/// and their types are known.
+/// The reply of a typed query, whose stream of rows is handed on.
 #[derive(Drop)]
-pub struct QueryTypedRawState<'a> {
-    stage: Stage<'a>,
+pub(crate) struct TypedReply {
+    stage: Stage,
 }
 
-impl<'a> QueryTypedRawState<'a> {
-    /// Makes the state that queries this text with these values, each of the type at its place. It takes no memory, and books nothing
-    /// before its first poll. Parameters comes where the values aren't as many as the types, Parse where the text can't be sent or there are more than 65,535 types, then
-    /// ToSql at the first value that can't stand under its type, then Encode where the other frames can't be written; nothing is
-    /// booked then. Behind that Db comes at an error of the server, Parse at a message that can't be read, UnexpectedMessage at one
-    /// out of place, Closed where the desk takes no requests any more, or gives no more of the reply. Types of columns that aren't
-    /// known are looked up in the server's catalog, once the rest of the reply was taken; where a lookup fails, its error is the answer,
-    /// and what was taken is lost. Else the stream gives the rows in front of an error, and then that.
-    pub fn new(text: &'a str, types: &'a [Type], values: &'a [Value]) -> QueryTypedRawState<'a>
-        ensures live { ⟦<QueryTypedRawState<'a> as Opens>⟧.is_live result }
-        ensures asks { (⟦<QueryTypedRawState<'a> as Opens>⟧.place result).dialogue ≡ paired (length types.now) values.now (query_typed_raw find_all text.now types.now values.now) }
-        ensures finds { (⟦<QueryTypedRawState<'a> as Opens>⟧.finding result).dialogue ≡ paired (length types.now) values.now (finds_rows find_all text.now types.now values.now) }
-        ensures stands { ⟦<QueryTypedRawState<'a> as Opens>⟧.asks result ≡ (λ _. (⟦<QueryTypedRawState<'a> as Opens>⟧.place result).dialogue) }
-        ensures first { ⟦<QueryTypedRawState<'a> as Opens>⟧.first result ≡ (λ (k : FoundRows). opens_first k.taken) }
+impl TypedReply {
+    /// Books the request, and reads on to the columns.
+    fn begin<D: Desk>(
+        &mut self,
+        alloc: Global,
+        desk: &mut D,
+        stamp: Stamp,
+        request: Result<Bytes, Error>,
+    ) -> Poll<Result<RowStream, Error>>
+        ensures { (text : List ℕ) (count : ℕ) (types : List PgType) (vs : parameters.Params) → IsRequest (paired_request text count types vs) request →
+            Polls D.becomes stamp desk.old (λ rows. record { dialogue = asks_typed rows text count types vs; reads = 0 }) opens_first desk.new self.new.stage result }
     {
-        QueryTypedRawState {
-            stage: Stage::New(text, types, values),
+        match ask(alloc, desk, stamp, request) {
+            Ok(request) => self.read(alloc, desk, stamp, request),
+            Err(error) => Poll::Ready(Err(error)),
+        }
+    }
+
+    /// Goes on with the reply.
+    fn go_on<D: Desk>(
+        &mut self,
+        alloc: Global,
+        desk: &mut D,
+        stamp: Stamp,
+    ) -> Poll<Result<RowStream, Error>>
+        requires { IsLiveAt self.old.stage }
+        ensures { Polls D.becomes stamp desk.old (λ rows. stage_place rows self.old.stage) (stage_first self.old.stage) desk.new self.new.stage result }
+    {
+        match mem::replace(&mut self.stage, Stage::Done) {
+            Stage::Reads(request) => self.read(alloc, desk, stamp, request),
+            Stage::Takes(columns, rest) => self.take(alloc, desk, stamp, columns, rest),
+            Stage::Finds(columns, batches, state) => {
+                self.find(alloc, desk, stamp, columns, batches, state)
+            }
+            Stage::Done => Poll::Ready(Err(Error::Closed)),
         }
     }
 
@@ -283,20 +331,70 @@ impl<'a> QueryTypedRawState<'a> {
             Poll::Ready(Err(error)) => Poll::Ready(Err(error)),
         }
     }
+
+    /// Ends it without an answer, and does what is left to do.
+    fn hang_up<D: Desk>(self, alloc: Global, desk: &mut D, stamp: Stamp) -> Result<(), Error>
+        requires { IsLiveAt self.stage }
+        ensures { GivesUp D.becomes stamp desk.old (stage_place true self.stage) desk.new result }
+    {
+        let TypedReply { stage } = self;
+        match stage {
+            Stage::Reads(request) => give_up(desk, request.id),
+            Stage::Takes(_, rest) => give_up(desk, rest.id),
+            Stage::Finds(_, _, state) => state.hang_up(alloc, desk, stamp),
+            Stage::Done => Ok(()),
+        }
+    }
 }
 
-impl<'a> Opens for QueryTypedRawState<'a> {
+/// The state that queries a text with values of given types, in one request, and whose stream of rows is the answer, once its columns
+/// and their types are known.
+#[derive(Drop)]
+pub struct QueryTypedRawState<'a, P> {
+    /// None once it was asked.
+    asks: Option<TypedAsks<'a, P>>,
+    reply: TypedReply,
+}
+
+impl<'a, P: Params + Drop> QueryTypedRawState<'a, P> {
+    /// Makes the state that queries this text with these values, each of the type at its place. It takes no memory, and books nothing
+    /// before its first poll. Parameters comes where the values aren't as many as the types, Parse where the text can't be sent or there are more than 65,535 types, then
+    /// ToSql at the first value that can't stand under its type, then Encode where the other frames can't be written; nothing is
+    /// booked then. Behind that Db comes at an error of the server, Parse at a message that can't be read, UnexpectedMessage at one
+    /// out of place, Closed where the desk takes no requests any more, or gives no more of the reply. Types of columns that aren't
+    /// known are looked up in the server's catalog, once the rest of the reply was taken; where a lookup fails, its error is the answer,
+    /// and what was taken is lost. Else the stream gives the rows in front of an error, and then that.
+    pub fn new(text: Sql<'a>, types: Types<'a>, values: P) -> QueryTypedRawState<'a, P>
+        ensures live { ⟦<QueryTypedRawState<'a, P> as Opens>⟧.is_live result }
+        ensures asks { (⟦<QueryTypedRawState<'a, P> as Opens>⟧.place result).dialogue ≡ paired (types_count types.entry) (params (P.count values) (P.gives_at values)) (query_typed_raw find_all (sql_text text.entry) (types_in types.entry) (params (P.count values) (P.gives_at values))) }
+        ensures finds { (⟦<QueryTypedRawState<'a, P> as Opens>⟧.finding result).dialogue ≡ paired (types_count types.entry) (params (P.count values) (P.gives_at values)) (finds_rows find_all (sql_text text.entry) (types_in types.entry) (params (P.count values) (P.gives_at values))) }
+        ensures stands { ⟦<QueryTypedRawState<'a, P> as Opens>⟧.asks result ≡ (λ _. (⟦<QueryTypedRawState<'a, P> as Opens>⟧.place result).dialogue) }
+        ensures first { ⟦<QueryTypedRawState<'a, P> as Opens>⟧.first result ≡ (λ (k : FoundRows). opens_first k.taken) }
+    {
+        QueryTypedRawState {
+            asks: Some(TypedAsks {
+                text,
+                types,
+                values,
+            }),
+            reply: TypedReply { stage: Stage::Done },
+        }
+    }
+}
+
+impl<'a, P: Params + Drop> Opens for QueryTypedRawState<'a, P> {
     ghost use Rattle.std.specs.Prelude.{◌≡◌, None, false, true};
+    ghost use Rattle.pg_execute.specs.Parameters.{params};
     ghost use Rattle.pg_streams.specs.RowStates.{IsBegun, rows_opened, rows_place};
     ghost use Rattle.pg_streams.specs.RowStreams as streams;
-    ghost use Rattle.pg_streams.specs.TypedRawStates.{IsLiveAt, known_of, stage_first, stage_place};
+    ghost use Rattle.pg_streams.specs.TypedRawStates.{IsLiveSo, first_so, known_of, place_so};
     ghost use Rattle.pg_streams.specs.TypedRaw as typed;
 
     type Stream = RowStream;
 
     ghost Whole = { streams.RowsGiven };
 
-    ghost place = { λ s. stage_place true s.stage };
+    ghost place = { λ s. place_so (λ p. params (P.count p) (P.gives_at p)) true s.asks s.reply.stage };
 
     ghost Known = { typed.FoundRows };
 
@@ -304,13 +402,13 @@ impl<'a> Opens for QueryTypedRawState<'a> {
 
     ghost known = { known_of };
 
-    ghost asks = { λ s _. (stage_place true s.stage).dialogue };
+    ghost asks = { λ s _. (place_so (λ p. params (P.count p) (P.gives_at p)) true s.asks s.reply.stage).dialogue };
 
-    ghost finding = { λ s. stage_place false s.stage };
+    ghost finding = { λ s. place_so (λ p. params (P.count p) (P.gives_at p)) false s.asks s.reply.stage };
 
     ghost is_whole = { λ k. k.taken ≡ true };
 
-    ghost first = { λ s k. stage_first s.stage k.taken };
+    ghost first = { λ s k. first_so s.asks s.reply.stage k.taken };
 
     ghost stands = { rows_place };
 
@@ -318,7 +416,7 @@ impl<'a> Opens for QueryTypedRawState<'a> {
 
     ghost is_open = { IsBegun };
 
-    ghost is_live = { λ s. IsLiveAt s.stage };
+    ghost is_live = { λ s. IsLiveSo s.asks s.reply.stage };
 
     fn poll<D: Desk>(
         &mut self,
@@ -326,31 +424,26 @@ impl<'a> Opens for QueryTypedRawState<'a> {
         desk: &mut D,
         stamp: Stamp,
     ) -> Poll<Result<RowStream, Error>> {
-        match mem::replace(&mut self.stage, Stage::Done) {
-            Stage::New(text, types, values) => {
-                match ask(alloc, desk, stamp, text, types, values) {
-                    Ok(request) => self.read(alloc, desk, stamp, request),
-                    Err(error) => Poll::Ready(Err(error)),
-                }
+        match self.asks.take() {
+            Some(asks) => {
+                let request = request_of(alloc, asks.text.as_str(), &asks.types, &asks.values);
+                drop(asks);
+                self.reply.begin(alloc, desk, stamp, request)
             }
-            Stage::Reads(request) => self.read(alloc, desk, stamp, request),
-            Stage::Takes(columns, rest) => self.take(alloc, desk, stamp, columns, rest),
-            Stage::Finds(columns, batches, state) => {
-                self.find(alloc, desk, stamp, columns, batches, state)
-            }
-            Stage::Done => Poll::Ready(Err(Error::Closed)),
+            None => self.reply.go_on(alloc, desk, stamp),
         }
     }
 
     fn hang_up<D: Desk>(self, alloc: Global, desk: &mut D, stamp: Stamp) -> Result<(), Error> {
-        let QueryTypedRawState { stage } = self;
-        match stage {
-            Stage::Reads(request) => give_up(desk, request.id),
-            Stage::Takes(_, rest) => give_up(desk, rest.id),
-            Stage::Finds(_, _, state) => state.hang_up(alloc, desk, stamp),
+        let QueryTypedRawState { asks, reply } = self;
+        match asks {
             // Nothing was asked yet.
-            Stage::New(_, _, _) => Ok(()),
-            Stage::Done => Ok(()),
+            Some(asks) => {
+                drop(asks);
+                drop(reply);
+                Ok(())
+            }
+            None => reply.hang_up(alloc, desk, stamp),
         }
     }
 }

@@ -1,8 +1,14 @@
-use Rattle.pg_streams.proofs.Streams.{other-number, same-number}
+use Rattle.pg_execute.specs.Parameters.{params}
+use Rattle.pg_execute.specs.Types.{types_in}
+use Rattle.pg_streams.specs.TypedRawStates.{types_count}
+use Rattle.pg_streams.proofs.Streams.{other-given, same-given}
 use Rattle.pg_streams.proofs.state.request_of.Goals as goal
 
-pub returns-then-values-types : goal.returns-then-values-types
-returns-then-values-types c = other-number c.args.text.now c.args.types.now c.args.values.now c.if-values-types.true
+pub returns-then-given-count : goal.returns-then-given-count
+returns-then-given-count g c =
+    other-given c.args.text.now (types_count c.args.types.now) (types_in c.args.types.now) (params (g.P.Params.count c.args.values.now) (g.P.Params.gives_at c.args.values.now)) c.len-given.result c.count_of-count.result c.len-given.ensures c.count_of-count.ensures c.if-given-count.true
 
 pub returns : goal.returns
-returns c = same-number c.args.text.now c.args.types.now c.args.values.now c.if-values-types.false c.in_ok-typed_request.field-0 c.in_ok-typed_request.ensures
+returns g c =
+    same-given c.args.text.now (types_count c.args.types.now) (types_in c.args.types.now) (params (g.P.Params.count c.args.values.now) (g.P.Params.gives_at c.args.values.now)) c.len-given.result c.count_of-count.result c.len-given.ensures c.count_of-count.ensures c.if-given-count.false
+    c.in_ok-request_under.field-0 c.in_ok-request_under.ensures

@@ -1,5 +1,5 @@
 use Rattle.std.proofs.Common.{Err}
-use Rattle.pg_calls.proofs.Made.{answers-made, pauses-made, told-or-lacks}
+use Rattle.pg_query.proofs.Made.{answers-made, pauses-made, told-or-lacks}
 use Rattle.pg_calls.proofs.answered.AnsweredPolled.poll.Goals as goal
 
 pub returns-in-Ready-Ok : goal.returns-in-Ready-Ok

@@ -1,4 +1,4 @@
-use Rattle.std.proofs.Common.{◌≡◌, true, None, ◌∙◌, ap}
+use Rattle.std.proofs.Common.{true, None, ◌∙◌, ap}
 use Rattle.pg_query.specs.Dialogue.{Dialogue, feed}
 use Rattle.pg_query.specs.Meaning.{Place}
 use Rattle.pg_streams.specs.Collecting.{place_of}

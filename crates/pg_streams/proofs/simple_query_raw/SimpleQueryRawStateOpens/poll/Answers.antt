@@ -1,4 +1,6 @@
-use Rattle.std.proofs.Common.{◌≡◌, List, ℕ, Option, None, option_map, false, sym, ◌∙◌, ap, Bor}
+use Rattle.std.proofs.Common.{◌≡◌, List, ℕ, Option, None, option_map, false, sym, ◌∙◌, ap}
+use Rattle.pg_types.specs.Texts.{sql_text}
+use Rattle.pg_types.specs.declared.sql.Sql.{Sql}
 use Rattle.pg_query.specs.Reading.{reads}
 use Rattle.pg_spec.specs.RawMessages.{RawMessage}
 use Rattle.pg_streams.specs.Hearing.{First, IsNoItem}
@@ -13,13 +15,13 @@ nothing-first more = record { told = None; giving = tt; left = more }
 
 pub returns-in-Err-clause-opens : goal.returns-in-Err-clause-opens
 returns-in-Err-clause-opens g c k said =
-    let d = asks_text (option_map (λ t. t.now) c.args.self.now.text) in
-    let is : d ≡ simple_query_raw c.in-Some.text.now = ap (λ (o : Option (Bor (List ℕ))). asks_text (option_map (λ t. t.now) o)) (sym c.take.ensures.value ∙ c.in-Some.is) in
-    text-refused g.D.Desk.becomes g.met.D.Desk.stays c.args.stamp c.args.desk.now d 0 c.in-Some.text.now c.in-Err.error nothing-first (λ first. IsNoItem first.told) is c.in-Err.ensures tt
+    let d = asks_text (option_map sql_text c.args.self.now.text) in
+    let is : d ≡ simple_query_raw c.as_str.result.now = ap (λ (o : Option Sql). asks_text (option_map sql_text o)) (sym c.take.ensures.value ∙ c.in-Some.is) ∙ ap (λ (t : List ℕ). simple_query_raw t) (sym c.as_str.ensures) in
+    text-refused g.D.Desk.becomes g.met.D.Desk.stays c.args.stamp c.args.desk.now d 0 c.as_str.result.now c.in-Err.error nothing-first (λ first. IsNoItem first.told) is (rw c.in-Err.is at c.query_frame-frame.ensures) tt
 
 pub returns-in-Err-book-clause-opens : goal.returns-in-Err-book-clause-opens
 returns-in-Err-book-clause-opens g c k said =
-    let d = asks_text (option_map (λ t. t.now) c.args.self.now.text) in
-    let is : d ≡ simple_query_raw c.in-Some.text.now = ap (λ (o : Option (Bor (List ℕ))). asks_text (option_map (λ t. t.now) o)) (sym c.take.ensures.value ∙ c.in-Some.is) in
+    let d = asks_text (option_map sql_text c.args.self.now.text) in
+    let is : d ≡ simple_query_raw c.as_str.result.now = ap (λ (o : Option Sql). asks_text (option_map sql_text o)) (sym c.take.ensures.value ∙ c.in-Some.is) ∙ ap (λ (t : List ℕ). simple_query_raw t) (sym c.as_str.ensures) in
     asks-refused g.D.Desk.becomes c.args.stamp c.args.desk.now c.book.new.self d (reads false (parts_from None)) 0 c.in-Ok.frame c.in-Err-book.fault c.error_of.result nothing-first (λ first. IsNoItem first.told)
-    (is ∙ ap asks_by c.in-Ok.ensures) c.in-Err-book.ensures.event c.error_of.ensures tt
+    (is ∙ ap asks_by (rw c.in-Ok.is at c.query_frame-frame.ensures)) c.in-Err-book.ensures.event c.error_of.ensures tt

@@ -1,44 +1,24 @@
-use Rattle.std.proofs.Common.{◌≡◌, [], true, Ok, refl, sym, subst}
+use Rattle.std.proofs.Common.{Option, true, Ok, sym, subst}
 use Rattle.pg_query.specs.Meaning.{GivesUp}
-use Rattle.pg_streams.proofs.Behind.{gives-up-whole}
-use Rattle.pg_streams.specs.Brought.{joined}
+use Rattle.pg_types.specs.Texts.{sql_text}
+use Rattle.pg_execute.specs.Parameters.{Params, params}
+use Rattle.pg_execute.specs.Types.{types_in}
+use Rattle.pg_streams.specs.TypedRawStates.{asks_typed, place_so, types_count}
+use Rattle.pg_streams.specs.declared.state.TypedAsks.{TypedAsks}
 use Rattle.pg_streams.proofs.Asking.{nothing-left}
-use Rattle.pg_streams.specs.Heads.{heads}
-use Rattle.pg_streams.specs.Rests.{rests}
-use Rattle.pg_streams.specs.TypedRawStates.{IsLiveAt, asks_typed, behind_columns, behind_rest, had_of, place_of_finding, stage_place}
-use Rattle.pg_streams.specs.declared.state.Stage.{Stage}
-use Rattle.pg_streams.proofs.Ending.{rest-left}
-use Rattle.pg_streams.proofs.Heading.{head-left}
-use Rattle.pg_streams.proofs.Polling.{gives-up, had-deaf}
 use Rattle.pg_streams.proofs.Streams.{asks-clean}
 use Rattle.pg_streams.proofs.state.QueryTypedRawStateOpens.hang_up.Goals as goal
 
-pub returns-in-Reads : goal.returns-in-Reads
-returns-in-Reads g c =
-    let request = c.in-Reads.request in
-    let empty : request.batch ≡ [] = subst (λ (stage : Stage). IsLiveAt stage) c.in-Reads.is c.requires in
-    subst (λ (stage : Stage). GivesUp g.D.Desk.becomes c.args.stamp c.args.desk.now (stage_place true stage) c.give_up.new.desk c.give_up.result) (sym c.in-Reads.is)
-    (gives-up ((heads true request).place (behind_columns true)) (head-left request empty (behind_columns true)) c.give_up.result (c.give_up.ensures c.args.stamp))
+pub returns-in-Some : goal.returns-in-Some
+returns-in-Some g c =
+    let a = c.in-Some.asks in
+    let vs : Params = params (g.P.Params.count a.values) (g.P.Params.gives_at a.values) in
+    subst (λ (asks : Option (TypedAsks _)). GivesUp g.D.Desk.becomes c.args.stamp c.args.desk.now (place_so (λ p. params (g.P.Params.count p) (g.P.Params.gives_at p)) true asks c.args.self.reply.stage) c.args.desk.now (Ok tt)) (sym c.in-Some.is)
+    (nothing-left g.D.Desk.becomes g.met.D.Desk.stays c.args.stamp c.args.desk.now (asks_typed true (sql_text a.text) (types_count a.types) (types_in a.types) vs) 0 (asks-clean (sql_text a.text) (types_count a.types) (types_in a.types) vs))
 
-pub returns-in-Takes : goal.returns-in-Takes
-returns-in-Takes g c =
-    let rest = c.in-Takes.rest in
-    let columns = c.in-Takes.field-0 in
-    let taking = subst (λ (stage : Stage). IsLiveAt stage) c.in-Takes.is c.requires in
-    subst (λ (stage : Stage). GivesUp g.D.Desk.becomes c.args.stamp c.args.desk.now (stage_place true stage) c.give_up-in-Takes.new.desk c.give_up-in-Takes.result) (sym c.in-Takes.is)
-    (gives-up ((rests true rest).place (behind_rest true columns)) (rest-left rest taking.on (behind_rest true columns)) c.give_up-in-Takes.result (c.give_up-in-Takes.ensures c.args.stamp))
+pub hang_up-requires : goal.hang_up-requires
+hang_up-requires g c = rw c.in-None.is at c.requires
 
-pub returns-in-Finds : goal.returns-in-Finds
-returns-in-Finds g c =
-    let columns = c.in-Finds.field-0 in
-    let ms = joined c.in-Finds.field-1.items in
-    subst (λ (stage : Stage). GivesUp g.D.Desk.becomes c.args.stamp c.args.desk.now (stage_place true stage) c.hang_up.new.desk c.hang_up.result) (sym c.in-Finds.is)
-    (gives-up-whole (had_of true columns ms) (had-deaf true columns ms) g.D.Desk.becomes c.args.stamp c.args.desk.now (place_of_finding c.in-Finds.state) c.hang_up.new.desk (λ x. refl) c.hang_up.result c.hang_up.ensures)
-
-pub returns-in-New : goal.returns-in-New
-returns-in-New g c =
-    let text = c.in-New.field-0.now in
-    let types = c.in-New.field-1.now in
-    let values = c.in-New.field-2.now in
-    subst (λ (stage : Stage). GivesUp g.D.Desk.becomes c.args.stamp c.args.desk.now (stage_place true stage) c.args.desk.now (Ok tt)) (sym c.in-New.is)
-    (nothing-left g.D.Desk.becomes g.met.D.Desk.stays c.args.stamp c.args.desk.now (asks_typed true text types values) 0 (asks-clean text types values))
+pub returns-in-None : goal.returns-in-None
+returns-in-None g c =
+    subst (λ (asks : Option (TypedAsks _)). GivesUp g.D.Desk.becomes c.args.stamp c.args.desk.now (place_so (λ p. params (g.P.Params.count p) (g.P.Params.gives_at p)) true asks c.args.self.reply.stage) c.hang_up.new.desk c.hang_up.result) (sym c.in-None.is) c.hang_up.ensures

@@ -1,59 +1,26 @@
-use Rattle.std.proofs.Common.{Bool, Err, sym, ◌∙◌, subst}
-use Rattle.futures.specs.declared.task.Poll.TheVariants.{Ready}
-use Rattle.pg_query.specs.Meaning.{Place}
-use Rattle.pg_streams.specs.Brought.{joined}
-use Rattle.pg_streams.specs.Heads.{heads}
-use Rattle.pg_streams.specs.Rests.{came, rests}
-use Rattle.pg_streams.specs.TypedRawStates.{IsLiveAt, behind_columns, behind_rest, found_place, opens_first, place_of_finding, rest_told, rests_first, stage_place}
-use Rattle.pg_streams.specs.TypedRaw.{Asked}
-use Rattle.pg_streams.specs.declared.state.Stage.{Stage}
-use Rattle.pg_streams.specs.declared.state.Stage.TheVariants.{New, Reads, Takes, Finds, Done}
-use Rattle.pg_streams.proofs.Polling.{found-polls, polls-joined, polls-stage, reads-polls, takes-polls}
+use Rattle.std.proofs.Common.{List, ℕ, sym, ◌∙◌, subst}
+use Rattle.pg_types.specs.Texts.{sql_text}
+use Rattle.pg_execute.specs.Parameters.{Params, params}
+use Rattle.pg_execute.specs.Types.{types_in}
+use Rattle.pg_streams.specs.TypedRawStates.{IsRequest, paired_request, types_count}
+use Rattle.pg_streams.proofs.Polling.{polls-asked, polls-goes}
 use Rattle.pg_streams.proofs.state.QueryTypedRawStateOpens.poll.Goals as goal
 
-pub read-requires : goal.read-requires
-read-requires g c = c.in-Ok.ensures.1
+pub returns-in-Some-clause-finds : goal.returns-in-Some-clause-finds
+returns-in-Some-clause-finds g c none =
+    let old = c.args.self.now in
+    let a = c.in-Some.asks in
+    let vs : Params = params (g.P.Params.count a.values) (g.P.Params.gives_at a.values) in
+    let is : IsRequest (paired_request (sql_text a.text) (types_count a.types) (types_in a.types) vs) c.request_of-request.result =
+    subst (λ (text : List ℕ). IsRequest (paired_request text (types_count a.types) (types_in a.types) vs) c.request_of-request.result) c.as_str.ensures c.request_of-request.ensures in
+    polls-asked (λ p. params (g.P.Params.count p) (g.P.Params.gives_at p)) g.D.Desk.becomes g.met.D.Desk.stays g.met.D.Desk.joins c.args.stamp c.args.desk.now c.begin.new.desk old.asks old.reply.stage c.take.new.self c.begin.new.self.stage c.take.ensures.after c.begin.result a (sym c.take.ensures.value ∙ c.in-Some.is)
+    (c.begin.ensures (sql_text a.text) (types_count a.types) (types_in a.types) vs is)
 
-pub returns-in-Ok-clause-finds : goal.returns-in-Ok-clause-finds
-returns-in-Ok-clause-finds g c none =
-    let new = c.in-New in
-    polls-stage g.D.Desk.becomes g.met.D.Desk.stays g.met.D.Desk.joins c.args.stamp c.args.desk.now c.read.new.desk c.args.self.now.stage (New new.text new.types new.values) (sym c.replace.ensures.value ∙ new.is) tt c.read.new.self.stage c.read.result
-    (polls-joined g.met.D.Desk.joins (λ rows. stage_place rows (New new.text new.types new.values)) (λ rows. (heads rows c.in-Ok.request).place (behind_columns rows)) opens_first opens_first c.in-Ok.ensures.0 c.read.new.desk c.read.new.self.stage c.read.result c.read.ensures)
+pub go_on-requires : goal.go_on-requires
+go_on-requires g c = rw (sym c.take.ensures.value ∙ c.in-None.is) at c.requires
 
-pub returns-in-Err-clause-finds : goal.returns-in-Err-clause-finds
-returns-in-Err-clause-finds g c none =
-    let new = c.in-New in
-    polls-stage g.D.Desk.becomes g.met.D.Desk.stays g.met.D.Desk.joins c.args.stamp c.args.desk.now c.ask.new.desk c.args.self.now.stage (New new.text new.types new.values) (sym c.replace.ensures.value ∙ new.is) tt Done (Ready (Err c.in-Err.error)) c.in-Err.ensures
-
-pub read-requires-in-Reads : goal.read-requires-in-Reads
-read-requires-in-Reads g c = subst (λ (stage : Stage). IsLiveAt stage) (sym c.replace.ensures.value ∙ c.in-Reads.is) c.requires
-
-pub returns-in-Reads-clause-finds : goal.returns-in-Reads-clause-finds
-returns-in-Reads-clause-finds g c none =
-    let request = c.in-Reads.request in
-    let live = subst (λ (stage : Stage). IsLiveAt stage) (sym c.replace.ensures.value ∙ c.in-Reads.is) c.requires in
-    polls-stage g.D.Desk.becomes g.met.D.Desk.stays g.met.D.Desk.joins c.args.stamp c.args.desk.now c.read-in-Reads.new.desk c.args.self.now.stage (Reads request) (sym c.replace.ensures.value ∙ c.in-Reads.is) live c.read-in-Reads.new.self.stage c.read-in-Reads.result
-    (reads-polls g.D.Desk.becomes c.args.stamp c.args.desk.now c.read-in-Reads.new.desk (λ rows. (heads rows request).place (behind_columns rows)) request live c.read-in-Reads.new.self.stage c.read-in-Reads.result c.read-in-Reads.ensures)
-
-pub take-requires : goal.take-requires
-take-requires g c = (subst (λ (stage : Stage). IsLiveAt stage) (sym c.replace.ensures.value ∙ c.in-Takes.is) c.requires).is
-
-pub returns-in-Takes-clause-finds : goal.returns-in-Takes-clause-finds
-returns-in-Takes-clause-finds g c none =
-    let columns = c.in-Takes.columns in
-    let rest = c.in-Takes.rest in
-    let place : (rows : Bool) → Place (Asked rows) = λ rows. (rests rows rest).place (behind_rest rows columns) in
-    let live = subst (λ (stage : Stage). IsLiveAt stage) (sym c.replace.ensures.value ∙ c.in-Takes.is) c.requires in
-    polls-stage g.D.Desk.becomes g.met.D.Desk.stays g.met.D.Desk.joins c.args.stamp c.args.desk.now c.take.new.desk c.args.self.now.stage (Takes columns rest) (sym c.replace.ensures.value ∙ c.in-Takes.is) live c.take.new.self.stage c.take.result
-    (takes-polls g.D.Desk.becomes c.args.stamp c.args.desk.now c.take.new.desk place c.take.new.self.stage (rest_told (rests_first (came rest))) c.take.result c.take.ensures)
-
-pub find-requires : goal.find-requires
-find-requires g c = subst (λ (stage : Stage). IsLiveAt stage) (sym c.replace.ensures.value ∙ c.in-Finds.is) c.requires
-
-pub returns-in-Finds-clause-finds : goal.returns-in-Finds-clause-finds
-returns-in-Finds-clause-finds g c none =
-    let columns = c.in-Finds.columns in
-    let ms = joined c.in-Finds.batches.items in
-    let live = subst (λ (stage : Stage). IsLiveAt stage) (sym c.replace.ensures.value ∙ c.in-Finds.is) c.requires in
-    polls-stage g.D.Desk.becomes g.met.D.Desk.stays g.met.D.Desk.joins c.args.stamp c.args.desk.now c.find.new.desk c.args.self.now.stage (Finds columns c.in-Finds.batches c.in-Finds.state) (sym c.replace.ensures.value ∙ c.in-Finds.is) live c.find.new.self.stage c.find.result
-    (found-polls g.D.Desk.becomes g.met.D.Desk.stays c.args.stamp c.args.desk.now c.find.new.desk (λ rows. found_place rows columns ms (place_of_finding c.in-Finds.state)) ms c.find.new.self.stage c.find.result c.find.ensures)
+pub returns-in-None-clause-finds : goal.returns-in-None-clause-finds
+returns-in-None-clause-finds g c none =
+    let old = c.args.self.now in
+    let is = sym c.take.ensures.value ∙ c.in-None.is in
+    polls-goes (λ p. params (g.P.Params.count p) (g.P.Params.gives_at p)) g.D.Desk.becomes g.met.D.Desk.stays g.met.D.Desk.joins c.args.stamp c.args.desk.now c.go_on.new.desk old.asks old.reply.stage c.take.new.self c.go_on.new.self.stage c.take.ensures.after c.go_on.result is (rw is at c.requires) c.go_on.ensures
