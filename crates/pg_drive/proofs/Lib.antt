@@ -1,4 +1,5 @@
 pub mod Stepping
+pub mod MorePolls
 pub mod Calls
 pub mod Living
 pub mod Failing

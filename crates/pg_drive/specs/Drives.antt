@@ -70,6 +70,13 @@ pub record Gives {H T : Type 0} (becomes : H → List Event → H → Type 0) (s
   pub left : LineView H
   pub ends : Ends becomes stamp last.place last.line left r
 
+-- what driving a command over a line did: after some polls the last one ended it so, and left the line so
+pub record Asked {H T : Type 0} (becomes : H → List Event → H → Type 0) (stamp : Stamp) (s : Stand H T) (left : LineView H) (r : Result T Error) : Type 0 where
+  pub stands : List (Stand H T)
+  pub last : Stand H T
+  pub drives : Drives becomes stamp s stands last
+  pub ends : Ends becomes stamp last.place last.line left r
+
 -- it holds a state that hasn't answered
 abbrev pub IsLive : {S L H : Type 0} → (S → Type 0) → Drive S L H → Type 0
 IsLive is_live d = IsSomeAnd d.state is_live

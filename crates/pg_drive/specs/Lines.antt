@@ -32,6 +32,10 @@ pub record LineView (H : Type 0) : Type 0 where
 abbrev pub seen : {L H : Type 0} → (L → LinkView) → Line L H → LineView H
 seen view l = record { hub = l.hub; streams = l.connection.streams; link = view l.connection.link; messages = l.messages.items; lull = l.lull }
 
+-- the polls in which nothing moves are counted anew
+abbrev pub anew : {H : Type 0} → LineView H → LineView H
+anew l = record l { lull = Moved }
+
 -- before the first poll
 abbrev pub new_line : {H : Type 0} → H → Streams → LinkView → LineView H
 new_line hub streams link = record { hub = hub; streams = streams; link = link; messages = []; lull = Moved }

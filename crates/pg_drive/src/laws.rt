@@ -4,7 +4,7 @@ ghost use Rattle.std.specs.Prelude.{◌≡◌, ℕ, Ok, Err, List, Result};
 ghost use Rattle.pg_spec.specs.declared.stamps.Stamp.{Stamp};
 ghost use Rattle.pg_types.specs.declared.error.Error.{Error};
 ghost use Rattle.pg_drive.specs.declared.line.Lull.{Lull};
-ghost use Rattle.pg_drive.specs.Drives.{Drives, Gives, Stand, over};
+ghost use Rattle.pg_drive.specs.Drives.{Asked, Drives, Gives, Stand, over};
 ghost use Rattle.pg_drive.specs.Lines.{LineSteps, LineView};
 ghost use Rattle.pg_drive.specs.Lives.{EndsLife};
 ghost use Rattle.pg_drive.specs.Stalls.{IsStalled};
@@ -23,6 +23,11 @@ use pg_query::Polled;
 /// hub: or memory lacked, or the connection or its link ended it.
 pub fn life_of_a_drive<E: Engine, T>()
     ensures { (stamp : Stamp) (s : Stand E T) (r : Result T Error) → Gives E.becomes stamp s r → EndsLife E.becomes stamp s r }
+{}
+
+/// The same of a command that a line drove to its answer.
+pub fn life_of_an_ask<E: Engine, T>()
+    ensures { (stamp : Stamp) (s : Stand E T) (left : LineView E) (r : Result T Error) → Asked E.becomes stamp s left r → EndsLife E.becomes stamp s r }
 {}
 
 /// Why a drive that was new is stalled, behind some polls and one more of the state: neither of the last two

@@ -3,7 +3,7 @@
 //! One command's state and its connection are one future, which ends with the state's answer:
 //!
 //! ```text
-//! let state = SimpleQueryState::new("SELECT 1", None);
+//! let state = simple_query_state(Sql::Borrowed("SELECT 1"), None);
 //! let mut drive = Drive::new(alloc, state, stamp, connection, hub);
 //! match block_on(rt, &mut drive)? {
 //!     Ok(messages) => ..,
@@ -13,7 +13,7 @@
 //! let (connection, hub, notices) = drive.into_parts();
 //! ```
 //!
-//! Many tasks share one line:
+//! A line drives one command after another (`Line::ask`), and many tasks share one:
 //!
 //! ```text
 //! let opened = open(rt, alloc, &mut connect_raw(link, NoTls, false, &config, nonce, limit))?;
@@ -24,6 +24,7 @@
 //! ```
 #![tactic(auto)]
 
+mod asking;
 mod closing;
 mod drive;
 mod laws;
@@ -34,8 +35,8 @@ mod task;
 
 pub use drive::Drive;
 pub use laws::{
-    how_a_line_is_closed, life_of_a_drive, life_of_a_running, what_tasks_did, why_a_drive_stalls,
-    why_a_line_stalls,
+    how_a_line_is_closed, life_of_a_drive, life_of_a_running, life_of_an_ask, what_tasks_did,
+    why_a_drive_stalls, why_a_line_stalls,
 };
 pub use line::Line;
 pub use opening::open;

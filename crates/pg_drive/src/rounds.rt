@@ -86,7 +86,7 @@ impl<L: Link, E: Engine> Line<L, E> {
     }
 
     /// Rounds until all tasks are done, or one ends in an error: what a pool, or a session of many commands, does on one thread. It
-    /// returns unless a task or the server goes on for ever.
+    /// goes on as long as a task or the server does: no clause says that it returns.
     pub fn run<T: Task, R: Wait>(
         &mut self,
         rt: &R,
