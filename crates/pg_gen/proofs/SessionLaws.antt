@@ -1,5 +1,5 @@
 -- The parts of a generated session, one command more.
-use Rattle.std.proofs.Common.{◌≡◌, ℕ, suc, ◌+◌, ◌*◌, ◌%◌, ◌^◌, ◌≤◌, ◌<◌, Bool, true, false, cond, ◌==◌, List, [], ◌∷◌, ◌++◌, length, map, refl, sym, ap, subst, ◌∙◌, arith, append-nil, map-id, filter, eq-eqb, ne_eqb, Vec}
+use Rattle.std.proofs.Common.{◌≡◌, ◌⊎◌, inl, inr, ℕ, suc, ◌+◌, ◌*◌, ◌%◌, ◌^◌, ◌≤◌, ◌<◌, Bool, true, false, cond, ◌==◌, List, [], ◌∷◌, ◌++◌, length, map, refl, sym, ap, subst, ◌∙◌, arith, append-nil, map-id, filter, eq-eqb, ne_eqb, Vec}
 use Rattle.std.specs.Prelude.{◌&&◌}
 use Rattle.std.specs.List.{AllByRecursion, list_all, range_with_len}
 use Rattle.std.proofs.lemmas.List.{length-map, map-append, map_push}
@@ -9,7 +9,9 @@ use Rattle.std.proofs.lemmas.List.Sums.{count_by-le-length, length-filter}
 use Rattle.pg_spec.specs.RawMessages.{RawMessage}
 use Rattle.pg_spec.specs.Report as said
 use Rattle.pg_wire.specs.Giving.{lists}
-use Rattle.pg_text.specs.Scripts.{AreShort, are_typed, is_typed}
+use Rattle.pg_text.specs.Levels.{KeepLevels}
+use Rattle.pg_text.specs.Scripts.{AreShort, are_typed, is_typed, most_scripts}
+use Rattle.pg_text.proofs.NestingLaws.{simple_levels}
 use Rattle.pg_text.specs.Views.{as_command, as_scripts}
 use Rattle.pg_text.specs.declared.command.Command.{Command}
 use Rattle.pg_gen.specs.Draws.{draw, drawn, next_number, number_after}
@@ -75,6 +77,15 @@ short_from n scripts few e =
 
 pub eight_from : (n : ℕ) (scripts : List (List Command)) → scripts ≡ as_scripts (map (script n) (range_with_len 0 8)) → length scripts ≡ 8
 eight_from n scripts e = ap (λ (x : List (List Command)). length x) e
+
+-- none of them has levels of a transaction
+levels_from : (n : ℕ) (scripts : List (List Command)) → scripts ≡ as_scripts (map (script n) (range_with_len 0 8)) → KeepLevels scripts
+levels_from n scripts e = subst (λ (x : List (List Command)). KeepLevels x) (sym e) (simple_levels (map (script n) (range_with_len 0 8)))
+
+-- so they aren't refused
+pub refused_never : (n : ℕ) (scripts : List (List Command)) → scripts ≡ as_scripts (map (script n) (range_with_len 0 8)) → (most_scripts < length scripts) ⊎ (KeepLevels scripts → ⊥) → ⊥
+refused_never n scripts e (inl many) = omega (arith, many, eight_from n scripts e)
+refused_never n scripts e (inr broken) = broken (levels_from n scripts e)
 
 -- none of them has values
 simple-typed : (commands : List said.Command) → list_all is_typed (map as_command commands) ≡ true

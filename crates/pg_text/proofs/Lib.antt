@@ -4,7 +4,9 @@ pub mod QuoteLaws
 pub mod WordLaws
 pub mod TypeNames
 pub mod GivenLaws
+pub mod LevelLaws
 pub mod LineLaws
+pub mod NestingLaws
 pub mod DraftLaws
 pub mod TextLaws
 pub mod ReadLaws

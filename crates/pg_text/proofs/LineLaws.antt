@@ -16,29 +16,23 @@ use Rattle.pg_text.specs.declared.execution.TypedExecution.{TypedExecution}
 use Rattle.pg_text.specs.declared.execution.TypedExecution.TheVariants as typed
 use Rattle.pg_text.specs.Executions.{FirstWordOf, command_of, execution_word, typed_command_of, typed_word}
 use Rattle.pg_text.specs.declared.line.Keyword.{Keyword}
-use Rattle.pg_text.specs.declared.line.Keyword.TheVariants.{Config, Nonce, Limit, Turns, Handle, Step, Cut, End, Simple, Batch, Check, Prepare, Clear, Executes, QueryRaw, ExecutesTyped, Close}
+use Rattle.pg_text.specs.declared.line.Keyword.TheVariants.{Config, Nonce, Limit, Turns, Handle, Step, Cut, End, Simple, Batch, Check, Prepare, Clear, Executes, QueryRaw, ExecutesTyped, Close, Begin, Savepoint, Commit, Rollback, Abandon}
 use Rattle.pg_text.specs.declared.line.Line.{Line}
 use Rattle.pg_text.specs.declared.line.Line.TheVariants as line
 use Rattle.pg_text.specs.declared.command.Command.TheVariants as command
-use Rattle.pg_text.specs.Lines.{FirstWord, FirstWordAmong, command_keywords, first_word, session_keywords, ReadsLine, ReadsRest, SaysSomething, WordsOf}
+use Rattle.pg_text.specs.Lines.{FirstWord, FirstWordAmong, command_keywords, first_word, level_keywords, session_keywords, ReadsLine, ReadsRest, SaysSomething, WordsOf}
+use Rattle.pg_text.specs.Modes.{mode_words}
 use Rattle.pg_text.specs.Words.{AllWords, behind, IsTake, IsTextOf, IsUtf8Quoted, IsWord, left_text, NoSpace, OneWord, Takes, TookAll}
 use Rattle.pg_text.proofs.WordLaws.{Ends, bytes_ends, no_space_from, number_ends, quoted_ends, word_ends}
 use Rattle.pg_text.proofs.TypeNames.{type_name_ends}
 use Rattle.pg_text.proofs.GivenLaws.{pair_ends, slot_ends, target_ends, value_ends}
+use Rattle.pg_text.proofs.LevelLaws.{left_of, left_of_is, none_left, one_modes, some_left}
+use Rattle.pg_steps.specs.declared.modes.Modes.{Modes}
 
 -- ---- words behind one another
 
 cc_tail : {b c : ℕ} {v w : List ℕ} → b ∷ v ≡ c ∷ w → v ≡ w
 cc_tail e = cc
-
--- words with a space before each are what is left of a line
-abbrev left_of : List (List ℕ) → Option (List ℕ)
-left_of [] = None
-left_of (word ∷ words) = Some (word ++ behind words)
-
-left_of_is : (words : List (List ℕ)) → left_text (left_of words) ≡ behind words
-left_of_is [] = refl
-left_of_is (word ∷ words) = refl
 
 -- a kind of words that is told from what stands behind it, taken off the front of words that are known
 pub after_word : {A : Type 0} (Is : A → List ℕ → Type 0) → Ends Is → (old new : Option (List ℕ)) (x : A) → Takes Is old (Some x) new →
@@ -51,15 +45,6 @@ after_word Is ends old new x taken y word words is e =
 pub no_word : {A : Type 0} (Is : A → List ℕ → Type 0) (old new : Option (List ℕ)) → Takes Is old None new →
     (y : A) (word : List ℕ) (words : List (List ℕ)) → Is y word → left_text old ≡ behind (word ∷ words) → ⊥
 no_word Is old new none y word words is e = none y word (left_of words) is (e ∙ ap (λ t. 32 ∷ word ++ t) (sym (left_of_is words)))
-
--- something is left
-some_left : (left : Option (List ℕ)) → is_none left ≡ false → left_text left ≡ [] → ⊥
-some_left None e none = cc e
-some_left (Some words) e none = cc none
-
-none_left : (left : Option (List ℕ)) → is_none left ≡ true → left ≡ None
-none_left None e = refl
-none_left (Some words) e = cc e
 
 pub only_one : {A : Type 0} (Is : A → List ℕ → Type 0) (old new : Option (List ℕ)) (r : Option A) → Takes Is old r new → is_none new ≡ true → OneWord Is old r
 only_one Is old new None none done = λ x word is e. no_word Is old new none x word [] is e
@@ -327,6 +312,22 @@ close_some old slot (word, is, e) = (said.CommandLine (command.Close slot), word
 pub close_none : (old : Option (List ℕ)) → OneWord IsSlot old None → ReadsRest Close old None
 close_none old none l words (slot, word, is, named, same) e = none slot word named (e ∙ ap behind same)
 
+pub begin_some : (old : Option (List ℕ)) (modes : Modes) → left_text old ≡ behind (mode_words modes) → ReadsRest Begin old (Some (line.Command (command.Begin modes)))
+begin_some old modes e = (said.CommandLine (command.Begin modes), mode_words modes, (modes, refl, refl), e, refl)
+
+pub begin_none : (old : Option (List ℕ)) → ((modes : Modes) → left_text old ≡ behind (mode_words modes) → ⊥) → ReadsRest Begin old None
+begin_none old none l words (modes, is, same) e = none modes (e ∙ ap behind same)
+
+pub savepoint_alone : (old : Option (List ℕ)) → is_none old ≡ true → ReadsRest Savepoint old (Some (line.Command (command.Savepoint None)))
+savepoint_alone old done = (said.CommandLine (command.Savepoint None), [], inl (refl, refl), ap left_text (none_left old done), refl)
+
+pub savepoint_some : (old : Option (List ℕ)) (name : List ℕ) → OneWord IsUtf8Quoted old (Some name) → ReadsRest Savepoint old (Some (line.Command (command.Savepoint (Some name))))
+savepoint_some old name (word, is, e) = (said.CommandLine (command.Savepoint (Some name)), word ∷ [], inr (name, word, refl, is.0, is.1, refl), e, refl)
+
+pub savepoint_none : (old : Option (List ℕ)) → is_none old ≡ false → OneWord IsUtf8Quoted old None → ReadsRest Savepoint old None
+savepoint_none old more none l words (inl (is, same)) e = some_left old more (e ∙ ap behind same)
+savepoint_none old more none l words (inr (name, word, is, utf8, quoted, same)) e = none name word (utf8, quoted) (e ∙ ap behind same)
+
 -- ---- spelled lines
 
 join_words : (word : List ℕ) (words : List (List ℕ)) → join_with_byte 32 (word ∷ words) ≡ word ++ behind words
@@ -413,6 +414,13 @@ spelled_words (said.CommandLine (command.QueryTypedOne asked)) s h = let found =
 spelled_words (said.CommandLine (command.QueryTypedOpt asked)) s h = let found = typed_words typed.QueryOpt asked s h in inr (ExecutesTyped typed.QueryOpt, found.0, found.1, found.2)
 spelled_words (said.CommandLine (command.ExecuteTyped asked)) s h = let found = typed_words typed.Execute asked s h in inr (ExecutesTyped typed.Execute, found.0, found.1, found.2)
 spelled_words (said.CommandLine (command.Close slot)) s (word, named, e) = inr (Close, word ∷ [], (slot, word, refl, named, refl), e ∙ join_words (codes "close") (word ∷ []))
+spelled_words (said.CommandLine (command.Begin modes)) s e = inr (Begin, mode_words modes, (modes, refl, refl), e ∙ join_words (codes "begin") (mode_words modes))
+spelled_words (said.CommandLine (command.Savepoint None)) s h = inr (Savepoint, [], inl (refl, refl), h)
+spelled_words (said.CommandLine (command.Savepoint (Some name))) s (utf8, word, quoted, e) =
+    inr (Savepoint, word ∷ [], inr (name, word, refl, utf8, quoted, refl), e ∙ join_words (codes "savepoint") (word ∷ []))
+spelled_words (said.CommandLine command.Commit) s h = inr (Commit, [], (refl, refl), h)
+spelled_words (said.CommandLine command.Rollback) s h = inr (Rollback, [], (refl, refl), h)
+spelled_words (said.CommandLine command.Abandon) s h = inr (Abandon, [], (refl, refl), h)
 
 pub words_spell : (keyword : Keyword) (l : said.Line) (words : List (List ℕ)) (s : List ℕ) → WordsOf keyword l words → s ≡ first_word keyword ++ behind words → Spells l s
 words_spell Config l words s (text, word, is, utf8, quoted, same) e =
@@ -452,6 +460,14 @@ words_spell (ExecutesTyped execution) l words s (text, pairs, word, given, is, u
     (utf8, pairs, word, given, refl, refl, quoted, each, e ∙ sym (join_words (typed_word execution) words) ∙ ap (λ w. join_with_byte 32 (typed_word execution ∷ w)) same))
 words_spell Close l words s (slot, word, is, named, same) e =
     subst (λ (m : said.Line). Spells m s) (sym is) (word, named, e ∙ sym (join_words (codes "close") words) ∙ ap (λ w. join_with_byte 32 (codes "close" ∷ w)) same)
+words_spell Begin l words s (modes, is, same) e =
+    subst (λ (m : said.Line). Spells m s) (sym is) (e ∙ sym (join_words (codes "begin") words) ∙ ap (λ w. join_with_byte 32 (codes "begin" ∷ w)) same)
+words_spell Savepoint l words s (inl (is, same)) e = subst (λ (m : said.Line). Spells m s) (sym is) (e ∙ ap (λ w. codes "savepoint" ++ behind w) same)
+words_spell Savepoint l words s (inr (name, word, is, utf8, quoted, same)) e =
+    subst (λ (m : said.Line). Spells m s) (sym is) (utf8, word, quoted, e ∙ sym (join_words (codes "savepoint") words) ∙ ap (λ w. join_with_byte 32 (codes "savepoint" ∷ w)) same)
+words_spell Commit l words s (is, same) e = subst (λ (m : said.Line). Spells m s) (sym is) (e ∙ ap (λ w. codes "commit" ++ behind w) same)
+words_spell Rollback l words s (is, same) e = subst (λ (m : said.Line). Spells m s) (sym is) (e ∙ ap (λ w. codes "rollback" ++ behind w) same)
+words_spell Abandon l words s (is, same) e = subst (λ (m : said.Line). Spells m s) (sym is) (e ∙ ap (λ w. codes "abandon" ++ behind w) same)
 
 first_no_space : (keyword : Keyword) → NoSpace (first_word keyword)
 first_no_space Config = no_space_from (first_word Config) refl
@@ -480,6 +496,11 @@ first_no_space (ExecutesTyped typed.QueryOne) = no_space_from (typed_word typed.
 first_no_space (ExecutesTyped typed.QueryOpt) = no_space_from (typed_word typed.QueryOpt) refl
 first_no_space (ExecutesTyped typed.Execute) = no_space_from (typed_word typed.Execute) refl
 first_no_space Close = no_space_from (first_word Close) refl
+first_no_space Begin = no_space_from (first_word Begin) refl
+first_no_space Savepoint = no_space_from (first_word Savepoint) refl
+first_no_space Commit = no_space_from (first_word Commit) refl
+first_no_space Rollback = no_space_from (first_word Rollback) refl
+first_no_space Abandon = no_space_from (first_word Abandon) refl
 
 -- the query that a word begins, by what stands behind its first two letters
 query_at : List ℕ → Keyword
@@ -499,9 +520,10 @@ keyword_at : List ℕ → Keyword
 keyword_at [] = Config
 keyword_at (a ∷ []) = Config
 keyword_at (a ∷ b ∷ w) =
-    cond (a == 99) (cond (b == 111) Config (cond (b == 104) Check (cond (b == 108) (cond (get_or w 0 0 == 101) Clear Close) Cut)))
+    cond (a == 99) (cond (b == 111) (cond (get_or w 0 0 == 110) Config Commit) (cond (b == 104) Check (cond (b == 108) (cond (get_or w 0 0 == 101) Clear Close) Cut)))
     (cond (a == 110) Nonce (cond (a == 108) Limit (cond (a == 116) Turns (cond (a == 104) Handle (cond (a == 101) (cond (b == 110) End (execution_at w))
-    (cond (a == 98) Batch (cond (a == 112) Prepare (cond (a == 113) (query_at w) (cond (b == 116) Step Simple)))))))))
+    (cond (a == 98) (cond (b == 97) Batch Begin) (cond (a == 112) Prepare (cond (a == 113) (query_at w) (cond (a == 114) Rollback (cond (a == 97) Abandon
+    (cond (b == 116) Step (cond (b == 97) Savepoint Simple))))))))))))
 
 keyword_at-first_word : (keyword : Keyword) → keyword_at (first_word keyword) ≡ keyword
 unfolding keyword_at query_at execution_at
@@ -531,27 +553,37 @@ keyword_at-first_word (ExecutesTyped typed.QueryOne) = refl
 keyword_at-first_word (ExecutesTyped typed.QueryOpt) = refl
 keyword_at-first_word (ExecutesTyped typed.Execute) = refl
 keyword_at-first_word Close = refl
+keyword_at-first_word Begin = refl
+keyword_at-first_word Savepoint = refl
+keyword_at-first_word Commit = refl
+keyword_at-first_word Rollback = refl
+keyword_at-first_word Abandon = refl
 
 -- a word that begins neither of the lines that are no commands, nor of the commands, begins no line
-pub no_keyword : (word : List ℕ) → FirstWordAmong session_keywords word None → FirstWordAmong command_keywords word None →
+pub no_keyword : (word : List ℕ) → FirstWordAmong session_keywords word None → FirstWordAmong command_keywords word None → FirstWordAmong level_keywords word None →
     FirstWordOf execution_word word None → FirstWordOf typed_word word None → FirstWord word None
-no_keyword word session commands none untyped Config = session.0
-no_keyword word session commands none untyped Nonce = session.1.0
-no_keyword word session commands none untyped Limit = session.1.1.0
-no_keyword word session commands none untyped Turns = session.1.1.1.0
-no_keyword word session commands none untyped Handle = session.1.1.1.1.0
-no_keyword word session commands none untyped Step = session.1.1.1.1.1.0
-no_keyword word session commands none untyped Cut = session.1.1.1.1.1.1.0
-no_keyword word session commands none untyped End = session.1.1.1.1.1.1.1.0
-no_keyword word session commands none untyped Simple = commands.0
-no_keyword word session commands none untyped Batch = commands.1.0
-no_keyword word session commands none untyped Check = commands.1.1.0
-no_keyword word session commands none untyped Prepare = commands.1.1.1.0
-no_keyword word session commands none untyped Clear = commands.1.1.1.1.0
-no_keyword word session commands none untyped QueryRaw = commands.1.1.1.1.1.0
-no_keyword word session commands none untyped Close = commands.1.1.1.1.1.1.0
-no_keyword word session commands none untyped (Executes execution) = none execution
-no_keyword word session commands none untyped (ExecutesTyped execution) = untyped execution
+no_keyword word session commands levels none untyped Config = session.0
+no_keyword word session commands levels none untyped Nonce = session.1.0
+no_keyword word session commands levels none untyped Limit = session.1.1.0
+no_keyword word session commands levels none untyped Turns = session.1.1.1.0
+no_keyword word session commands levels none untyped Handle = session.1.1.1.1.0
+no_keyword word session commands levels none untyped Step = session.1.1.1.1.1.0
+no_keyword word session commands levels none untyped Cut = session.1.1.1.1.1.1.0
+no_keyword word session commands levels none untyped End = session.1.1.1.1.1.1.1.0
+no_keyword word session commands levels none untyped Simple = commands.0
+no_keyword word session commands levels none untyped Batch = commands.1.0
+no_keyword word session commands levels none untyped Check = commands.1.1.0
+no_keyword word session commands levels none untyped Prepare = commands.1.1.1.0
+no_keyword word session commands levels none untyped Clear = commands.1.1.1.1.0
+no_keyword word session commands levels none untyped QueryRaw = commands.1.1.1.1.1.0
+no_keyword word session commands levels none untyped Close = commands.1.1.1.1.1.1.0
+no_keyword word session commands levels none untyped Begin = levels.0
+no_keyword word session commands levels none untyped Savepoint = levels.1.0
+no_keyword word session commands levels none untyped Commit = levels.1.1.0
+no_keyword word session commands levels none untyped Rollback = levels.1.1.1.0
+no_keyword word session commands levels none untyped Abandon = levels.1.1.1.1.0
+no_keyword word session commands levels none untyped (Executes execution) = none execution
+no_keyword word session commands levels none untyped (ExecutesTyped execution) = untyped execution
 
 same_keyword : (a b : Keyword) → first_word a ≡ first_word b → a ≡ b
 same_keyword a b e = sym (keyword_at-first_word a) ∙ ap keyword_at e ∙ keyword_at-first_word b
@@ -674,6 +706,16 @@ same_words (ExecutesTyped execution) l m ws vs (t, pairs, w, given, p, utf8, quo
     p ∙ (λ i. said.CommandLine (typed_command_of execution (record { text = first.0 i; types = map (λ x. x.0) (second i); values = map (λ x. x.1) (second i) }))) ∙ sym q
 same_words Close l m ws vs (slot, w, p, named, a) (slot', v, q, named', b) e =
     p ∙ ap (λ n. said.CommandLine (command.Close n)) (first_of IsSlot slot_ends slot slot' w v [] [] named named' (ap behind (sym a) ∙ e ∙ ap behind b)).0 ∙ sym q
+same_words Begin l m ws vs (modes, p, a) (modes', q, b) e =
+    p ∙ ap (λ x. said.CommandLine (command.Begin x)) (one_modes modes modes' (ap behind (sym a) ∙ e ∙ ap behind b)) ∙ sym q
+same_words Savepoint l m ws vs (inl (p, a)) (inl (q, b)) e = p ∙ sym q
+same_words Savepoint l m ws vs (inl (p, a)) (inr (name, v, q, utf8, quoted, b)) e = absurd (cc (ap behind (sym a) ∙ e ∙ ap behind b))
+same_words Savepoint l m ws vs (inr (name, w, p, utf8, quoted, a)) (inl (q, b)) e = absurd (cc (ap behind (sym a) ∙ e ∙ ap behind b))
+same_words Savepoint l m ws vs (inr (t, w, p, utf8, quoted, a)) (inr (u, v, q, utf8', quoted', b)) e =
+    p ∙ ap (λ x. said.CommandLine (command.Savepoint (Some x))) (first_of IsQuoted quoted_ends t u w v [] [] quoted quoted' (ap behind (sym a) ∙ e ∙ ap behind b)).0 ∙ sym q
+same_words Commit l m ws vs p q e = p.0 ∙ sym q.0
+same_words Rollback l m ws vs p q e = p.0 ∙ sym q.0
+same_words Abandon l m ws vs p q e = p.0 ∙ sym q.0
 
 word_says : (keyword : Keyword) (t : List ℕ) → SaysSomething (first_word keyword ++ t)
 word_says Config t = eqb-false 99 35 refl
@@ -702,6 +744,11 @@ word_says (ExecutesTyped typed.QueryOne) t = eqb-false 113 35 refl
 word_says (ExecutesTyped typed.QueryOpt) t = eqb-false 113 35 refl
 word_says (ExecutesTyped typed.Execute) t = eqb-false 101 35 refl
 word_says Close t = eqb-false 99 35 refl
+word_says Begin t = eqb-false 98 35 refl
+word_says Savepoint t = eqb-false 115 35 refl
+word_says Commit t = eqb-false 99 35 refl
+word_says Rollback t = eqb-false 114 35 refl
+word_says Abandon t = eqb-false 97 35 refl
 
 -- a line is spelled by at most one line
 pub one_line : (l m : said.Line) (s : List ℕ) → Spells l s → Spells m s → l ≡ m

@@ -11,6 +11,7 @@ use Rattle.pg_text.specs.Drafts.{IsEmpty, ReadsOn, SoFar, Steps, session_so_far,
 use Rattle.pg_text.specs.Lines.{ReadsLine, Stands}
 use Rattle.pg_text.specs.declared.line.Line as read
 use Rattle.pg_text.specs.declared.line.Line.TheVariants as line
+use Rattle.pg_text.specs.Levels.{KeepLevels}
 use Rattle.pg_text.specs.Scripts.{most_scripts}
 use Rattle.pg_text.specs.Sessions.{Finishes, ReadsText, session_of}
 use Rattle.pg_text.specs.Texts.{lines_of}
@@ -97,16 +98,17 @@ all_read : (text rest : List ℕ) (n : ℕ) (s : SoFar) (h : HasRead text rest n
 all_read text rest n s h none = h.text_lines ∙ ap (λ x. h.before ++ lines_of x) none ∙ append-nil h.before
 
 -- the lines say no session
-lacks : (lines : List Line) (s : SoFar) → Drafted lines s → (s.config ≡ None) ⊎ (most_scripts < length s.scripts) → (t : SessionText) → Say lines t → length t.scripts ≤ 1024 → ⊥
-lacks lines s (inl h) why t say few = nothing_said lines s t h say
-lacks lines s (inr (text, others, h)) (inl none) t say few = cc (sym none ∙ h.config)
-lacks lines s (inr (text, others, h)) (inr many) t say few = omega (arith, many, few, ap (λ (x : List _). length x) (same_scripts lines text others s t h say))
+lacks : (lines : List Line) (s : SoFar) → Drafted lines s → (s.config ≡ None) ⊎ (most_scripts < length s.scripts) ⊎ (KeepLevels s.scripts → ⊥) → (t : SessionText) → Say lines t → length t.scripts ≤ 1024 → KeepLevels t.scripts → ⊥
+lacks lines s (inl h) why t say few levels = nothing_said lines s t h say
+lacks lines s (inr (text, others, h)) (inl none) t say few levels = cc (sym none ∙ h.config)
+lacks lines s (inr (text, others, h)) (inr (inl many)) t say few levels = omega (arith, many, few, ap (λ (x : List _). length x) (same_scripts lines text others s t h say))
+lacks lines s (inr (text, others, h)) (inr (inr broken)) t say few levels = broken (subst (λ (x : List (List _)). KeepLevels x) (same_scripts lines text others s t h say) levels)
 
 -- the session that the lines say
 whole : (text rest : List ℕ) (n : ℕ) (s : SoFar) (session : Session) (config : List ℕ) (h : HasRead text rest n s) → rest ≡ [] → s.config ≡ Some config →
-    length s.scripts ≤ most_scripts → session_of session ≡ session_so_far config s → (lines : List Line) → AllZip Spells lines h.before → Drafted lines s → IsSessionText text (session_of session)
-whole text rest n s session config h none is few asks lines each (inl nothing) = cc (sym is ∙ nothing.config)
-whole text rest n s session config h none is few asks lines each (inr (text', others, said)) =
+    length s.scripts ≤ most_scripts → KeepLevels s.scripts → session_of session ≡ session_so_far config s → (lines : List Line) → AllZip Spells lines h.before → Drafted lines s → IsSessionText text (session_of session)
+whole text rest n s session config h none is few levels asks lines each (inl nothing) = cc (sym is ∙ nothing.config)
+whole text rest n s session config h none is few levels asks lines each (inr (text', others, said)) =
     let same : text' ≡ config = cc_some text' config s.config said.config is in
     subst (IsSessionText text) (sym asks) (record {
       spelled = h.before;
@@ -115,9 +117,10 @@ whole text rest n s session config h none is few asks lines each (inr (text', ot
       each = each;
       say = subst (λ (t : List ℕ). Say lines (session_so_far t s)) same (said_whole lines text' others s said);
       not_many = few;
+      levels = levels;
     })
 
-refused_end : (text rest : List ℕ) (n m : ℕ) (s : SoFar) (h : HasRead text rest n s) → rest ≡ [] → m ≡ n → (s.config ≡ None) ⊎ (most_scripts < length s.scripts) → IsRefusedAt text m
+refused_end : (text rest : List ℕ) (n m : ℕ) (s : SoFar) (h : HasRead text rest n s) → rest ≡ [] → m ≡ n → (s.config ≡ None) ⊎ (most_scripts < length s.scripts) ⊎ (KeepLevels s.scripts → ⊥) → IsRefusedAt text m
 refused_end text rest n m s h none same why = record {
   before = h.before;
   rest = [];
@@ -127,11 +130,11 @@ refused_end text rest n m s h none same why = record {
   bad = λ session is.
       let before : is.spelled ≡ h.before = lines_are is.spelled text is.text_lines ∙ all_read text rest n s h none in
       let lines : is.lines ≡ h.lines = zip_same is.lines h.lines h.before (subst (AllZip Spells is.lines) before is.each) h.each in
-      lacks h.lines s h.drafted why session (subst (λ (ls : List Line). Say ls session) lines is.say) is.not_many;
+      lacks h.lines s h.drafted why session (subst (λ (ls : List Line). Say ls session) lines is.say) is.not_many is.levels;
 }
 
 pub ends : (text rest : List ℕ) (n : ℕ) (s : SoFar) (r : Result Session TextFault) → HasRead text rest n s → rest ≡ [] → Finishes s n r → ReadsText text r
-ends text rest n s (Ok session) h none (config, is, few, asks, new) = (whole text rest n s session config h none is few asks h.lines h.each h.drafted, new)
+ends text rest n s (Ok session) h none (config, is, few, levels, asks, new) = (whole text rest n s session config h none is few levels asks h.lines h.each h.drafted, new)
 ends text rest n s (Err (fault.Line m)) h none (same, why) = refused_end text rest n m s h none same why
 ends text rest n s (Err fault.TooLong) h none end = absurd end
 ends text rest n s (Err fault.OutOfMemory) h none end = tt

@@ -10,8 +10,9 @@ use Rattle.pg_text.specs.SessionText.{CanNotGoOn, CommandLine, ConfigLine, CutLi
 use Rattle.pg_text.specs.Sessions.{as_session}
 use Rattle.pg_text.specs.Views.{as_command, as_scripts}
 use Rattle.pg_text.specs.declared.command.Command.{Command}
-use Rattle.pg_text.specs.declared.command.Command.TheVariants.{Batch, Check, Clear, Close, Execute, ExecuteTyped, Prepare, Query, QueryOne, QueryOneScalar, QueryOpt, QueryOptScalar, QueryRaw, QueryScalar, QueryTyped, QueryTypedOne, QueryTypedOpt, Simple}
+use Rattle.pg_text.specs.declared.command.Command.TheVariants.{Abandon, Batch, Begin, Check, Clear, Close, Commit, Execute, ExecuteTyped, Prepare, Query, QueryOne, QueryOneScalar, QueryOpt, QueryOptScalar, QueryRaw, QueryScalar, QueryTyped, QueryTypedOne, QueryTypedOpt, Rollback, Savepoint, Simple}
 use Rattle.pg_text.proofs.LineLaws.{one_line}
+use Rattle.pg_text.proofs.NestingLaws.{simple_levels}
 
 -- ---- lists of what is led elsewhere
 
@@ -170,6 +171,7 @@ text-as text s h = record {
   each = zip-as h.lines h.spelled h.each;
   say = say-as h.lines s h.say;
   not_many = subst (λ (n : ℕ). n ≤ 1024) (sym (length-map s.scripts (map as_command))) h.not_many;
+  levels = simple_levels s.scripts;
 }
 
 -- ---- and back, where any simple query stands for another command
@@ -193,6 +195,11 @@ back_command (QueryTypedOne asked) = simple.Simple [] None
 back_command (QueryTypedOpt asked) = simple.Simple [] None
 back_command (ExecuteTyped asked) = simple.Simple [] None
 back_command (Close slot) = simple.Simple [] None
+back_command (Begin modes) = simple.Simple [] None
+back_command (Savepoint name) = simple.Simple [] None
+back_command Commit = simple.Simple [] None
+back_command Rollback = simple.Simple [] None
+back_command Abandon = simple.Simple [] None
 
 abbrev back_line : Line → said.Line
 back_line Nothing = said.Nothing
@@ -363,6 +370,11 @@ spells-back (CommandLine (QueryTypedOne asked)) w is h = absurd is
 spells-back (CommandLine (QueryTypedOpt asked)) w is h = absurd is
 spells-back (CommandLine (ExecuteTyped asked)) w is h = absurd is
 spells-back (CommandLine (Close slot)) w is h = absurd is
+spells-back (CommandLine (Begin modes)) w is h = absurd is
+spells-back (CommandLine (Savepoint name)) w is h = absurd is
+spells-back (CommandLine Commit) w is h = absurd is
+spells-back (CommandLine Rollback) w is h = absurd is
+spells-back (CommandLine Abandon) w is h = absurd is
 
 zip-back : (lines : List Line) (spelled : List (List ℕ)) → AllByRecursion IsSimpleLine lines → AllZip Spells lines spelled → AllZip said.Spells (map back_line lines) spelled
 zip-back [] [] is h = tt

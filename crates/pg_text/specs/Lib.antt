@@ -1,3 +1,5 @@
+pub mod Modes
+pub mod Levels
 pub mod SessionText
 pub mod Drafts
 pub mod Scripts

@@ -9,10 +9,12 @@ use Rattle.pg_types.specs.declared.value.Value.{Value}
 use Rattle.pg_text.specs.declared.command.CommandTarget.{CommandTarget}
 use Rattle.pg_text.specs.Executions.{command_of, execution_word, typed_command_of, typed_word}
 use Rattle.pg_text.specs.declared.line.Keyword.{Keyword}
-use Rattle.pg_text.specs.declared.line.Keyword.TheVariants.{Config, Nonce, Limit, Turns, Handle, Step, Cut, End, Simple, Batch, Check, Prepare, Clear, Executes, QueryRaw, ExecutesTyped, Close}
+use Rattle.pg_text.specs.declared.line.Keyword.TheVariants.{Config, Nonce, Limit, Turns, Handle, Step, Cut, End, Simple, Batch, Check, Prepare, Clear, Executes, QueryRaw, ExecutesTyped, Close, Begin, Savepoint, Commit, Rollback, Abandon}
 use Rattle.pg_text.specs.declared.line.Line.{Line}
 use Rattle.pg_text.specs.declared.line.Line.TheVariants as line
+use Rattle.pg_text.specs.Modes.{mode_words}
 use Rattle.pg_text.specs.Words.{behind, left_text}
+use Rattle.pg_steps.specs.declared.modes.Modes.{Modes}
 
 -- the first word of such a line
 abbrev pub first_word : Keyword → List ℕ
@@ -33,6 +35,11 @@ first_word (Executes execution) = execution_word execution
 first_word QueryRaw = codes "query_raw"
 first_word (ExecutesTyped execution) = typed_word execution
 first_word Close = codes "close"
+first_word Begin = codes "begin"
+first_word Savepoint = codes "savepoint"
+first_word Commit = codes "commit"
+first_word Rollback = codes "rollback"
+first_word Abandon = codes "abandon"
 
 -- the word begins this line, or none
 abbrev pub FirstWord : List ℕ → Option Keyword → Type 0
@@ -46,6 +53,10 @@ session_keywords = Config ∷ Nonce ∷ Limit ∷ Turns ∷ Handle ∷ Step ∷ 
 -- the commands other than those that execute something in one of several forms
 abbrev pub command_keywords : List Keyword
 command_keywords = Simple ∷ Batch ∷ Check ∷ Prepare ∷ Clear ∷ QueryRaw ∷ Close ∷ []
+
+-- the commands that open and end the levels of a transaction
+abbrev pub level_keywords : List Keyword
+level_keywords = Begin ∷ Savepoint ∷ Commit ∷ Rollback ∷ Abandon ∷ []
 
 -- the word begins such a line, or none of these
 abbrev pub FirstWordAmong : List Keyword → List ℕ → Option Keyword → Type 0
@@ -94,6 +105,13 @@ WordsOf (ExecutesTyped execution) l words = (text : List ℕ) × (pairs : List (
     × (l ≡ said.CommandLine (typed_command_of execution (record { text = text; types = map (λ p. p.0) pairs; values = map (λ p. p.1) pairs }))) × IsUtf8 text × IsQuoted text word
     × AllZip IsPair pairs given × (words ≡ word ∷ given)
 WordsOf Close l words = (slot : ℕ) × (word : List ℕ) × (l ≡ said.CommandLine (command.Close slot)) × IsSlot slot word × (words ≡ word ∷ [])
+WordsOf Begin l words = (modes : Modes) × (l ≡ said.CommandLine (command.Begin modes)) × (words ≡ mode_words modes)
+WordsOf Savepoint l words =
+    ((l ≡ said.CommandLine (command.Savepoint None)) × (words ≡ []))
+    ⊎ ((name : List ℕ) × (word : List ℕ) × (l ≡ said.CommandLine (command.Savepoint (Some name))) × IsUtf8 name × IsQuoted name word × (words ≡ word ∷ []))
+WordsOf Commit l words = (l ≡ said.CommandLine command.Commit) × (words ≡ [])
+WordsOf Rollback l words = (l ≡ said.CommandLine command.Rollback) × (words ≡ [])
+WordsOf Abandon l words = (l ≡ said.CommandLine command.Abandon) × (words ≡ [])
 
 -- behind the first word a line goes on so; None: there is no such line
 abbrev pub ReadsRest : Keyword → Option (List ℕ) → Option Line → Type 0

@@ -1,5 +1,5 @@
 -- Which lists of scripts a session may have.
-use Rattle.std.specs.Prelude.{◌≡◌, ◌<◌, ◌≤◌, ◌^◌, ◌==◌, ◌&&◌, ℕ, Bool, true, List, length}
+use Rattle.std.specs.Prelude.{◌≡◌, ◌<◌, ◌≤◌, ◌^◌, ◌==◌, ◌&&◌, ◌⊎◌, ℕ, Bool, true, List, length}
 use Rattle.std.specs.List.{All, list_all}
 use Rattle.std.specs.Option.{is_some}
 use Rattle.pg_types.specs.BuiltIns.{row_of}
@@ -9,6 +9,7 @@ use Rattle.pg_types.specs.declared.error.Error.TheVariants as error
 use Rattle.pg_text.specs.declared.command.Command.{Command}
 use Rattle.pg_text.specs.declared.command.Command.TheVariants.{ExecuteTyped, QueryTyped, QueryTypedOne, QueryTypedOpt}
 use Rattle.pg_text.specs.declared.command.TypedText.{TypedText}
+use Rattle.pg_text.specs.Levels.{KeepLevels}
 
 -- the most scripts of a session
 abbrev pub most_scripts : ℕ
@@ -23,9 +24,9 @@ pub record AreScripts {C : Type 0} (scripts : List (List C)) : Type 0 where
   pub few : length scripts ≤ most_scripts
   pub short : AreShort scripts
 
--- they are too many, and the error says so
-abbrev pub AreTooMany : {C : Type 0} → List (List C) → Error → Type 0
-AreTooMany scripts e = (most_scripts < length scripts) × (e ≡ error.Config cause.Scripts)
+-- they are too many, or their levels aren't as a session can run them, and the error says so
+abbrev pub AreRefused : List (List Command) → Error → Type 0
+AreRefused scripts e = ((most_scripts < length scripts) ⊎ (KeepLevels scripts → ⊥)) × (e ≡ error.Config cause.Scripts)
 
 -- ---- values with types
 

@@ -7,10 +7,12 @@ use Rattle.pg_types.specs.declared.value.Value.{Value}
 use Rattle.pg_types.specs.declared.value.Value.TheVariants as value
 use Rattle.pg_spec.specs.SessionText.{AreLines, IsBytes, IsHex, IsNumber, IsQuoted, IsWords, default_nonce, one_or}
 use Rattle.pg_text.specs.declared.command.Command.{Command}
-use Rattle.pg_text.specs.declared.command.Command.TheVariants.{Batch, Check, Clear, Close, Execute, ExecuteTyped, Prepare, Query, QueryOne, QueryOneScalar, QueryOpt, QueryOptScalar, QueryRaw, QueryScalar, QueryTyped, QueryTypedOne, QueryTypedOpt, Simple}
+use Rattle.pg_text.specs.declared.command.Command.TheVariants.{Abandon, Batch, Begin, Check, Clear, Close, Commit, Execute, ExecuteTyped, Prepare, Query, QueryOne, QueryOneScalar, QueryOpt, QueryOptScalar, QueryRaw, QueryScalar, QueryTyped, QueryTypedOne, QueryTypedOpt, Rollback, Savepoint, Simple}
 use Rattle.pg_text.specs.declared.command.CommandTarget.{CommandTarget}
 use Rattle.pg_text.specs.declared.command.CommandTarget.TheVariants as target
 use Rattle.pg_text.specs.declared.command.TypedText.{TypedText}
+use Rattle.pg_text.specs.Levels.{KeepLevels}
+use Rattle.pg_text.specs.Modes.{mode_words}
 
 -- what a line says
 pub data Line : Type 0 where
@@ -103,6 +105,12 @@ Spells (CommandLine (QueryTypedOne asked)) spelled = SpellsTyped (codes "query_t
 Spells (CommandLine (QueryTypedOpt asked)) spelled = SpellsTyped (codes "query_typed_opt") asked spelled
 Spells (CommandLine (ExecuteTyped asked)) spelled = SpellsTyped (codes "execute_typed") asked spelled
 Spells (CommandLine (Close slot)) spelled = (word : List ℕ) × IsSlot slot word × IsWords (codes "close") (word ∷ []) spelled
+Spells (CommandLine (Begin modes)) spelled = IsWords (codes "begin") (mode_words modes) spelled
+Spells (CommandLine (Savepoint None)) spelled = spelled ≡ codes "savepoint"
+Spells (CommandLine (Savepoint (Some name))) spelled = IsUtf8 name × (word : List ℕ) × IsQuoted name word × IsWords (codes "savepoint") (word ∷ []) spelled
+Spells (CommandLine Commit) spelled = spelled ≡ codes "commit"
+Spells (CommandLine Rollback) spelled = spelled ≡ codes "rollback"
+Spells (CommandLine Abandon) spelled = spelled ≡ codes "abandon"
 
 -- the text of a `config` line
 abbrev pub config_of : Line → Option (List ℕ)
@@ -188,6 +196,7 @@ pub record IsSessionText (text : List ℕ) (s : SessionText) : Type 0 where
   pub each : AllZip Spells lines spelled
   pub say : Say lines s
   pub not_many : length s.scripts ≤ 1024
+  pub levels : KeepLevels s.scripts
 
 -- these lines may begin a session text
 abbrev pub MayBegin : List (List ℕ) → Type 0

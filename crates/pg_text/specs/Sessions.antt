@@ -7,6 +7,7 @@ use Rattle.pg_text.specs.declared.session.Session.{Session}
 use Rattle.pg_text.specs.declared.session.TextFault.{TextFault}
 use Rattle.pg_text.specs.declared.session.TextFault.TheVariants as fault
 use Rattle.pg_text.specs.Drafts.{SoFar, session_so_far}
+use Rattle.pg_text.specs.Levels.{KeepLevels}
 use Rattle.pg_text.specs.Scripts.{most_scripts}
 
 -- what a session asks for
@@ -55,8 +56,8 @@ pub record IsNew (s : Session) : Type 0 where
 
 -- the session of the lines, which end before this one; or why it is none
 abbrev pub Finishes : SoFar → ℕ → Result Session TextFault → Type 0
-Finishes s number (Ok session) = (text : List ℕ) × (s.config ≡ Some text) × (length s.scripts ≤ most_scripts) × (session_of session ≡ session_so_far text s) × IsNew session
-Finishes s number (Err (fault.Line n)) = (n ≡ number) × ((s.config ≡ None) ⊎ (most_scripts < length s.scripts))
+Finishes s number (Ok session) = (text : List ℕ) × (s.config ≡ Some text) × (length s.scripts ≤ most_scripts) × KeepLevels s.scripts × (session_of session ≡ session_so_far text s) × IsNew session
+Finishes s number (Err (fault.Line n)) = (n ≡ number) × ((s.config ≡ None) ⊎ (most_scripts < length s.scripts) ⊎ (KeepLevels s.scripts → ⊥))
 Finishes s number (Err fault.TooLong) = ⊥
 Finishes s number (Err fault.OutOfMemory) = Unit {0}
 

@@ -19,6 +19,11 @@ abbrev pub Takes : {A : Type 0} → (A → List ℕ → Type 0) → Option (List
 Takes {A} Is old None new = (x : A) (word : List ℕ) (left : Option (List ℕ)) → Is x word → left_text old ≡ 32 ∷ word ++ left_text left → ⊥
 Takes {A} Is old (Some x) new = (word : List ℕ) × Is x word × (left_text old ≡ 32 ∷ word ++ left_text new)
 
+-- Of words that stand for something, the one that stands there was taken; None: none stands there, and nothing was taken.
+abbrev pub TakesIfThere : {A : Type 0} → (A → List ℕ) → Option (List ℕ) → Option A → Option (List ℕ) → Type 0
+TakesIfThere first old None new = Takes (λ x word. word ≡ first x) old None new × (new ≡ old)
+TakesIfThere first old (Some x) new = Takes (λ x word. word ≡ first x) old (Some x) new
+
 -- what a whole word means; None: it has no such meaning
 abbrev pub Means : {A : Type 0} → (A → List ℕ → Type 0) → List ℕ → Option A → Type 0
 Means {A} Is word None = (x : A) → Is x word → ⊥

@@ -4,6 +4,7 @@ use pg_desk::Statement;
 use pg_errors::Error;
 use pg_query::SimpleMessage;
 use pg_rows::RowCells;
+use pg_steps::Modes;
 use pg_types::{List, Oid, Text, Value};
 
 /// What a command executes.
@@ -100,6 +101,18 @@ pub enum Command {
     Close {
         slot: u64,
     },
+    /// A transaction is begun in these modes.
+    Begin(Modes),
+    /// A savepoint of this name is opened; without a name it is named by how many are open with it.
+    Savepoint {
+        name: Option<Text>,
+    },
+    /// The innermost level of the transaction is ended, and what was done in it is kept.
+    Commit,
+    /// The same, and what was done in it is undone.
+    Rollback,
+    /// The same, where nobody reads the reply.
+    Abandon,
 }
 
 /// What a command answers.

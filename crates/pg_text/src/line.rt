@@ -5,13 +5,14 @@ ghost use Rattle.pg_spec.specs.SessionText.{IsNumber, IsQuoted};
 ghost use Rattle.pg_text.specs.declared.line.Keyword.TheVariants as first;
 ghost use Rattle.pg_text.specs.Drafts.{HasCut};
 ghost use Rattle.pg_text.specs.SessionText.{IsSlot, IsTypeName};
-ghost use Rattle.pg_text.specs.Lines.{FirstWord, FirstWordAmong, ReadsLine, ReadsRest, SaysSomething, command_keywords, session_keywords};
+ghost use Rattle.pg_text.specs.Lines.{FirstWord, FirstWordAmong, ReadsLine, ReadsRest, SaysSomething, command_keywords, level_keywords, session_keywords};
 ghost use Rattle.pg_text.specs.Words.{AllBytes, AllWords, IsTake, IsTextOf, IsUtf8Quoted, OneWord, Takes};
 
 use crate::command::Command;
 use crate::executing::{execution_line, raw_line, typed_line};
 use crate::execution::{Execution, TypedExecution, execution_of, typed_execution_of};
 use crate::given::next_slot;
+use crate::levels::{abandon_line, begin_line, commit_line, rollback_line, savepoint_line};
 use crate::word::Words;
 use pg_types::{Blob, List, Oid, OutOfMemory, Text};
 use std::alloc::Global;
@@ -85,6 +86,11 @@ enum Keyword {
     QueryRaw,
     ExecutesTyped(TypedExecution),
     Close,
+    Begin,
+    Savepoint,
+    Commit,
+    Rollback,
+    Abandon,
 }
 
 /// What line begins with this word.
@@ -95,6 +101,9 @@ fn keyword_of(word: &[u8]) -> Option<Keyword>
         return Some(keyword);
     }
     if let Some(keyword) = command_keyword_of(word) {
+        return Some(keyword);
+    }
+    if let Some(keyword) = level_keyword_of(word) {
         return Some(keyword);
     }
     if let Some(execution) = execution_of(word) {
@@ -165,6 +174,28 @@ fn command_keyword_of(word: &[u8]) -> Option<Keyword>
     None
 }
 
+/// What command that opens or ends a level of a transaction begins with this word.
+fn level_keyword_of(word: &[u8]) -> Option<Keyword>
+    ensures { FirstWordAmong level_keywords word.now result }
+{
+    if word == b"begin".as_slice() {
+        return Some(Keyword::Begin);
+    }
+    if word == b"savepoint".as_slice() {
+        return Some(Keyword::Savepoint);
+    }
+    if word == b"commit".as_slice() {
+        return Some(Keyword::Commit);
+    }
+    if word == b"rollback".as_slice() {
+        return Some(Keyword::Rollback);
+    }
+    if word == b"abandon".as_slice() {
+        return Some(Keyword::Abandon);
+    }
+    None
+}
+
 /// Reads what stands behind the first word.
 fn read_rest(
     alloc: Global,
@@ -192,6 +223,11 @@ fn read_rest(
         Keyword::QueryRaw => raw_line(alloc, words),
         Keyword::ExecutesTyped(execution) => typed_line(alloc, execution, words),
         Keyword::Close => Ok(close_line(words)),
+        Keyword::Begin => Ok(begin_line(words)),
+        Keyword::Savepoint => savepoint_line(alloc, words),
+        Keyword::Commit => Ok(commit_line(words)),
+        Keyword::Rollback => Ok(rollback_line(words)),
+        Keyword::Abandon => Ok(abandon_line(words)),
     }
 }
 
@@ -419,7 +455,7 @@ fn only_quoted(alloc: Global, words: &mut Words) -> Result<Option<Vec<u8>>, OutO
 }
 
 /// A text in quotes that is UTF-8, and nothing behind it.
-fn only_text(alloc: Global, words: &mut Words) -> Result<Option<Text>, OutOfMemory>
+pub(crate) fn only_text(alloc: Global, words: &mut Words) -> Result<Option<Text>, OutOfMemory>
     ensures { IfOk result (λ found. OneWord IsUtf8Quoted words.old found) }
 {
     match utf8_text(alloc, words)? {

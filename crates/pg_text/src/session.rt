@@ -5,6 +5,7 @@ ghost use Rattle.std.specs.Prelude.{◌≡◌};
 use crate::scripts::Scripts;
 use pg_types::{Blob, List, OutOfMemory, Text};
 use pg_wire::MemoryLink;
+use thiserror::Error;
 
 /// What a session text asks for.
 #[derive(Drop)]
@@ -21,13 +22,16 @@ pub struct Session {
 }
 
 /// Why a text is no session text.
-#[derive(Clone, Copy, Debug, PartialEq, Eq, Drop)]
+#[derive(Clone, Copy, Debug, PartialEq, Eq, Drop, Error)]
 pub enum TextFault {
     /// The first line that breaks the rules, counted from 1. What lacks at the end counts as the line
     /// after the last.
+    #[error("line {0} breaks the rules")]
     Line(u64),
     /// The text has more than 67,108,864 bytes.
+    #[error("text too long")]
     TooLong,
+    #[error("out of memory")]
     OutOfMemory,
 }
 

@@ -35,6 +35,13 @@ impl<'a> Words<'a> {
         Words { rest: Some(line) }
     }
 
+    /// The same words.
+    pub(crate) fn copy(&self) -> Words<'a>
+        ensures { result ≡ self.now }
+    {
+        Words { rest: self.rest }
+    }
+
     /// All words were read.
     pub(crate) fn is_done(&self) -> bool
         ensures { result ≡ is_none self.now }

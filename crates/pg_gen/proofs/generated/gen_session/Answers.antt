@@ -1,7 +1,7 @@
-use Rattle.std.proofs.Common.{◌≡◌, List, length, true, sym, ap, subst, ◌∙◌, arith}
+use Rattle.std.proofs.Common.{◌≡◌, List, true, sym, subst, ◌∙◌}
 use Rattle.pg_text.specs.Scripts.{AreShort, are_typed}
 use Rattle.pg_text.specs.declared.command.Command.{Command}
-use Rattle.pg_gen.proofs.SessionLaws.{eight_from, short_from, typed_from}
+use Rattle.pg_gen.proofs.SessionLaws.{refused_never, short_from, typed_from}
 use Rattle.pg_gen.proofs.generated.gen_session.Goals as goal
 
 pub new-requires-2-clause-short : goal.new-requires-2-clause-short
@@ -15,6 +15,4 @@ new-requires-2-clause-typed c =
     (typed_from c.args.n c.in_ok-new_scripts.field-0.items c.in_ok-new_scripts.ensures.scripts)
 
 pub unreachable-requires : goal.unreachable-requires
-unreachable-requires c =
-    let eight : length c.new.result ≡ 8 = ap (λ (scripts : List (List Command)). length scripts) c.new.ensures ∙ eight_from c.args.n c.in_ok-new_scripts.field-0.items c.in_ok-new_scripts.ensures.scripts in
-    omega (arith, eight, c.in-Err.ensures.refused.0)
+unreachable-requires c = absurd (refused_never c.args.n c.new.result (c.new.ensures ∙ c.in_ok-new_scripts.ensures.scripts) c.in-Err.ensures.refused.0)
