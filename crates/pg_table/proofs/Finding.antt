@@ -4,7 +4,7 @@ use Rattle.pg_types.specs.declared.error.Error.TheVariants.{Missing}
 use Rattle.pg_execute.specs.Executes.{on_text}
 use Rattle.pg_execute.specs.Targets as execution
 use Rattle.pg_execute.specs.declared.target.Target.{Target}
-use Rattle.pg_execute.specs.declared.target.Target.TheVariants.{Query, Owned, Statement}
+use Rattle.pg_execute.specs.declared.target.Target.TheVariants.{Query, Owned, OwnedQuery, Statement}
 use Rattle.pg_states.specs.Texts.{prepare_text}
 use Rattle.pg_query.specs.Dialogue.{Dialogue, Answer}
 use Rattle.pg_desk.specs.declared.statement.Described.{Described}
@@ -19,6 +19,8 @@ module _ {T : Type 0} (body : Described → Dialogue T) (slots : Slots) where
   done-with (Slot slot) (Owned s) found = sym (ap (or_missing body) found)
   done-with (Slot slot) (Query query) found = absurd found
   done-with (Slot slot) (Statement s) found = absurd found
+  done-with (Slot slot) (OwnedQuery query) found = absurd found
+  done-with (Text text) (OwnedQuery query) found = absurd found
   done-with (Text text) (Query query) found = ap (λ (t : List ℕ). on_text (prepare_text t) body) found
   done-with (Text text) (Owned s) found = absurd found
   done-with (Text text) (Statement s) found = absurd found

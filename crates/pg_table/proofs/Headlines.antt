@@ -34,7 +34,7 @@ use Rattle.pg_promises.specs.Promises as promised
 use Rattle.pg_session.specs.Speeches.{meaning_of}
 use Rattle.pg_table.specs.Headlines.{AnsweredSimply, asks_simple, simple_call, simple_meaning, simple_session, simple_words}
 use Rattle.pg_table.specs.Mapped.{mapped_answer}
-use Rattle.pg_table.specs.Slots.{Slots}
+use Rattle.pg_table.specs.declared.own.Own.{Own}
 use Rattle.pg_table.specs.Table.{in_messages, kept_answer, table}
 use Rattle.pg_table.proofs.Renamed.{answers-back, has-run-back}
 use Rattle.pg_table.proofs.RenamedSent.{kept-back, sent-back}
@@ -94,37 +94,37 @@ answers-one a b e = sym (each-back a) ∙ ap (λ (rows : List (List Answer)). ma
 -- ---- and so of dialogues
 
 abbrev Said : Type 0
-Said = Dialogue DeskCall Reply (Ending said.Answer Slots)
+Said = Dialogue DeskCall Reply (Ending said.Answer Own)
 
 abbrev Kept : Type 0
-Kept = Dialogue DeskCall Reply (Ending Answer Slots)
+Kept = Dialogue DeskCall Reply (Ending Answer Own)
 
 -- what the commands of the table mean
-abbrev asks_all : Slots → Command → Kept
+abbrev asks_all : Own → Command → Kept
 asks_all = (meaning_of table).asks
 
-abbrev as_kept : Slots → SimpleAnswer → Kept
+abbrev as_kept : Own → SimpleAnswer → Kept
 as_kept own a = Answers (record { answer = kept_answer (mapped_answer in_messages (answer_from a)); own = own })
 
-abbrev in_said : Slots → SimpleAnswer → Said
+abbrev in_said : Own → SimpleAnswer → Said
 in_said own a = Answers (record { answer = simple_answer a; own = own })
 
-abbrev in_all : Ending said.Answer Slots → Kept
+abbrev in_all : Ending said.Answer Own → Kept
 in_all e = Answers (record { answer = as_answer e.answer; own = e.own })
 
-answers-all : (own : Slots) (a : SimpleAnswer) → as_kept own a ≡ in_all (record { answer = simple_answer a; own = own })
+answers-all : (own : Own) (a : SimpleAnswer) → as_kept own a ≡ in_all (record { answer = simple_answer a; own = own })
 answers-all own a = ap (λ (x : Answer). let y : Kept = Answers (record { answer = x; own = own }) in y) (kept-same a)
 
-reads-all : (own : Slots) (take : Option ℕ) (o : Option SimpleAnswer) → behind (reads_unless take o) (as_kept own) ≡ behind (behind (reads_unless take o) (in_said own)) in_all
+reads-all : (own : Own) (take : Option ℕ) (o : Option SimpleAnswer) → behind (reads_unless take o) (as_kept own) ≡ behind (behind (reads_unless take o) (in_said own)) in_all
 reads-all own take (Some r) = answers-all own r
 reads-all own take None = λ i. Reads (λ ms. is_some (simple_reading take ms)) (λ ms. answers-all own (told_or (simple_reading take ms)) i)
 
-asks-as : (own : Slots) (take : Option ℕ) (o : Result (List ℕ) FrameFault) → behind (asks_by take o) (as_kept own) ≡ behind (behind (asks_by take o) (in_said own)) in_all
+asks-as : (own : Own) (take : Option ℕ) (o : Result (List ℕ) FrameFault) → behind (asks_by take o) (as_kept own) ≡ behind (behind (asks_by take o) (in_said own)) in_all
 asks-as own take (Err fault) = refl
 asks-as own take (Ok frame) = ap (λ (d : Kept). Asks false frame d) (reads-all own take (simple_reading take []))
 
 -- a simple query means in the table what it means alone
-means-all : (own : Slots) (c : said.Command) → asks_all own (as_command c) ≡ behind (asks_simple own c) in_all
+means-all : (own : Own) (c : said.Command) → asks_all own (as_command c) ≡ behind (asks_simple own c) in_all
 means-all own (said.Simple text take) = are-simple own (as_command (said.Simple text take)) text take refl ∙ asks-as own take (query_frame text)
 
 pub in-headline : AreSimple simple_meaning in_headline_words

@@ -7,6 +7,7 @@ pub mod Finding
 pub mod MappedCommands
 pub mod Counted
 pub mod Pairs
+pub mod LevelMeans
 pub mod SimpleMeans
 pub mod Renamed
 pub mod RenamedSent

@@ -16,15 +16,13 @@ use Rattle.pg_query.specs.declared.desk_call.DeskCall.{DeskCall}
 use Rattle.pg_query.specs.declared.desk_call.Reply.{Reply}
 use Rattle.pg_query.specs.Dialogue.{Dialogue, Answer, Ask, Send, Leave, Read, Put, Finish, Close, HangUp, Call, Hear, feed, feed_one, after_reply, Steps, Walks, cleaning}
 use Rattle.pg_query.specs.Leaving.{Holds, Nothing, Request, LetsGo, after_reading}
-use Rattle.pg_query.specs.Meaning.{ForMessage, ForRoom, Place, Goes, GoesToAnswer, Pauses, GivesUp, MatchPoll, WaitsAt}
-use Rattle.futures.specs.declared.task.Poll.{Poll}
-use Rattle.futures.specs.declared.task.Poll.TheVariants.{Ready, Pending}
+use Rattle.pg_query.specs.Meaning.{ForMessage, ForRoom, Place, Goes, GoesToAnswer, Pauses, GivesUp, WaitsAt}
 use Rattle.pg_query.specs.Reading.{ends}
 use Rattle.pg_query.specs.Requests.{asks, reads_unless}
 use Rattle.pg_query.specs.Scripts.{IsPut, IsRead, cleanup_of}
 use Rattle.pg_spec.specs.Dialogues as course
 use Rattle.pg_core.specs.Outcomes.{asked}
-use Rattle.pg_table.specs.Mapped.{mapped, mapped_answer, mapped_place, mapped_poll}
+use Rattle.pg_table.specs.Mapped.{mapped, mapped_answer, mapped_place}
 
 -- what is asked and answered in the words of a course
 abbrev Course_of : Type 0 → Type 0
@@ -160,12 +158,6 @@ module _ {T U : Type 0} (f : T → U) where
     pub pauses-mapped : (q : Place T) → Pauses becomes stamp a p b q → Pauses becomes stamp a (mapped_place f p) b (mapped_place f q)
     unfolding goes-mapped
     pauses-mapped q h = record { goes = goes-mapped q h.goes; waits = waits-mapped q h.goes.events h.waits }
-
-    -- either
-    pub poll-mapped : (Live : Type 0) (q : Place T) (x : Poll (Result T Error)) → MatchPoll x (λ r. GoesToAnswer becomes stamp a p b r) (Pauses becomes stamp a p b q × Live) →
-        MatchPoll (mapped_poll f x) (λ r. GoesToAnswer becomes stamp a (mapped_place f p) b r) (Pauses becomes stamp a (mapped_place f p) b (mapped_place f q) × Live)
-    poll-mapped Live q (Ready r) h = answers-mapped r h
-    poll-mapped Live q Pending h = (pauses-mapped q h.0, h.1)
 
     -- one that gives it up
     pub gives-up-mapped : (r : Result (Unit {0}) Error) → GivesUp becomes stamp a p b r → GivesUp becomes stamp a (mapped_place f p) b r

@@ -5,24 +5,23 @@ use Rattle.std.specs.Str.{byte}
 use Rattle.pg_spec.specs.Faults.{◌>>=◌, FrameFault, Parameters}
 use Rattle.pg_spec.specs.Frames.{bind_frame, close_frame, describe_frame, execute_frame, parse_frame, sync_frame}
 use Rattle.pg_types.specs.declared.pg_type.PgType.{PgType}
-use Rattle.pg_types.specs.declared.value.Value.{Value}
 use Rattle.pg_types.specs.declared.error.Error.{Error}
 use Rattle.pg_desk.specs.declared.statement.Described.{Described as Statement}
 use Rattle.pg_core.specs.Composing.{or_encode}
 use Rattle.pg_execute.specs.Executes.{close_part, close_request, written}
-use Rattle.pg_execute.specs.Parameters.{execute_frames, execute_request, given_behind}
+use Rattle.pg_execute.specs.Parameters.{Params, execute_frames, execute_request, given_behind}
 use Rattle.pg_execute.specs.Typed.{or_parse, typed_frames, typed_request}
 use Rattle.pg_table.specs.FreshNames.{statement_names}
 use Rattle.pg_table.proofs.FrameNames.{bind-front, bound-names, close-front, describe-front, execute-front, frame-in, made-ok, parse-front}
 
-pub execute-names : (s : Statement) (vs : List Value) (part : List ℕ) → execute_request s vs ≡ Ok part → statement_names part ≡ []
-execute-names s vs part e = by (length vs == length s.params) e
+pub execute-names : (s : Statement) (vs : Params) (part : List ℕ) → execute_request s vs ≡ Ok part → statement_names part ≡ []
+execute-names s vs part e = by (vs.count == length s.params) e
   where
     with-values : (given : Result (List (Option (List ℕ))) Error) → (given >>= λ values. or_encode (execute_frames s.name values)) ≡ Ok part → statement_names part ≡ []
     with-values (Ok values) e = bound-names s.name (map (λ v. pos 1) values) values part (made-ok (execute_frames s.name values) part e)
     with-values (Err failure) e = absurd cc
 
-    by : (b : Bool) → (if b then (given_behind [] s.params vs >>= λ values. or_encode (execute_frames s.name values)) else Err (Parameters (length vs) (length s.params))) ≡ Ok part → statement_names part ≡ []
+    by : (b : Bool) → (if b then (given_behind [] s.params vs >>= λ values. or_encode (execute_frames s.name values)) else Err (Parameters (vs.count) (length s.params))) ≡ Ok part → statement_names part ≡ []
     by true e = with-values (given_behind [] s.params vs) e
     by false e = absurd cc
 
@@ -60,7 +59,7 @@ abbrev part-in : Result (List ℕ) Error → List ℕ
 part-in (Ok part) = part
 part-in (Err e) = []
 
-pub typed-names : (text : List ℕ) (types : List PgType) (vs : List Value) (part : List ℕ) → typed_request text types vs ≡ Ok part → statement_names part ≡ []
+pub typed-names : (text : List ℕ) (types : List PgType) (vs : Params) (part : List ℕ) → typed_request text types vs ≡ Ok part → statement_names part ≡ []
 typed-names text types vs part e = by (parse_frame [] text oids) refl e
   where
     oids : List ℕ

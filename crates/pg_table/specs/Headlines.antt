@@ -18,15 +18,15 @@ use Rattle.pg_promises.specs.Endings as ending
 use Rattle.pg_promises.specs.Endings.{Session}
 use Rattle.pg_promises.specs.Calls.{Call}
 use Rattle.pg_promises.specs.Causes as landed
-use Rattle.pg_table.specs.Slots.{Slots}
+use Rattle.pg_table.specs.declared.own.Own.{Own}
 use Rattle.pg_table.specs.Table.{table}
 
--- what a simple query asks and answers; it leaves the slots of its script as they are
-abbrev pub asks_simple : Slots → said.Command → Dialogue DeskCall Reply (Ending said.Answer Slots)
+-- what a simple query asks and answers; it leaves what its script keeps as it is
+abbrev pub asks_simple : Own → said.Command → Dialogue DeskCall Reply (Ending said.Answer Own)
 asks_simple own (said.Simple text take) = behind (simple_query text take) (λ a. Answers (record { answer = simple_answer a; own = own }))
 
 -- the meaning of simple queries
-abbrev pub simple_meaning : Meaning said.Command said.Answer Slots DeskCall Reply
+abbrev pub simple_meaning : Meaning said.Command said.Answer Own DeskCall Reply
 simple_meaning = record { begins = table.begins; asks = asks_simple; tells = tells }
 
 -- what a session reported, in the words over any commands

@@ -1,8 +1,10 @@
 pub mod Mapped
 pub mod Slots
+pub mod Levels
+pub mod Own
+pub mod Abandons
 pub mod Targets
 pub mod Table
-pub mod States
 pub mod Headlines
 pub mod Reads
 pub mod Names

@@ -3,8 +3,6 @@ use Rattle.std.specs.Prelude.{Result, Ok, Err}
 use Rattle.pg_types.specs.declared.error.Error.{Error}
 use Rattle.pg_query.specs.Dialogue.{Dialogue, Answer, Ask, Send, Leave, Read, Put, Finish, Close, HangUp, Call, Hear}
 use Rattle.pg_query.specs.Meaning.{Place}
-use Rattle.futures.specs.declared.task.Poll.{Poll}
-use Rattle.futures.specs.declared.task.Poll.TheVariants.{Ready, Pending}
 
 -- an answer in these words; an error stays as it is
 abbrev pub mapped_answer : {T U : Type 0} → (T → U) → Result T Error → Result U Error
@@ -28,8 +26,3 @@ mapped f (Hear next) = Hear (λ r. mapped f (next r))
 -- where it stands
 abbrev pub mapped_place : {T U : Type 0} → (T → U) → Place T → Place U
 mapped_place f p = record { dialogue = mapped f p.dialogue; reads = p.reads }
-
--- what a poll answered
-abbrev pub mapped_poll : {T U : Type 0} → (T → U) → Poll (Result T Error) → Poll (Result U Error)
-mapped_poll f (Ready r) = Ready (mapped_answer f r)
-mapped_poll f Pending = Pending

@@ -11,9 +11,9 @@ use Rattle.pg_text.specs.declared.command.CommandTarget.{CommandTarget}
 use Rattle.pg_text.specs.declared.command.CommandTarget.TheVariants.{Slot, Text}
 use Rattle.pg_table.specs.Slots.{Slots, statement_in}
 
--- this is done with a statement; where there is none, nothing is booked
-abbrev pub or_missing : {T : Type 0} → (Described → Dialogue T) → Option Described → Dialogue T
-or_missing body (Some s) = body s
+-- this is done with a statement, or a level; where there is none, nothing is booked
+abbrev pub or_missing : {A T : Type 0} → (A → Dialogue T) → Option A → Dialogue T
+or_missing body (Some x) = body x
 or_missing body None = Answer (Err Missing)
 
 -- This is done with the statement that a slot holds, or with a text, which is prepared first and closed behind.

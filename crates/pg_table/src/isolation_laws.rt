@@ -7,7 +7,7 @@ ghost use Rattle.pg_spec.specs.Isolation.{IsByNames};
 ghost use Rattle.pg_spec.specs.Meanings.{HasRun, Meaning};
 ghost use Rattle.pg_promises.specs.Endings.{EndedWell, IsRun, Report, Session};
 ghost use Rattle.pg_types.specs.declared.pg_type.PgType.{PgType};
-ghost use Rattle.pg_types.specs.declared.value.Value.{Value};
+ghost use Rattle.pg_execute.specs.Parameters.{Params};
 ghost use Rattle.pg_table.specs.Examples.{b_as_s1, q_as_s0};
 ghost use Rattle.pg_core.specs.Prepares.{prepare_request, statement_name};
 ghost use Rattle.pg_execute.specs.Typed.{typed_request};
@@ -74,7 +74,7 @@ pub fn desks_of_sessions()
 /// name two statements, and one that went out twice isn't of distinct names.
 pub fn names_in_requests()
     ensures prepared { (n : ℕ) (text oids part : List ℕ) → prepare_request n text oids ≡ Ok part → statement_names part ≡ statement_name n ∷ [] }
-    ensures unnamed { (text : List ℕ) (types : List PgType) (values : List Value) (part : List ℕ) → typed_request text types values ≡ Ok part → statement_names part ≡ [] }
+    ensures unnamed { (text : List ℕ) (types : List PgType) (values : Params) (part : List ℕ) → typed_request text types values ≡ Ok part → statement_names part ≡ [] }
     ensures two { (s : Stamp) → parse_names (record { stamp = s; parts = q_as_s0 ∷ [] } ∷ record { stamp = s; parts = b_as_s1 ∷ [] } ∷ []) ≡ codes "s0" ∷ codes "s1" ∷ [] }
     ensures twice { (s : Stamp) → AreDistinct (parse_names (record { stamp = s; parts = q_as_s0 ∷ [] } ∷ record { stamp = s; parts = q_as_s0 ∷ [] } ∷ [])) → ⊥ }
 {}

@@ -7,31 +7,36 @@ ghost use Rattle.pg_types.specs.declared.error.Error.TheVariants.{Missing};
 ghost use Rattle.pg_core.specs.Lookups as lookups;
 ghost use Rattle.pg_query.specs.Dialogue.{Answer};
 ghost use Rattle.pg_table.specs.Mapped.{mapped};
-ghost use Rattle.pg_table.specs.States.{IsLive, place_of};
 ghost use Rattle.pg_table.specs.Table.{in_done, in_messages, in_statement, says_close, says_execute, says_execute_typed, says_of, says_query, says_query_raw, says_query_scalar, says_query_typed};
 ghost use Rattle.pg_table.specs.Targets.{IsFound};
 
+use crate::own::Own;
 use crate::slots::Slots;
 use crate::state::AnyState;
-use pg_client::{BatchExecuteState, CheckConnectionState, SimpleQueryState};
+use crate::transacting::{abandon, begin_transaction, commit, rollback, savepoint};
+use pg_client::{batch_execute_state, check_connection_state, simple_query_state};
+use pg_core::ParamTypes;
 use pg_execute::{HowMany, Target};
+use pg_query::Polled;
 use pg_states::{
-    ClearState, CloseState, ExecuteState, ExecuteTypedState, FirstRowsState, MissingState,
-    PrepareState, QueryScalarState, QueryState, QueryTypedState,
+    ClearState, close_owned_state, execute_state, executed_by_oids, first_rows_state,
+    missing_state, prepare_state, queried_by_oids, query_scalar_state, query_state,
 };
 use pg_text::{Command, CommandTarget, TypedText};
-use pg_types::{List, Oid, OutOfMemory, Text, Value};
+use pg_types::{List, Oid, OutOfMemory, Sql, Text, Value};
 use std::alloc::Global;
 
-/// The state of a command, by the slots of its script. OutOfMemory comes where there is no room for it.
+/// The state of a command, by what its script keeps. OutOfMemory comes where there is no room for it.
 pub fn begin<'a>(
     alloc: Global,
     command: &'a Command,
-    slots: &Slots,
+    own: &Own,
 ) -> Result<AnyState<'a>, OutOfMemory>
-    ensures live { IfOk result IsLive }
-    ensures asks { IfOk result (λ state. (place_of state).dialogue ≡ says_of slots.now command.now) }
+    ensures live { IfOk result ⟦<AnyState<'a> as Polled>⟧.is_live }
+    ensures asks { IfOk result (λ state. (⟦<AnyState<'a> as Polled>⟧.place state).dialogue ≡ says_of own.now command.now) }
 {
+    let slots = &own.slots;
+    let levels = &own.levels;
     match command {
         Command::Simple { text, take } => simple_query(alloc, text, *take),
         Command::Batch { text } => batch_execute(alloc, text),
@@ -63,6 +68,11 @@ pub fn begin<'a>(
         Command::QueryTypedOpt(typed) => query_typed(alloc, HowMany::AtMostOne, typed),
         Command::ExecuteTyped(typed) => execute_typed(alloc, typed),
         Command::Close { slot } => close(alloc, *slot, slots),
+        Command::Begin(modes) => begin_transaction(alloc, *modes),
+        Command::Savepoint { name } => savepoint(alloc, name, levels),
+        Command::Commit => commit(alloc, levels),
+        Command::Rollback => rollback(alloc, levels),
+        Command::Abandon => abandon(alloc, levels),
     }
 }
 
@@ -72,28 +82,31 @@ fn simple_query<'a>(
     text: &'a Text,
     take: Option<u64>,
 ) -> Result<AnyState<'a>, OutOfMemory>
-    ensures live { IfOk result IsLive }
-    ensures asks { IfOk result (λ state. (place_of state).dialogue ≡ mapped in_messages (simple.simple_query text.now take)) }
+    ensures live { IfOk result ⟦<AnyState<'a> as Polled>⟧.is_live }
+    ensures asks { IfOk result (λ state. (⟦<AnyState<'a> as Polled>⟧.place state).dialogue ≡ mapped in_messages (simple.simple_query text.now take)) }
 {
-    let state = boxed(alloc, SimpleQueryState::new(text.as_str(), take))?;
+    let state = boxed(
+        alloc,
+        simple_query_state(Sql::Borrowed(text.as_str()), take),
+    )?;
     Ok(AnyState::Simple(state))
 }
 
 /// The state of a batch.
 fn batch_execute<'a>(alloc: Global, text: &'a Text) -> Result<AnyState<'a>, OutOfMemory>
-    ensures live { IfOk result IsLive }
-    ensures asks { IfOk result (λ state. (place_of state).dialogue ≡ mapped in_done (done.batch_execute text.now)) }
+    ensures live { IfOk result ⟦<AnyState<'a> as Polled>⟧.is_live }
+    ensures asks { IfOk result (λ state. (⟦<AnyState<'a> as Polled>⟧.place state).dialogue ≡ mapped in_done (done.batch_execute text.now)) }
 {
-    let state = boxed(alloc, BatchExecuteState::new(text.as_str()))?;
+    let state = boxed(alloc, batch_execute_state(Sql::Borrowed(text.as_str())))?;
     Ok(AnyState::Batch(state))
 }
 
 /// The state of a check.
 fn check_connection<'a>(alloc: Global) -> Result<AnyState<'a>, OutOfMemory>
-    ensures live { IfOk result IsLive }
-    ensures asks { IfOk result (λ state. (place_of state).dialogue ≡ mapped in_done done.check_connection) }
+    ensures live { IfOk result ⟦<AnyState<'a> as Polled>⟧.is_live }
+    ensures asks { IfOk result (λ state. (⟦<AnyState<'a> as Polled>⟧.place state).dialogue ≡ mapped in_done done.check_connection) }
 {
-    let state = boxed(alloc, CheckConnectionState::new())?;
+    let state = boxed(alloc, check_connection_state())?;
     Ok(AnyState::Check(state))
 }
 
@@ -103,17 +116,19 @@ fn prepare<'a>(
     text: &'a Text,
     types: &'a List<Oid>,
 ) -> Result<AnyState<'a>, OutOfMemory>
-    ensures live { IfOk result IsLive }
-    ensures asks { IfOk result (λ state. (place_of state).dialogue ≡ mapped in_statement (lookups.prepare text.now types.now)) }
+    ensures live { IfOk result ⟦<AnyState<'a> as Polled>⟧.is_live }
+    ensures asks { IfOk result (λ state. (⟦<AnyState<'a> as Polled>⟧.place state).dialogue ≡ mapped in_statement (lookups.prepare text.now types.now)) }
 {
-    let state = boxed(alloc, PrepareState::new(text.as_str(), types.as_slice()))?;
+    let text = Sql::Borrowed(text.as_str());
+    let types = ParamTypes::Oids(types.as_slice());
+    let state = boxed(alloc, prepare_state(text, types))?;
     Ok(AnyState::Prepare(state))
 }
 
 /// The state of a clear.
 fn clear<'a>(alloc: Global) -> Result<AnyState<'a>, OutOfMemory>
-    ensures live { IfOk result IsLive }
-    ensures asks { IfOk result (λ state. (place_of state).dialogue ≡ mapped in_done lookups.clear) }
+    ensures live { IfOk result ⟦<AnyState<'a> as Polled>⟧.is_live }
+    ensures asks { IfOk result (λ state. (⟦<AnyState<'a> as Polled>⟧.place state).dialogue ≡ mapped in_done lookups.clear) }
 {
     let state = boxed(alloc, ClearState::new())?;
     Ok(AnyState::Clear(state))
@@ -127,12 +142,12 @@ fn query<'a>(
     values: &'a List<Value>,
     slots: &Slots,
 ) -> Result<AnyState<'a>, OutOfMemory>
-    ensures live { IfOk result IsLive }
-    ensures asks { IfOk result (λ state. (place_of state).dialogue ≡ says_query how_many slots.now target.now values.now) }
+    ensures live { IfOk result ⟦<AnyState<'a> as Polled>⟧.is_live }
+    ensures asks { IfOk result (λ state. (⟦<AnyState<'a> as Polled>⟧.place state).dialogue ≡ says_query how_many slots.now target.now values.now) }
 {
     match find(target, slots)? {
         Some(target) => {
-            let state = QueryState::new(target, how_many, values.as_slice());
+            let state = query_state(target, how_many, values.as_slice());
             let state = boxed(alloc, state)?;
             Ok(AnyState::Query(state))
         }
@@ -148,12 +163,12 @@ fn query_raw<'a>(
     values: &'a List<Value>,
     slots: &Slots,
 ) -> Result<AnyState<'a>, OutOfMemory>
-    ensures live { IfOk result IsLive }
-    ensures asks { IfOk result (λ state. (place_of state).dialogue ≡ says_query_raw take slots.now target.now values.now) }
+    ensures live { IfOk result ⟦<AnyState<'a> as Polled>⟧.is_live }
+    ensures asks { IfOk result (λ state. (⟦<AnyState<'a> as Polled>⟧.place state).dialogue ≡ says_query_raw take slots.now target.now values.now) }
 {
     match find(target, slots)? {
         Some(target) => {
-            let state = FirstRowsState::new(target, take, values.as_slice());
+            let state = first_rows_state(target, take, values.as_slice());
             let state = boxed(alloc, state)?;
             Ok(AnyState::QueryRaw(state))
         }
@@ -169,12 +184,12 @@ fn query_scalar<'a>(
     values: &'a List<Value>,
     slots: &Slots,
 ) -> Result<AnyState<'a>, OutOfMemory>
-    ensures live { IfOk result IsLive }
-    ensures asks { IfOk result (λ state. (place_of state).dialogue ≡ says_query_scalar how_many slots.now target.now values.now) }
+    ensures live { IfOk result ⟦<AnyState<'a> as Polled>⟧.is_live }
+    ensures asks { IfOk result (λ state. (⟦<AnyState<'a> as Polled>⟧.place state).dialogue ≡ says_query_scalar how_many slots.now target.now values.now) }
 {
     match find(target, slots)? {
         Some(target) => {
-            let state = QueryScalarState::new(target, how_many, values.as_slice());
+            let state = query_scalar_state(target, how_many, values.as_slice());
             let state = boxed(alloc, state)?;
             Ok(AnyState::Scalar(state))
         }
@@ -189,12 +204,12 @@ fn execute<'a>(
     values: &'a List<Value>,
     slots: &Slots,
 ) -> Result<AnyState<'a>, OutOfMemory>
-    ensures live { IfOk result IsLive }
-    ensures asks { IfOk result (λ state. (place_of state).dialogue ≡ says_execute slots.now target.now values.now) }
+    ensures live { IfOk result ⟦<AnyState<'a> as Polled>⟧.is_live }
+    ensures asks { IfOk result (λ state. (⟦<AnyState<'a> as Polled>⟧.place state).dialogue ≡ says_execute slots.now target.now values.now) }
 {
     match find(target, slots)? {
         Some(target) => {
-            let state = ExecuteState::new(target, values.as_slice());
+            let state = execute_state(target, values.as_slice());
             let state = boxed(alloc, state)?;
             Ok(AnyState::Execute(state))
         }
@@ -208,26 +223,26 @@ fn query_typed<'a>(
     how_many: HowMany,
     typed: &'a TypedText,
 ) -> Result<AnyState<'a>, OutOfMemory>
-    ensures live { IfOk result IsLive }
-    ensures asks { IfOk result (λ state. (place_of state).dialogue ≡ says_query_typed how_many typed.now) }
+    ensures live { IfOk result ⟦<AnyState<'a> as Polled>⟧.is_live }
+    ensures asks { IfOk result (λ state. (⟦<AnyState<'a> as Polled>⟧.place state).dialogue ≡ says_query_typed how_many typed.now) }
 {
     let text = typed.text.as_str();
     let types = typed.types.as_slice();
     let values = typed.values.as_slice();
-    let state = QueryTypedState::of_built_ins(how_many, text, types, values);
+    let state = queried_by_oids(how_many, text, types, values);
     let state = boxed(alloc, state)?;
     Ok(AnyState::QueryTyped(state))
 }
 
 /// The state of an execution of a text with values of these types.
 fn execute_typed<'a>(alloc: Global, typed: &'a TypedText) -> Result<AnyState<'a>, OutOfMemory>
-    ensures live { IfOk result IsLive }
-    ensures asks { IfOk result (λ state. (place_of state).dialogue ≡ says_execute_typed typed.now) }
+    ensures live { IfOk result ⟦<AnyState<'a> as Polled>⟧.is_live }
+    ensures asks { IfOk result (λ state. (⟦<AnyState<'a> as Polled>⟧.place state).dialogue ≡ says_execute_typed typed.now) }
 {
     let text = typed.text.as_str();
     let types = typed.types.as_slice();
     let values = typed.values.as_slice();
-    let state = ExecuteTypedState::of_built_ins(text, types, values);
+    let state = executed_by_oids(text, types, values);
     let state = boxed(alloc, state)?;
     Ok(AnyState::ExecuteTyped(state))
 }
@@ -250,13 +265,13 @@ fn find<'a>(target: &'a CommandTarget, slots: &Slots) -> Result<Option<Target<'a
 
 /// The state of a command that closes the statement in a slot.
 fn close<'a>(alloc: Global, slot: u64, slots: &Slots) -> Result<AnyState<'a>, OutOfMemory>
-    ensures live { IfOk result IsLive }
-    ensures asks { IfOk result (λ state. (place_of state).dialogue ≡ says_close slots.now slot) }
+    ensures live { IfOk result ⟦<AnyState<'a> as Polled>⟧.is_live }
+    ensures asks { IfOk result (λ state. (⟦<AnyState<'a> as Polled>⟧.place state).dialogue ≡ says_close slots.now slot) }
 {
     match slots.get(slot) {
         Some(statement) => {
             let statement = statement.copy()?;
-            let state = CloseState::owned(statement);
+            let state = close_owned_state(statement);
             let state = boxed(alloc, state)?;
             Ok(AnyState::Close(state))
         }
@@ -265,16 +280,16 @@ fn close<'a>(alloc: Global, slot: u64, slots: &Slots) -> Result<AnyState<'a>, Ou
 }
 
 /// The state of a command whose slot holds nothing.
-fn missing<'a>(alloc: Global) -> Result<AnyState<'a>, OutOfMemory>
-    ensures live { IfOk result IsLive }
-    ensures asks { IfOk result (λ state. (place_of state).dialogue ≡ Answer (Err Missing)) }
+pub(crate) fn missing<'a>(alloc: Global) -> Result<AnyState<'a>, OutOfMemory>
+    ensures live { IfOk result ⟦<AnyState<'a> as Polled>⟧.is_live }
+    ensures asks { IfOk result (λ state. (⟦<AnyState<'a> as Polled>⟧.place state).dialogue ≡ Answer (Err Missing)) }
 {
-    let state = boxed(alloc, MissingState::new())?;
+    let state = boxed(alloc, missing_state())?;
     Ok(AnyState::Missing(state))
 }
 
 /// Puts a value on the heap.
-fn boxed<T: Drop>(alloc: Global, value: T) -> Result<Box<T>, OutOfMemory>
+pub(crate) fn boxed<T: Drop>(alloc: Global, value: T) -> Result<Box<T>, OutOfMemory>
     ensures { IfOk result (λ boxed. boxed.value ≡ value) }
 {
     Ok(Box::new(alloc, value)?)

@@ -4,7 +4,7 @@ ghost use Rattle.std.specs.Prelude.{◌≡◌, ◌≢◌, Err, IfOk, OnOk};
 ghost use Rattle.pg_table.specs.Table.{table};
 
 use crate::making::begin;
-use crate::slots::Slots;
+use crate::own::Own;
 use crate::state::{AnyAnswer, AnyState, keep};
 use pg_errors::Error;
 use pg_session::Spoken;
@@ -19,36 +19,32 @@ impl<'a> Spoken<'a> for AnyState<'a> {
 
     type Answer = Answer;
 
-    type Slots = Slots;
+    type Slots = Own;
 
     ghost speech = { table };
 
-    fn first_slots(alloc: Global) -> Slots
+    fn first_slots(alloc: Global) -> Own
         ensures { result ≡ table.begins }
     {
-        Slots::new(alloc)
+        Own::new(alloc)
     }
 
-    fn begin(
-        alloc: Global,
-        command: &'a Command,
-        slots: &Slots,
-    ) -> Result<AnyState<'a>, OutOfMemory> {
-        begin(alloc, command, slots)
+    fn begin(alloc: Global, command: &'a Command, own: &Own) -> Result<AnyState<'a>, OutOfMemory> {
+        begin(alloc, command, own)
     }
 
     fn keep(
-        slots: &mut Slots,
+        own: &mut Own,
         command: &Command,
         answer: Result<AnyAnswer, Error>,
     ) -> Result<Answer, OutOfMemory>
-        ensures answer { IfOk result (λ told. told ≡ (table.ends slots.old command.now answer).answer) }
+        ensures answer { IfOk result (λ told. told ≡ (table.ends own.old command.now answer).answer) }
         ensures memory { OnOk result (answer ≢ Err Error.OutOfMemory) }
-        ensures slots { OnOk result (slots.new ≡ (table.ends slots.old command.now answer).own) }
+        ensures slots { OnOk result (own.new ≡ (table.ends own.old command.now answer).own) }
     {
         match answer {
             Err(Error::OutOfMemory { .. }) => Err(OutOfMemory),
-            answer => keep(slots, command, answer),
+            answer => keep(own, command, answer),
         }
     }
 }

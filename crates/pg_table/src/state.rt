@@ -1,10 +1,16 @@
 //! The states of all commands in one, and what they answer.
 
 ghost use Rattle.std.specs.Prelude.{◌≡◌, Ok, IfOk, OnOk};
-ghost use Rattle.pg_table.specs.Mapped.{mapped_poll};
-ghost use Rattle.pg_table.specs.Table.{in_count, in_done, in_messages, in_rows, in_scalars, in_statement, kept_answer, slots_behind, slots_behind_prepare};
+ghost use Rattle.pg_table.specs.Table.{kept_answer, levels_behind, levels_behind_begin, levels_behind_savepoint, own_behind, slots_behind, slots_behind_prepare};
 
+use crate::abandons::AbandonState;
+use crate::levels::Levels;
+use crate::own::Own;
 use crate::slots::Slots;
+use crate::telling::{
+    InCount, InDone, InMessages, InRows, InScalars, InStatement, given_up, polled,
+};
+use crate::transacting::BeginState;
 use futures::task::Poll;
 use pg_client::{BatchExecuteState, CheckConnectionState, SimpleQueryState};
 use pg_desk::{Desk, Stamp, Statement};
@@ -12,11 +18,11 @@ use pg_errors::Error;
 use pg_execute::ResultSet;
 use pg_query::{Polled, SimpleMessage};
 use pg_states::{
-    ClearState, CloseState, ExecuteState, ExecuteTypedState, FirstRowsState, MissingState,
-    PrepareState, QueryScalarState, QueryState, QueryTypedState,
+    ClearState, CloseState, ExecuteState, ExecutedTyped, FirstRowsState, MissingState,
+    PrepareState, QueriedTyped, QueryScalarState, QueryState,
 };
 use pg_text::{Answer, Command};
-use pg_types::{List, OutOfMemory, Value};
+use pg_types::{List, OutOfMemory, Text, Value};
 use std::alloc::Global;
 
 /// The state of a command that runs. It stands on the heap, so that what holds it is small.
@@ -26,13 +32,15 @@ pub enum AnyState<'a> {
     Check(Box<CheckConnectionState>),
     Prepare(Box<PrepareState<'a>>),
     Clear(Box<ClearState>),
-    Query(Box<QueryState<'a>>),
-    QueryRaw(Box<FirstRowsState<'a>>),
-    Scalar(Box<QueryScalarState<'a>>),
-    Execute(Box<ExecuteState<'a>>),
-    QueryTyped(Box<QueryTypedState<'a>>),
-    ExecuteTyped(Box<ExecuteTypedState<'a>>),
+    Query(Box<QueryState<'a, &'a [Value]>>),
+    QueryRaw(Box<FirstRowsState<'a, &'a [Value]>>),
+    Scalar(Box<QueryScalarState<'a, Value, &'a [Value]>>),
+    Execute(Box<ExecuteState<'a, &'a [Value]>>),
+    QueryTyped(Box<QueriedTyped<'a, &'a [Value]>>),
+    ExecuteTyped(Box<ExecutedTyped<'a, &'a [Value]>>),
     Close(Box<CloseState<'a>>),
+    Begin(Box<BeginState<'a>>),
+    Abandon(Box<AbandonState>),
     Missing(Box<MissingState>),
 }
 
@@ -51,6 +59,8 @@ impl<'a> Drop for AnyState<'a> {
             AnyState::QueryTyped(_it) => {}
             AnyState::ExecuteTyped(_it) => {}
             AnyState::Close(_it) => {}
+            AnyState::Begin(_it) => {}
+            AnyState::Abandon(_it) => {}
             AnyState::Missing(_it) => {}
         }
     }
@@ -70,20 +80,32 @@ pub enum AnyAnswer {
 /// Keeps what the script of a command keeps of its answer, and gives the answer that its report has. OutOfMemory comes where there
 /// is no room for it.
 pub fn keep(
-    slots: &mut Slots,
+    own: &mut Own,
     command: &Command,
     answer: Result<AnyAnswer, Error>,
 ) -> Result<Answer, OutOfMemory>
     ensures answer { IfOk result (λ told. told ≡ kept_answer answer) }
-    ensures slots { OnOk result (slots.new ≡ slots_behind slots.old command.now answer) }
+    ensures own { OnOk result (own.new ≡ own_behind own.old command.now answer) }
 {
-    match keep_slots(slots, command, &answer) {
+    match keep_own(own, command, &answer) {
         Ok(()) => Ok(told(answer)),
         Err(_) => {
             drop(answer);
             Err(OutOfMemory)
         }
     }
+}
+
+/// Keeps what a script keeps of the answer of its command.
+fn keep_own(
+    own: &mut Own,
+    command: &Command,
+    answer: &Result<AnyAnswer, Error>,
+) -> Result<(), OutOfMemory>
+    ensures { OnOk result (own.new ≡ own_behind own.old command.now answer.now) }
+{
+    keep_slots(&mut own.slots, command, answer)?;
+    keep_levels(&mut own.levels, command, answer)
 }
 
 /// Keeps what the slots of a script keep of the answer of its command.
@@ -118,6 +140,49 @@ fn keep_prepared(
     Ok(())
 }
 
+/// Keeps what the levels of a script keep of the answer of its command.
+fn keep_levels(
+    levels: &mut Levels,
+    command: &Command,
+    answer: &Result<AnyAnswer, Error>,
+) -> Result<(), OutOfMemory>
+    ensures { OnOk result (levels.new ≡ levels_behind levels.old command.now answer.now) }
+{
+    match command {
+        Command::Begin(_) => keep_begun(levels, answer),
+        Command::Savepoint { name } => keep_savepoint(levels, name, answer),
+        Command::Commit | Command::Rollback | Command::Abandon => {
+            levels.end();
+            Ok(())
+        }
+        _ => Ok(()),
+    }
+}
+
+/// Keeps that a transaction was begun.
+fn keep_begun(levels: &mut Levels, answer: &Result<AnyAnswer, Error>) -> Result<(), OutOfMemory>
+    ensures { OnOk result (levels.new ≡ levels_behind_begin levels.old answer.now) }
+{
+    match answer {
+        Ok(_) => levels.begin(),
+        Err(_) => Ok(()),
+    }
+}
+
+/// Keeps that a savepoint was opened.
+fn keep_savepoint(
+    levels: &mut Levels,
+    name: &Option<Text>,
+    answer: &Result<AnyAnswer, Error>,
+) -> Result<(), OutOfMemory>
+    ensures { OnOk result (levels.new ≡ levels_behind_savepoint levels.old name.now answer.now) }
+{
+    match answer {
+        Ok(_) => levels.open_savepoint(name),
+        Err(_) => Ok(()),
+    }
+}
+
 /// The answer that is kept of what a state answered.
 fn told(answer: Result<AnyAnswer, Error>) -> Answer
     ensures { result ≡ kept_answer answer }
@@ -146,80 +211,50 @@ fn told_rows(set: ResultSet) -> Answer
     }
 }
 
-/// A poll of a simple query.
-fn messages(polled: Poll<Result<List<SimpleMessage>, Error>>) -> Poll<Result<AnyAnswer, Error>>
-    ensures { result ≡ mapped_poll in_messages polled }
-{
-    match polled {
-        Poll::Ready(Ok(messages)) => Poll::Ready(Ok(AnyAnswer::Messages(messages))),
-        Poll::Ready(Err(error)) => Poll::Ready(Err(error)),
-        Poll::Pending => Poll::Pending,
-    }
-}
-
-/// A poll of a command that is only done.
-fn done(polled: Poll<Result<(), Error>>) -> Poll<Result<AnyAnswer, Error>>
-    ensures { result ≡ mapped_poll in_done polled }
-{
-    match polled {
-        Poll::Ready(Ok(())) => Poll::Ready(Ok(AnyAnswer::Done)),
-        Poll::Ready(Err(error)) => Poll::Ready(Err(error)),
-        Poll::Pending => Poll::Pending,
-    }
-}
-
-/// A poll of a command that prepares.
-fn statement(polled: Poll<Result<Statement, Error>>) -> Poll<Result<AnyAnswer, Error>>
-    ensures { result ≡ mapped_poll in_statement polled }
-{
-    match polled {
-        Poll::Ready(Ok(statement)) => Poll::Ready(Ok(AnyAnswer::Statement(statement))),
-        Poll::Ready(Err(error)) => Poll::Ready(Err(error)),
-        Poll::Pending => Poll::Pending,
-    }
-}
-
-/// A poll of a query.
-fn rows(polled: Poll<Result<ResultSet, Error>>) -> Poll<Result<AnyAnswer, Error>>
-    ensures { result ≡ mapped_poll in_rows polled }
-{
-    match polled {
-        Poll::Ready(Ok(set)) => Poll::Ready(Ok(AnyAnswer::Rows(set))),
-        Poll::Ready(Err(error)) => Poll::Ready(Err(error)),
-        Poll::Pending => Poll::Pending,
-    }
-}
-
-/// A poll of a query of one column.
-fn scalars(polled: Poll<Result<List<Value>, Error>>) -> Poll<Result<AnyAnswer, Error>>
-    ensures { result ≡ mapped_poll in_scalars polled }
-{
-    match polled {
-        Poll::Ready(Ok(values)) => Poll::Ready(Ok(AnyAnswer::Scalars(values))),
-        Poll::Ready(Err(error)) => Poll::Ready(Err(error)),
-        Poll::Pending => Poll::Pending,
-    }
-}
-
-/// A poll of an execution.
-fn count(polled: Poll<Result<u64, Error>>) -> Poll<Result<AnyAnswer, Error>>
-    ensures { result ≡ mapped_poll in_count polled }
-{
-    match polled {
-        Poll::Ready(Ok(count)) => Poll::Ready(Ok(AnyAnswer::Count(count))),
-        Poll::Ready(Err(error)) => Poll::Ready(Err(error)),
-        Poll::Pending => Poll::Pending,
-    }
-}
-
 impl<'a> Polled for AnyState<'a> {
-    ghost use Rattle.pg_table.specs.States.{IsLive, place_of};
+    ghost use Rattle.pg_query.specs.Meaning.{Place};
+    ghost use Rattle.pg_table.specs.Mapped.{mapped_place};
+    ghost use Rattle.pg_table.specs.Table.{in_count, in_done, in_messages, in_rows, in_scalars, in_statement};
+    ghost use Rattle.pg_table.specs.declared.state.AnyAnswer as any_answer;
+    ghost use Rattle.pg_table.specs.declared.state.AnyState.TheVariants.{Simple, Batch, Check, Prepare, Clear, Query, QueryRaw, Scalar, Execute, QueryTyped, ExecuteTyped, Close, Begin, Abandon, Missing};
 
     type Output = AnyAnswer;
 
-    ghost place = { place_of };
+    ghost place = { λ s. elim s as (λ _. Place any_answer.AnyAnswer) [
+      | Simple state ↦ mapped_place in_messages (⟦<SimpleQueryState<'a> as Polled>⟧.place state.value)
+      | Batch state ↦ mapped_place in_done (⟦<BatchExecuteState<'a> as Polled>⟧.place state.value)
+      | Check state ↦ mapped_place in_done (⟦<CheckConnectionState as Polled>⟧.place state.value)
+      | Prepare state ↦ mapped_place in_statement (⟦<PrepareState<'a> as Polled>⟧.place state.value)
+      | Clear state ↦ mapped_place in_done (⟦<ClearState as Polled>⟧.place state.value)
+      | Query state ↦ mapped_place in_rows (⟦<QueryState<'a, &'a [Value]> as Polled>⟧.place state.value)
+      | QueryRaw state ↦ mapped_place in_rows (⟦<FirstRowsState<'a, &'a [Value]> as Polled>⟧.place state.value)
+      | Scalar state ↦ mapped_place in_scalars (⟦<QueryScalarState<'a, Value, &'a [Value]> as Polled>⟧.place state.value)
+      | Execute state ↦ mapped_place in_count (⟦<ExecuteState<'a, &'a [Value]> as Polled>⟧.place state.value)
+      | QueryTyped state ↦ mapped_place in_rows (⟦<QueriedTyped<'a, &'a [Value]> as Polled>⟧.place state.value)
+      | ExecuteTyped state ↦ mapped_place in_count (⟦<ExecutedTyped<'a, &'a [Value]> as Polled>⟧.place state.value)
+      | Close state ↦ mapped_place in_done (⟦<CloseState<'a> as Polled>⟧.place state.value)
+      | Begin state ↦ mapped_place in_done (⟦<BeginState<'a> as Polled>⟧.place state.value)
+      | Abandon state ↦ mapped_place in_done (⟦<AbandonState as Polled>⟧.place state.value)
+      | Missing state ↦ mapped_place in_done (⟦<MissingState as Polled>⟧.place state.value)
+    ] };
 
-    ghost is_live = { IsLive };
+    ghost is_live = { λ s. elim s as (λ _. Type 0) [
+      | Simple state ↦ ⟦<SimpleQueryState<'a> as Polled>⟧.is_live state.value
+      | Batch state ↦ ⟦<BatchExecuteState<'a> as Polled>⟧.is_live state.value
+      | Check state ↦ ⟦<CheckConnectionState as Polled>⟧.is_live state.value
+      | Prepare state ↦ ⟦<PrepareState<'a> as Polled>⟧.is_live state.value
+      | Clear state ↦ ⟦<ClearState as Polled>⟧.is_live state.value
+      | Query state ↦ ⟦<QueryState<'a, &'a [Value]> as Polled>⟧.is_live state.value
+      | QueryRaw state ↦ ⟦<FirstRowsState<'a, &'a [Value]> as Polled>⟧.is_live state.value
+      | Scalar state ↦ ⟦<QueryScalarState<'a, Value, &'a [Value]> as Polled>⟧.is_live state.value
+      | Execute state ↦ ⟦<ExecuteState<'a, &'a [Value]> as Polled>⟧.is_live state.value
+      | QueryTyped state ↦ ⟦<QueriedTyped<'a, &'a [Value]> as Polled>⟧.is_live state.value
+      | ExecuteTyped state ↦ ⟦<ExecutedTyped<'a, &'a [Value]> as Polled>⟧.is_live state.value
+      | Close state ↦ ⟦<CloseState<'a> as Polled>⟧.is_live state.value
+      | Begin state ↦ ⟦<BeginState<'a> as Polled>⟧.is_live state.value
+      | Abandon state ↦ ⟦<AbandonState as Polled>⟧.is_live state.value
+      | Missing state ↦ ⟦<MissingState as Polled>⟧.is_live state.value
+    ] };
 
     fn poll<D: Desk>(
         &mut self,
@@ -228,37 +263,41 @@ impl<'a> Polled for AnyState<'a> {
         stamp: Stamp,
     ) -> Poll<Result<AnyAnswer, Error>> {
         match self {
-            AnyState::Simple(state) => messages(state.poll(alloc, desk, stamp)),
-            AnyState::Batch(state) => done(state.poll(alloc, desk, stamp)),
-            AnyState::Check(state) => done(state.poll(alloc, desk, stamp)),
-            AnyState::Prepare(state) => statement(state.poll(alloc, desk, stamp)),
-            AnyState::Clear(state) => done(state.poll(alloc, desk, stamp)),
-            AnyState::Query(state) => rows(state.poll(alloc, desk, stamp)),
-            AnyState::QueryRaw(state) => rows(state.poll(alloc, desk, stamp)),
-            AnyState::Scalar(state) => scalars(state.poll(alloc, desk, stamp)),
-            AnyState::Execute(state) => count(state.poll(alloc, desk, stamp)),
-            AnyState::QueryTyped(state) => rows(state.poll(alloc, desk, stamp)),
-            AnyState::ExecuteTyped(state) => count(state.poll(alloc, desk, stamp)),
-            AnyState::Close(state) => done(state.poll(alloc, desk, stamp)),
-            AnyState::Missing(state) => done(state.poll(alloc, desk, stamp)),
+            AnyState::Simple(state) => polled(state, InMessages, alloc, desk, stamp),
+            AnyState::Batch(state) => polled(state, InDone, alloc, desk, stamp),
+            AnyState::Check(state) => polled(state, InDone, alloc, desk, stamp),
+            AnyState::Prepare(state) => polled(state, InStatement, alloc, desk, stamp),
+            AnyState::Clear(state) => polled(state, InDone, alloc, desk, stamp),
+            AnyState::Query(state) => polled(state, InRows, alloc, desk, stamp),
+            AnyState::QueryRaw(state) => polled(state, InRows, alloc, desk, stamp),
+            AnyState::Scalar(state) => polled(state, InScalars, alloc, desk, stamp),
+            AnyState::Execute(state) => polled(state, InCount, alloc, desk, stamp),
+            AnyState::QueryTyped(state) => polled(state, InRows, alloc, desk, stamp),
+            AnyState::ExecuteTyped(state) => polled(state, InCount, alloc, desk, stamp),
+            AnyState::Close(state) => polled(state, InDone, alloc, desk, stamp),
+            AnyState::Begin(state) => polled(state, InDone, alloc, desk, stamp),
+            AnyState::Abandon(state) => polled(state, InDone, alloc, desk, stamp),
+            AnyState::Missing(state) => polled(state, InDone, alloc, desk, stamp),
         }
     }
 
     fn hang_up<D: Desk>(self, alloc: Global, desk: &mut D, stamp: Stamp) -> Result<(), Error> {
         match self {
-            AnyState::Simple(state) => Box::into_inner(state).hang_up(alloc, desk, stamp),
-            AnyState::Batch(state) => Box::into_inner(state).hang_up(alloc, desk, stamp),
-            AnyState::Check(state) => Box::into_inner(state).hang_up(alloc, desk, stamp),
-            AnyState::Prepare(state) => Box::into_inner(state).hang_up(alloc, desk, stamp),
-            AnyState::Clear(state) => Box::into_inner(state).hang_up(alloc, desk, stamp),
-            AnyState::Query(state) => Box::into_inner(state).hang_up(alloc, desk, stamp),
-            AnyState::QueryRaw(state) => Box::into_inner(state).hang_up(alloc, desk, stamp),
-            AnyState::Scalar(state) => Box::into_inner(state).hang_up(alloc, desk, stamp),
-            AnyState::Execute(state) => Box::into_inner(state).hang_up(alloc, desk, stamp),
-            AnyState::QueryTyped(state) => Box::into_inner(state).hang_up(alloc, desk, stamp),
-            AnyState::ExecuteTyped(state) => Box::into_inner(state).hang_up(alloc, desk, stamp),
-            AnyState::Close(state) => Box::into_inner(state).hang_up(alloc, desk, stamp),
-            AnyState::Missing(state) => Box::into_inner(state).hang_up(alloc, desk, stamp),
+            AnyState::Simple(state) => given_up(state, InMessages, alloc, desk, stamp),
+            AnyState::Batch(state) => given_up(state, InDone, alloc, desk, stamp),
+            AnyState::Check(state) => given_up(state, InDone, alloc, desk, stamp),
+            AnyState::Prepare(state) => given_up(state, InStatement, alloc, desk, stamp),
+            AnyState::Clear(state) => given_up(state, InDone, alloc, desk, stamp),
+            AnyState::Query(state) => given_up(state, InRows, alloc, desk, stamp),
+            AnyState::QueryRaw(state) => given_up(state, InRows, alloc, desk, stamp),
+            AnyState::Scalar(state) => given_up(state, InScalars, alloc, desk, stamp),
+            AnyState::Execute(state) => given_up(state, InCount, alloc, desk, stamp),
+            AnyState::QueryTyped(state) => given_up(state, InRows, alloc, desk, stamp),
+            AnyState::ExecuteTyped(state) => given_up(state, InCount, alloc, desk, stamp),
+            AnyState::Close(state) => given_up(state, InDone, alloc, desk, stamp),
+            AnyState::Begin(state) => given_up(state, InDone, alloc, desk, stamp),
+            AnyState::Abandon(state) => given_up(state, InDone, alloc, desk, stamp),
+            AnyState::Missing(state) => given_up(state, InDone, alloc, desk, stamp),
         }
     }
 }

@@ -29,7 +29,7 @@ use Rattle.pg_session.specs.Speeches.{meaning_of}
 use Rattle.pg_session.proofs.Complete.Bytes.{IsWhole, front-of, messages-behind, split-concat}
 use Rattle.pg_session.proofs.Complete.Course.{few-frames}
 use Rattle.pg_session.proofs.Complete.Start.{done-later, used-within}
-use Rattle.pg_table.specs.Slots.{Slots}
+use Rattle.pg_table.specs.declared.own.Own.{Own}
 use Rattle.pg_table.specs.Table.{table}
 use Rattle.pg_table.proofs.SimpleMeans.{book-whole}
 use Rattle.pg_text.specs.declared.command.Answer.{Answer}
@@ -78,7 +78,7 @@ replied = described ∷ finder_described ∷ found ∷ described ∷ []
 abbrev replies : List (List RawMessage)
 replies = groups (messages (concat replied))
 
-abbrev meaning : Meaning Command Answer Slots DeskCall Reply
+abbrev meaning : Meaning Command Answer Own DeskCall Reply
 meaning = meaning_of table
 
 -- The first is described, and its type looked up by a statement that is described and executed: three requests. The second is described.
@@ -86,9 +86,9 @@ three : length (foreseen_of meaning [] replies meaning.begins (Prepare 0 (codes 
 unfolding digits is_utf8 chars encode
 three = refl
 
-one : (slots : Slots) → length (foreseen_of meaning (first_asks meaning replies (Prepare 0 (codes "a") []) (Prepare 1 (codes "b") [])) (drop 3 replies) slots (Prepare 1 (codes "b") [])).requests ≡ 1
+one : (own : Own) → length (foreseen_of meaning (first_asks meaning replies (Prepare 0 (codes "a") []) (Prepare 1 (codes "b") [])) (drop 3 replies) own (Prepare 1 (codes "b") [])).requests ≡ 1
 unfolding digits is_utf8 chars encode
-one slots = refl
+one own = refl
 
 four : AsksFew meaning [] replies meaning.begins (Prepare 0 (codes "a") [] ∷ Prepare 1 (codes "b") [] ∷ []) 4
 four = two-ask meaning replies (Prepare 0 (codes "a") []) (Prepare 1 (codes "b") []) 3 1 three one

@@ -41,3 +41,18 @@ returns-in-ExecuteTyped-clause-asks c = rw c.in-ExecuteTyped.is c.execute_typed.
 
 pub returns-in-Close-clause-asks : goal.returns-in-Close-clause-asks
 returns-in-Close-clause-asks c = rw c.in-Close.is c.close.ensures.asks
+
+pub returns-in-Begin-clause-asks : goal.returns-in-Begin-clause-asks
+returns-in-Begin-clause-asks c = rw c.in-Begin.is c.begin_transaction.ensures.asks
+
+pub returns-in-Savepoint-clause-asks : goal.returns-in-Savepoint-clause-asks
+returns-in-Savepoint-clause-asks c = rw c.in-Savepoint.is c.savepoint.ensures.asks
+
+pub returns-in-Commit-clause-asks : goal.returns-in-Commit-clause-asks
+returns-in-Commit-clause-asks c = rw c.in-Commit.is c.commit.ensures.asks
+
+pub returns-in-Rollback-clause-asks : goal.returns-in-Rollback-clause-asks
+returns-in-Rollback-clause-asks c = rw c.in-Rollback.is c.rollback.ensures.asks
+
+pub returns-in-Abandon-clause-asks : goal.returns-in-Abandon-clause-asks
+returns-in-Abandon-clause-asks c = rw c.in-Abandon.is c.abandon.ensures.asks

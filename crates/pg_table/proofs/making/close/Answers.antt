@@ -1,11 +1,9 @@
 use Rattle.std.proofs.Common.{◌≡◌, Option, IfOk, ap, subst, ◌∙◌}
 use Rattle.pg_execute.specs.Executes.{close}
-use Rattle.pg_states.specs.ExecutedStates.{place_of_close}
-use Rattle.pg_states.specs.declared.close.CloseState.{CloseState}
 use Rattle.pg_query.specs.Dialogue.{Dialogue}
 use Rattle.pg_desk.specs.declared.statement.Described.{Described}
 use Rattle.pg_table.specs.Mapped.{mapped}
-use Rattle.pg_table.specs.States.{place_of}
+use Rattle.pg_table.specs.contracts.state.AnyStatePolled.TheImpl as any
 use Rattle.pg_table.specs.Table.{in_done}
 use Rattle.pg_table.specs.Targets.{or_missing}
 use Rattle.pg_table.specs.declared.state.AnyAnswer.{AnyAnswer}
@@ -13,12 +11,12 @@ use Rattle.pg_table.proofs.making.close.Goals as goal
 
 pub returns-in_ok-state-in-Some-clause-asks : goal.returns-in_ok-state-in-Some-clause-asks
 returns-in_ok-state-in-Some-clause-asks c =
-    ap (λ (d : Dialogue (Unit {0})). mapped in_done d)
-    (ap (λ (s : CloseState). (place_of_close s).dialogue) c.in_ok-state-in-Some.ensures ∙ c.owned-state.ensures.asks ∙ ap close c.in_ok-statement-in-Some.ensures)
-    ∙ ap (λ (o : Option Described). mapped in_done (or_missing close o)) c.in-Some.ensures
+    rw c.in_ok-state-in-Some.ensures
+    (ap (λ (d : Dialogue (Unit {0})). mapped in_done d) (c.close_owned_state-state.ensures.asks ∙ ap close c.in_ok-statement-in-Some.ensures)
+    ∙ ap (λ (o : Option Described). mapped in_done (or_missing close o)) c.in-Some.ensures)
 
 pub returns-in-None-clause-asks : goal.returns-in-None-clause-asks
 returns-in-None-clause-asks c =
-    subst (λ (d : Dialogue AnyAnswer). IfOk c.missing.result (λ state. (place_of state).dialogue ≡ d))
+    subst (λ (d : Dialogue AnyAnswer). IfOk c.missing.result (λ state. (any.ghosts.place state).dialogue ≡ d))
     (ap (λ (o : Option Described). mapped in_done (or_missing close o)) c.in-None.ensures)
     c.missing.ensures.asks
