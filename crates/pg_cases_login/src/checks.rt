@@ -6,7 +6,7 @@ use bytes::BytesMut;
 use futures::task::Poll;
 use pg_cases::words::text_at;
 use pg_cases::written;
-use pg_client::SessionCheckState;
+use pg_client::{SessionCheckState, session_check_state};
 use pg_config::TargetSessionAttrs;
 use pg_errors::Error;
 use pg_hub::{Deliver, Desk, Engine, Hub, Out, Stamp, Take};
@@ -131,7 +131,7 @@ fn tell_over(
     hub: &mut Hub,
     out: &mut String,
 ) -> Result<(), AllocError> {
-    let mut state = SessionCheckState::new(attrs_of(text_at(words, 0)));
+    let mut state = session_check_state(attrs_of(text_at(words, 0)));
     match state.poll(alloc, hub, STAMP) {
         Poll::Ready(answer) => tell_unasked(&answer, hub, out),
         Poll::Pending => {

@@ -1,8 +1,8 @@
 //! Session texts, and what they ask for.
 
 use pg_cases::written;
-use pg_text::{Command, CommandTarget, Session, TextFault, TypedText, session_text};
-use pg_types::{List, Oid, Value};
+use pg_text::{Command, CommandTarget, Modes, Session, TextFault, TypedText, session_text};
+use pg_types::{List, Oid, Text, Value};
 use pg_wire::{Link, LinkRead, LinkWrite, MemoryLink};
 use std::alloc::{AllocError, Global};
 
@@ -87,6 +87,33 @@ fn tell_typed(name: &str, typed: &TypedText, out: &mut String) -> Result<(), All
     Ok(())
 }
 
+fn tell_modes(modes: Modes, out: &mut String) -> Result<(), AllocError> {
+    write!(
+        out,
+        " begin {:?} {:?} {:?}",
+        modes.isolation_level, modes.read_only, modes.deferrable
+    )
+}
+
+fn tell_savepoint(name: &Option<Text>, out: &mut String) -> Result<(), AllocError> {
+    match name {
+        Some(name) => write!(out, " savepoint {:?}", name.as_str()),
+        None => out.push_str(" savepoint"),
+    }
+}
+
+/// A command that opens or ends a level of a transaction.
+fn tell_level(command: &Command, out: &mut String) -> Result<(), AllocError> {
+    match command {
+        Command::Begin(modes) => tell_modes(*modes, out),
+        Command::Savepoint { name } => tell_savepoint(name, out),
+        Command::Commit => out.push_str(" commit"),
+        Command::Rollback => out.push_str(" rollback"),
+        Command::Abandon => out.push_str(" abandon"),
+        _ => out.push_str(" another"),
+    }
+}
+
 /// A command that executes a text in one request.
 fn tell_in_one(command: &Command, out: &mut String) -> Result<(), AllocError> {
     match command {
@@ -94,7 +121,7 @@ fn tell_in_one(command: &Command, out: &mut String) -> Result<(), AllocError> {
         Command::QueryTypedOne(typed) => tell_typed("query_typed_one", typed, out),
         Command::QueryTypedOpt(typed) => tell_typed("query_typed_opt", typed, out),
         Command::ExecuteTyped(typed) => tell_typed("execute_typed", typed, out),
-        _ => out.push_str(" another"),
+        _ => tell_level(command, out),
     }
 }
 
