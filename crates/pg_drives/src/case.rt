@@ -1,9 +1,9 @@
 //! What a line says.
 
 use crate::session::POLLS;
-use pg_cases::words::{text, text_at};
+use pg_asking::{Given, split};
+use pg_cases::words::text_at;
 use std::alloc::{AllocError, Global};
-use tokio_postgres::types::{Oid, Text, Type, Value};
 
 /// How a statement is handed in.
 #[derive(Clone, Copy, PartialEq, Eq, Drop)]
@@ -96,16 +96,6 @@ impl<'a> Setting<'a> {
     }
 }
 
-/// The words before and behind the first one that is this.
-fn split<'a>(words: &'a [Vec<u8>], at: &str) -> (&'a [Vec<u8>], &'a [Vec<u8>]) {
-    for place in 0..words.len() {
-        if text(words[place].as_slice()) == at {
-            return (&words[..place], &words[place + 1..]);
-        }
-    }
-    (words, &[])
-}
-
 /// The answer of this call is a stream.
 pub(crate) fn hands_on(call: &str) -> bool {
     matches!(call, "simple_query_raw" | "query_raw" | "query_typed_raw")
@@ -135,83 +125,9 @@ impl<'a> Case<'a> {
             plan,
         }
     }
-}
 
-/// What a case hands in.
-pub(crate) struct Given {
-    pub(crate) values: Vec<Value>,
-    pub(crate) types: Vec<Type>,
-    pub(crate) oids: Vec<Oid>,
-}
-
-impl Drop for Given {
-    fn drop(self) {
-        let Given {
-            values: _,
-            types: _,
-            oids: _,
-        } = self;
+    /// What it hands in.
+    pub(crate) fn given(&self, alloc: Global) -> Result<Given, AllocError> {
+        Given::read(alloc, self.values, self.types)
     }
-}
-
-impl Given {
-    /// What this case hands in.
-    pub(crate) fn read(alloc: Global, case: &Case<'_>) -> Result<Given, AllocError> {
-        Ok(Given {
-            values: values_of(alloc, case.values)?,
-            types: types_of(alloc, case.types)?,
-            oids: oids_of(alloc, case.types)?,
-        })
-    }
-}
-
-/// The value that a word is: `null`, a number, or else a text.
-fn value_of(alloc: Global, word: &[u8]) -> Result<Value, AllocError> {
-    let word = text(word);
-    if word == "null" {
-        return Ok(Value::Null);
-    }
-    if let Ok(n) = word.parse::<i64>() {
-        return Ok(Value::Int(n));
-    }
-    match Text::from_str(alloc, word) {
-        Ok(text) => Ok(Value::Text(text)),
-        Err(_) => Err(AllocError),
-    }
-}
-
-/// The values that these words are.
-fn values_of(alloc: Global, words: &[Vec<u8>]) -> Result<Vec<Value>, AllocError> {
-    let mut values = Vec::new(alloc);
-    for word in words {
-        values.push(value_of(alloc, word.as_slice())?)?;
-    }
-    Ok(values)
-}
-
-/// The oid that a word is.
-fn oid_of(word: &[u8]) -> Oid {
-    text(word).parse::<u32>().unwrap_or(0)
-}
-
-/// The oids that these words are.
-fn oids_of(alloc: Global, words: &[Vec<u8>]) -> Result<Vec<Oid>, AllocError> {
-    let mut oids = Vec::new(alloc);
-    for word in words {
-        oids.push(oid_of(word.as_slice()))?;
-    }
-    Ok(oids)
-}
-
-/// The built-in types of the oids that these words are.
-fn types_of(alloc: Global, words: &[Vec<u8>]) -> Result<Vec<Type>, AllocError> {
-    let mut types = Vec::new(alloc);
-    for word in words {
-        match Type::from_oid(alloc, oid_of(word.as_slice())) {
-            Ok(Some(ty)) => types.push(ty)?,
-            Ok(None) => {}
-            Err(_) => return Err(AllocError),
-        }
-    }
-    Ok(types)
 }

@@ -6,7 +6,7 @@ use pg_desk::{Deliver, Out};
 use pg_hub::Pipeline;
 use pg_wire::{BackendMessage, PostgresCodec};
 use std::alloc::{AllocError, Global};
-use tokio_postgres::types::{List, Text};
+use tokio_postgres::types::{List, Text, Value};
 use tokio_postgres::{Client, Engine, Error, Polled, Stamp, Statement, Target};
 
 const STAMP: Stamp = Stamp {
@@ -72,7 +72,8 @@ fn execute(
     pipeline: &mut Pipeline,
     reply: &[u8],
 ) -> Result<u64, AllocError> {
-    let mut state = client.execute_raw(Target::Statement(statement), &[]);
+    let none: &[Value] = &[];
+    let mut state = client.execute_raw(Target::Statement(statement), none);
     match state.poll(alloc, pipeline, STAMP) {
         Poll::Ready(_answer) => Ok(0),
         Poll::Pending => {

@@ -1,54 +1,71 @@
 //! Calls that are given up before they answer.
 
-use crate::answers::{Told, tell_answer, tell_error};
-use crate::case::{Case, Given};
-use crate::session::Session;
-use futures::task::Poll;
-use std::alloc::{AllocError, Global};
-use tokio_postgres::{Client, Polled, Stamp, Target};
+use crate::asked::{Asked, Left};
+use pg_asking::{Told, ask};
+use std::alloc::AllocGlobal;
+use std::random::RandomSource;
+use std::sync::Wait;
+use tokio_postgres::{Link, Polled, Stamp, Target};
 
-/// Polls a state so often, with the connection in between, and gives it up.
-fn give_up<T: Told, S: Polled<Output = T> + Drop>(
-    alloc: Global,
-    state: S,
-    polls: u64,
-    session: &mut Session,
-    out: &mut String,
-) -> Result<(), AllocError>
+/// Polls a state so often as the case says, and gives it up.
+fn give_up<
+    R: Wait + RandomSource + AllocGlobal,
+    L: Link + Drop,
+    T: Told,
+    S: Polled<Output = T> + Drop,
+>(asked: Asked<'_, '_, R, L>, state: S, out: &mut String) -> Left<L>
     requires { S.is_live state }
 {
-    let mut state = state;
-    'polls: for _ in 0..polls {
-        match state.poll(alloc, &mut session.hub, Stamp::new(0, 0, 0)) {
-            Poll::Ready(answer) => return tell_answer(alloc, answer, out),
-            Poll::Pending => match session.step(alloc) {
-                Ok(()) => {}
-                Err(error) => return tell_error(&error, out),
-            },
-        }
-    }
-    out.push_str(" given up")?;
-    let left = state.hang_up(alloc, &mut session.hub, Stamp::new(0, 0, 0));
-    tell_answer(alloc, left, out)
+    let mut line = asked.line;
+    let polls = asked.case.setting.polls;
+    ask(
+        asked.rt.alloc(),
+        state,
+        polls,
+        Stamp::new(0, 0, 0),
+        &mut line,
+        out,
+    )?;
+    Ok(line)
+}
+
+/// A simple query.
+fn simple_query<R: Wait + RandomSource + AllocGlobal, L: Link + Drop>(
+    asked: Asked<'_, '_, R, L>,
+    out: &mut String,
+) -> Left<L> {
+    let state = asked.client.simple_query(asked.text());
+    give_up(asked, state, out)
+}
+
+/// A statement is prepared.
+fn prepare<R: Wait + RandomSource + AllocGlobal, L: Link + Drop>(
+    asked: Asked<'_, '_, R, L>,
+    out: &mut String,
+) -> Left<L> {
+    let state = asked.client.prepare(asked.text());
+    give_up(asked, state, out)
+}
+
+/// Rows.
+fn query<R: Wait + RandomSource + AllocGlobal, L: Link + Drop>(
+    target: Target<'_>,
+    asked: Asked<'_, '_, R, L>,
+    out: &mut String,
+) -> Left<L> {
+    let state = asked.client.query(target, asked.values());
+    give_up(asked, state, out)
 }
 
 /// Begins a call, by its name, polls it so often as its case says, and gives it up.
-pub(crate) fn tell(
-    alloc: Global,
-    client: &Client,
-    case: &Case<'_>,
+pub(crate) fn by_name<R: Wait + RandomSource + AllocGlobal, L: Link + Drop>(
     target: Target<'_>,
-    given: &Given,
-    session: &mut Session,
+    asked: Asked<'_, '_, R, L>,
     out: &mut String,
-) -> Result<(), AllocError> {
-    let (text, polls) = (case.text, case.setting.polls);
-    match case.call {
-        "simple_query" => give_up(alloc, client.simple_query(text), polls, session, out),
-        "prepare" => give_up(alloc, client.prepare(text), polls, session, out),
-        _ => {
-            let query = client.query(target, given.values.as_slice());
-            give_up(alloc, query, polls, session, out)
-        }
+) -> Left<L> {
+    match asked.case.call {
+        "simple_query" => simple_query(asked, out),
+        "prepare" => prepare(asked, out),
+        _ => query(target, asked, out),
     }
 }

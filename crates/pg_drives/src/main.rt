@@ -2,15 +2,17 @@
 //! prints beside it what the call answered and which frames the server got.
 #![tactic(auto)]
 
-mod answers;
+mod asked;
 mod calls;
 mod case;
 mod executions;
 mod given_up;
-mod opened;
 mod others;
+mod plain;
 mod session;
 mod streams;
+mod targets;
+mod typed;
 
 use std::alloc::{AllocError, AllocGlobal};
 use std::io;

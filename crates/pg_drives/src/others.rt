@@ -2,16 +2,17 @@
 
 ghost use Rattle.tokio_postgres.specs.Cancelling.{IsStillOpen};
 
-use crate::answers::{Told, tell_answer};
-use crate::session::{Session, ask};
+use crate::asked::{Asked, Left};
+use crate::plain;
 use futures::task::Poll;
+use pg_asking::{Told, tell_answer, tell_running};
 use pg_cases::written;
 use std::alloc::{AllocError, AllocGlobal, Global};
 use std::random::RandomSource;
 use std::sync::Wait;
 use tokio_postgres::{
-    CancelQuery, CancelStage, CancelToken, Client, Engine, MaybeTls, MemoryLink, NoTls, Polled,
-    Running, Stamp,
+    CancelQuery, CancelStage, CancelToken, Client, Engine, Hub, Line, Link, MaybeTls, MemoryLink,
+    NoTls, Polled, Running, Stamp,
 };
 
 /// What a link took that something was cancelled over.
@@ -49,39 +50,32 @@ pub(crate) fn tell_cancel(
 }
 
 /// Whether the connection is closed, before and behind its closing.
-pub(crate) fn tell_closed(
+pub(crate) fn tell_closed<L: Link>(
     client: &Client,
-    session: &mut Session,
+    line: &mut Line<L, Hub>,
     out: &mut String,
 ) -> Result<(), AllocError> {
-    write!(out, " {}", client.is_closed(&session.hub))?;
-    let _ = session.hub.close_requests();
-    write!(out, " {}", client.is_closed(&session.hub))
+    write!(out, " {}", client.is_closed(&line.hub))?;
+    let _ = line.hub.close_requests();
+    write!(out, " {}", client.is_closed(&line.hub))
 }
 
 /// Prepares a text, before and behind a clearing of the types that are kept.
-pub(crate) fn tell_clearing<R: Wait + RandomSource + AllocGlobal>(
-    rt: &R,
-    client: &Client,
-    text: &str,
-    session: Session,
+pub(crate) fn tell_clearing<R: Wait + RandomSource + AllocGlobal, L: Link + Drop>(
+    asked: Asked<'_, '_, R, L>,
     out: &mut String,
-) -> Result<Session, AllocError> {
-    let mut session = ask(rt, client.prepare(text), Stamp::new(0, 0, 0), session, out)?;
-    tell_answer(rt.alloc(), client.clear_type_cache(&mut session.hub), out)?;
-    ask(rt, client.prepare(text), Stamp::new(0, 0, 0), session, out)
-}
-
-/// The answer of a task.
-fn tell_task<T: Told, S: Drop>(
-    alloc: Global,
-    task: Running<S, T>,
-    out: &mut String,
-) -> Result<(), AllocError> {
-    match task {
-        Running::Answered(answer) => tell_answer(alloc, answer, out),
-        Running::Polled(_, _) => out.push_str(" waits"),
-    }
+) -> Left<L> {
+    let (rt, client, case, given) = (asked.rt, asked.client, asked.case, asked.given);
+    let mut line = plain::prepare(asked, out)?;
+    tell_answer(rt.alloc(), client.clear_type_cache(&mut line.hub), out)?;
+    let again = Asked {
+        rt,
+        client,
+        case,
+        given,
+        line,
+    };
+    plain::prepare(again, out)
 }
 
 /// The answers of tasks, one beside another.
@@ -95,19 +89,19 @@ fn tell_tasks<T: Told, S: Drop>(
         if !is_first {
             out.push_str(" beside")?;
         }
-        tell_task(alloc, task, out)?;
+        tell_running(alloc, task, out)?;
         is_first = false;
     }
     Ok(())
 }
 
 /// Polls the states of two clients in turns with the connection, until both have answered. The stamp is the second one's.
-pub(crate) fn run_both<R: Wait + AllocGlobal, T: Told, S: Polled<Output = T> + Drop>(
+pub(crate) fn run_both<R: Wait + AllocGlobal, L: Link, T: Told, S: Polled<Output = T> + Drop>(
     rt: &R,
     first: S,
     second: S,
     stamp: Stamp,
-    session: &mut Session,
+    line: &mut Line<L, Hub>,
     out: &mut String,
 ) -> Result<(), AllocError>
     requires first { S.is_live first }
@@ -116,7 +110,7 @@ pub(crate) fn run_both<R: Wait + AllocGlobal, T: Told, S: Polled<Output = T> + D
     let mut tasks = Vec::new(rt.alloc());
     tasks.push(Running::Polled(first, Stamp::new(0, 0, 0)))?;
     tasks.push(Running::Polled(second, stamp))?;
-    let ran = session.run(rt, rt.alloc(), tasks.as_mut_slice());
+    let ran = line.run(rt, rt.alloc(), tasks.as_mut_slice());
     tell_tasks(rt.alloc(), tasks, out)?;
     tell_answer(rt.alloc(), ran, out)
 }

@@ -1,8 +1,8 @@
-//! A connection that is opened over a link in memory.
+//! Connections that are opened.
 
 use std::alloc::{AllocError, AllocGlobal, Global};
 use std::sync::Wait;
-use tokio_postgres::{Config, Error, MemoryLink, NoTls, Opened, connect_raw};
+use tokio_postgres::{Config, Error, Link, MemoryLink, NoTls, Opened, connect_raw};
 
 /// How many bytes the link gives or takes at once.
 const PIECE: usize = 8192;
@@ -20,16 +20,25 @@ fn link_of(alloc: Global, words: &[Vec<u8>], ends: bool) -> Result<MemoryLink, A
     Ok(MemoryLink::new(alloc, plan, PIECE, PIECE, ends))
 }
 
+/// Opens a connection over a link, by a connection string.
+pub fn open_over<R: Wait + AllocGlobal, L: Link + Drop>(
+    rt: &R,
+    config: &str,
+    link: L,
+) -> Result<Opened<L, NoTls>, Error> {
+    let alloc = rt.alloc();
+    let config = Config::from_str(alloc, config)?;
+    let nonce = b"abcdefghijklmnopqrstuvwx";
+    let mut raw = connect_raw(link, NoTls, false, &config, nonce, 1 << 40);
+    tokio_postgres::open(rt, alloc, &mut raw)
+}
+
 /// Opens a connection to a server that gives these words.
-pub(crate) fn open<R: Wait + AllocGlobal>(
+pub fn open<R: Wait + AllocGlobal>(
     rt: &R,
     words: &[Vec<u8>],
     ends: bool,
 ) -> Result<Opened<MemoryLink, NoTls>, Error> {
-    let alloc = rt.alloc();
-    let config = Config::from_str(alloc, "user=a")?;
-    let link = link_of(alloc, words, ends)?;
-    let nonce = b"abcdefghijklmnopqrstuvwx";
-    let mut raw = connect_raw(link, NoTls, false, &config, nonce, 1 << 20);
-    tokio_postgres::open(rt, alloc, &mut raw)
+    let link = link_of(rt.alloc(), words, ends)?;
+    open_over(rt, "user=a", link)
 }

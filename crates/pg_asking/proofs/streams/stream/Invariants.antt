@@ -1,4 +1,4 @@
-use Rattle.pg_drives.proofs.streams.stream.Given as goal
+use Rattle.pg_asking.proofs.streams.stream.Given as goal
 
 abbrev pub invariant-polls : goal.invariant-polls
 invariant-polls g l = g.O.Opens.is_live l.state

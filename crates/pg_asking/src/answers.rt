@@ -2,20 +2,20 @@
 
 use pg_cases::written;
 use std::alloc::{AllocError, Global};
-use tokio_postgres::types::{Blob, List, Text, Type, Value};
+use tokio_postgres::types::{List, Type, Value};
 use tokio_postgres::{
-    AsyncMessage, Column, Error, Row, RowIndex, SimpleColumn, SimpleMessage, SimpleQueryMessage,
+    AsyncMessage, Column, Error, Row, RowIndex, Running, SimpleColumn, SimpleQueryMessage,
     SimpleQueryRow, Statement,
 };
 
 /// What a call may answer.
-pub(crate) trait Told: Drop {
+pub trait Told: Drop {
     /// Tells it, in words.
     fn tell(self, alloc: Global, out: &mut String) -> Result<(), AllocError>;
 }
 
 /// An error, and what the server said in it.
-pub(crate) fn tell_error(error: &Error, out: &mut String) -> Result<(), AllocError> {
+pub fn tell_error(error: &Error, out: &mut String) -> Result<(), AllocError> {
     write!(out, " refused {error}")?;
     match error.as_db_error() {
         Some(said) => write!(out, " {said}"),
@@ -24,7 +24,7 @@ pub(crate) fn tell_error(error: &Error, out: &mut String) -> Result<(), AllocErr
 }
 
 /// An answer, or an error.
-pub(crate) fn tell_answer<T: Told>(
+pub fn tell_answer<T: Told>(
     alloc: Global,
     answer: Result<T, Error>,
     out: &mut String,
@@ -36,7 +36,7 @@ pub(crate) fn tell_answer<T: Told>(
 }
 
 /// A message that no request asked for.
-pub(crate) fn tell_aside(message: &AsyncMessage, out: &mut String) -> Result<(), AllocError> {
+pub fn tell_aside(message: &AsyncMessage, out: &mut String) -> Result<(), AllocError> {
     match message {
         AsyncMessage::Notice(notice) => write!(out, " notice {}", notice.get()),
         AsyncMessage::Notification(it) => {
@@ -51,61 +51,13 @@ pub(crate) fn tell_aside(message: &AsyncMessage, out: &mut String) -> Result<(),
     }
 }
 
-/// Names of columns.
-fn tell_names(names: &[Text], out: &mut String) -> Result<(), AllocError> {
-    out.push_str(" columns")?;
-    for name in names {
-        write!(out, " {:?}", name.as_str())?;
-    }
-    Ok(())
-}
-
 /// Columns, each with its type.
-pub(crate) fn tell_columns(columns: &[Column], out: &mut String) -> Result<(), AllocError> {
+pub fn tell_columns(columns: &[Column], out: &mut String) -> Result<(), AllocError> {
     out.push_str(" columns")?;
     for column in columns {
         write!(out, " {:?} {}", column.name(), column.type_().name())?;
     }
     Ok(())
-}
-
-/// A cell of a row of a simple query.
-fn tell_cell(cell: Option<&[u8]>, out: &mut String) -> Result<(), AllocError> {
-    match cell {
-        Some(cell) => written::tell(cell, out),
-        None => out.push_str(" null"),
-    }
-}
-
-/// A row of a simple query.
-fn tell_cells(cells: &[Option<Blob>], out: &mut String) -> Result<(), AllocError> {
-    out.push_str(" row")?;
-    for cell in cells {
-        match cell {
-            Some(cell) => tell_cell(Some(cell.as_slice()), out)?,
-            None => tell_cell(None, out)?,
-        }
-    }
-    Ok(())
-}
-
-/// A part of what a simple query answered.
-fn tell_message(message: &SimpleMessage, out: &mut String) -> Result<(), AllocError> {
-    match message {
-        SimpleMessage::Columns(names) => tell_names(names.as_slice(), out),
-        SimpleMessage::Row(cells) => tell_cells(cells.as_slice(), out),
-        SimpleMessage::Complete(n) => write!(out, " complete {n}"),
-    }
-}
-
-/// What a simple query answered, part by part.
-impl Told for List<SimpleMessage> {
-    fn tell(self, alloc: Global, out: &mut String) -> Result<(), AllocError> {
-        for message in self.as_slice() {
-            tell_message(message, out)?;
-        }
-        Ok(())
-    }
 }
 
 /// Types of parameters.
@@ -240,7 +192,7 @@ fn tell_text(text: Result<Option<&str>, Error>, out: &mut String) -> Result<(), 
     }
 }
 
-/// A row of a stream of a simple query.
+/// A row of a simple query.
 fn tell_simple_row(
     alloc: Global,
     row: &SimpleQueryRow,
@@ -253,15 +205,40 @@ fn tell_simple_row(
     Ok(())
 }
 
+/// A part of the reply to a simple query.
+fn tell_part(alloc: Global, part: &SimpleQueryMessage, out: &mut String) -> Result<(), AllocError> {
+    match part {
+        SimpleQueryMessage::Row(row) => tell_simple_row(alloc, row, out),
+        SimpleQueryMessage::CommandComplete(n) => write!(out, " complete {n}"),
+        SimpleQueryMessage::RowDescription(columns) => tell_simple_columns(columns.as_slice(), out),
+    }
+}
+
 /// A part of a stream of a simple query.
 impl Told for SimpleQueryMessage {
     fn tell(self, alloc: Global, out: &mut String) -> Result<(), AllocError> {
-        match &self {
-            SimpleQueryMessage::Row(row) => tell_simple_row(alloc, row, out),
-            SimpleQueryMessage::CommandComplete(n) => write!(out, " complete {n}"),
-            SimpleQueryMessage::RowDescription(columns) => {
-                tell_simple_columns(columns.as_slice(), out)
-            }
+        tell_part(alloc, &self, out)
+    }
+}
+
+/// What a simple query answered, part by part.
+impl Told for List<SimpleQueryMessage> {
+    fn tell(self, alloc: Global, out: &mut String) -> Result<(), AllocError> {
+        for part in self.as_slice() {
+            tell_part(alloc, part, out)?;
         }
+        Ok(())
+    }
+}
+
+/// The answer of a task.
+pub fn tell_running<T: Told, S: Drop>(
+    alloc: Global,
+    task: Running<S, T>,
+    out: &mut String,
+) -> Result<(), AllocError> {
+    match task {
+        Running::Answered(answer) => tell_answer(alloc, answer, out),
+        Running::Polled(_, _) => out.push_str(" waits"),
     }
 }

@@ -1,4 +1,4 @@
-use Rattle.pg_drives.proofs.given_up.give_up.Given as goal
+use Rattle.pg_asking.proofs.asking.ask_for.Given as goal
 
 abbrev pub invariant-polls : goal.invariant-polls
 invariant-polls g l = g.S.Polled.is_live l.state
